@@ -1,0 +1,87 @@
+-- The prefix code: a tree as a list of nodes, "a node before its children".
+use mathlib.Core.Bool.{Bool, true, false}
+use mathlib.Core.List.{List, [], _∷_, _++_, map}
+use mathlib.Core.Option.{Option, none, some}
+use Prim.Native.Nat.{ℕ, zero, suc, _+_, _-_, _*_, _/_, _%_}
+use lib.Dec.{eqb, leb}
+use lib.ListN.{length}
+use Rattle.model.specs.Base.{pick, only-if, then}
+use Rattle.model.specs.Literal.{Literal, pos, neg}
+use Rattle.model.specs.Forest.{Conn, and, or, root, Forest, nil, lit, node, size, first, after, _⊕_}
+
+-- A literal, or a connective with its number of children.
+pub data Node : Type 0 where
+  leaf : Literal → Node
+  head : Conn → ℕ → Node
+
+unfoldable pub encode : Forest → List Node
+encode nil = []
+encode (lit l f) = leaf l ∷ encode f
+encode (node c k f) = head c (size k) ∷ encode k ++ encode f
+
+-- Read from the right: a node takes the first trees of what is already there as its children.
+unfoldable pub push : Node → Forest → Forest
+push (leaf l) f = lit l f
+push (head c k) f = node c (first k f) (after k f)
+
+unfoldable pub decode : List Node → Forest
+decode [] = nil
+decode (x ∷ ns) = push x (decode ns)
+
+-- The number of trees that a list of nodes spells, or none where a node lacks children. A literal is one tree more; a node
+-- makes one tree of as many as it has children.
+unfoldable pub joined : Node → ℕ → Option ℕ
+joined (leaf l) t = some (suc t)
+joined (head c k) t = only-if (leb k t) (suc (t - k))
+
+unfoldable pub trees : List Node → Option ℕ
+trees [] = some zero
+trees (x ∷ ns) = then (trees ns) (joined x)
+
+unfoldable pub exactly-one : Option ℕ → Bool
+exactly-one none = false
+exactly-one (some t) = eqb t 1
+
+-- "A body is one tree."
+unfoldable pub one-tree : List Node → Bool
+one-tree ns = exactly-one (trees ns)
+
+-- Option marks in a list of nodes.
+unfoldable pub literals : List Node → ℕ
+literals [] = zero
+literals (leaf l ∷ ns) = suc (literals ns)
+literals (head c k ∷ ns) = literals ns
+
+-- "The weight is nodes plus marks (root counted)."
+unfoldable pub weight : List Node → ℕ
+weight ns = length ns + literals ns
+
+-- "A node is one number: kind × 4,096 + value."
+unfoldable pub kind : ℕ → ℕ
+kind x = x / 4096
+
+unfoldable pub value : ℕ → ℕ
+value x = x % 4096
+
+unfoldable pub number : ℕ → ℕ → ℕ
+number k v = k * 4096 + v
+
+-- "Kind 1 is an option, 2 the same option barred, 3 all-of and 4 any-of, 5 the root."
+unfoldable pub conn-kind : Conn → ℕ
+conn-kind and = 3
+conn-kind or = 4
+conn-kind root = 5
+
+unfoldable pub number-of : Node → ℕ
+number-of (leaf (pos v)) = number 1 v
+number-of (leaf (neg v)) = number 2 v
+number-of (head c k) = number (conn-kind c) k
+
+-- The node that a number of kind 1 to 5 is. (No other number is asked for.)
+unfoldable pub node-of : ℕ → Node
+node-of x =
+    pick (eqb (kind x) 1)
+    (leaf (pos (value x)))
+    (pick (eqb (kind x) 2)
+    (leaf (neg (value x)))
+    (pick (eqb (kind x) 3) (head and (value x)) (pick (eqb (kind x) 4) (head or (value x)) (head root (value x)))))

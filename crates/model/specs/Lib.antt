@@ -1,0 +1,14 @@
+pub mod Base
+pub mod Literal
+pub mod Forest
+pub mod Code
+pub mod Clauses
+pub mod Propagation
+pub mod Rules
+pub mod Strategy
+pub mod Limits
+pub mod Sheet
+pub mod Book
+pub mod Calls
+pub mod History
+pub mod Cases

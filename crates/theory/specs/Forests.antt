@@ -1,0 +1,146 @@
+-- Laws of forests side by side, and of their first trees and the rest; each for all connectives.
+use mathlib.Core.Bool.{Bool, true, false, _&&_, _||_}
+use mathlib.Core.List.{List, [], _∷_, _++_, append-assoc, append-nil}
+use mathlib.Core.Option.{Option, none, some}
+use mathlib.Core.Path.{_≡_, refl, sym, ap, _∙_}
+use Prim.Native.Nat.{ℕ, zero, suc, _+_, _≤_, _<_, _-_, min}
+use native.Mathlib.Nat.{zero-add, suc-add, add-zero}
+use native.Mathlib.Omega.{arith}
+use borrow.Author.Tests.{eqb-true}
+use Rattle.model.specs.Literal.{Literal, option, same}
+use Rattle.model.specs.Forest.{Conn, and, or, root, same-conn, Forest, nil, lit, node, constant, _⊕_, size, first, after, kids, literal-at, conjunction-at, constant-at, literals-only, has-unit, mentions}
+use Rattle.theory.specs.Logic.{true-false, none-some, some-inj, and-split}
+
+pub ⊕-nil : (f : Forest) → f ⊕ nil ≡ f
+unfolding _⊕_
+⊕-nil nil = refl
+⊕-nil (lit l f) = ap (lit l) (⊕-nil f)
+⊕-nil (node c k f) = ap (node c k) (⊕-nil f)
+
+pub ⊕-assoc : (f g h : Forest) → (f ⊕ g) ⊕ h ≡ f ⊕ (g ⊕ h)
+unfolding _⊕_
+⊕-assoc nil g h = refl
+⊕-assoc (lit l f) g h = ap (lit l) (⊕-assoc f g h)
+⊕-assoc (node c k f) g h = ap (node c k) (⊕-assoc f g h)
+
+-- The clauses of `_⊕_`, to rewrite by.
+pub nil-⊕ : (g : Forest) → nil ⊕ g ≡ g
+unfolding _⊕_
+nil-⊕ g = refl
+
+pub lit-⊕ : (l : Literal) (f g : Forest) → lit l f ⊕ g ≡ lit l (f ⊕ g)
+unfolding _⊕_
+lit-⊕ l f g = refl
+
+pub node-⊕ : (c : Conn) (k f g : Forest) → node c k f ⊕ g ≡ node c k (f ⊕ g)
+unfolding _⊕_
+node-⊕ c k f g = refl
+
+pub size-⊕ : (f g : Forest) → size (f ⊕ g) ≡ size f + size g
+unfolding _⊕_ size
+size-⊕ nil g = sym (zero-add (size g))
+size-⊕ (lit l f) g = ap suc (size-⊕ f g) ∙ sym (suc-add (size f) (size g))
+size-⊕ (node c k f) g = ap suc (size-⊕ f g) ∙ sym (suc-add (size f) (size g))
+
+pub first-after : (i : ℕ) (f : Forest) → first i f ⊕ after i f ≡ f
+unfolding _⊕_ first after
+first-after zero f = refl
+first-after (suc i) nil = refl
+first-after (suc i) (lit l f) = ap (lit l) (first-after i f)
+first-after (suc i) (node c k f) = ap (node c k) (first-after i f)
+
+-- A forest cut after as many trees as its first part has.
+pub first-⊕ : (f g : Forest) → first (size f) (f ⊕ g) ≡ f
+unfolding _⊕_ first size
+first-⊕ nil g = refl
+first-⊕ (lit l f) g = ap (lit l) (first-⊕ f g)
+first-⊕ (node c k f) g = ap (node c k) (first-⊕ f g)
+
+pub after-⊕ : (f g : Forest) → after (size f) (f ⊕ g) ≡ g
+unfolding _⊕_ after size
+after-⊕ nil g = refl
+after-⊕ (lit l f) g = after-⊕ f g
+after-⊕ (node c k f) g = after-⊕ f g
+
+pub size-first : (i : ℕ) (f : Forest) → i ≤ size f → size (first i f) ≡ i
+unfolding first size
+size-first zero f h = refl
+size-first (suc i) nil h = omega arith
+size-first (suc i) (lit l f) h = ap suc (size-first i f (omega arith))
+size-first (suc i) (node c k f) h = ap suc (size-first i f (omega arith))
+
+pub size-after : (i : ℕ) (f : Forest) → size (after i f) ≡ size f - i
+unfolding after size
+size-after zero f = omega arith
+size-after (suc i) nil = omega arith
+size-after (suc i) (lit l f) = let h = size-after i f in omega arith
+size-after (suc i) (node c k f) = let h = size-after i f in omega arith
+
+-- The tree that stands at index i of a forest, read off what is left from there.
+pub after-suc : (i : ℕ) (f : Forest) → after (suc i) f ≡ after 1 (after i f)
+unfolding after
+after-suc zero f = refl
+after-suc (suc i) nil = refl
+after-suc (suc i) (lit l f) = after-suc i f
+after-suc (suc i) (node c k f) = after-suc i f
+
+pub literal-here : (i : ℕ) (f : Forest) {l : Literal} → literal-at (after i f) ≡ some l → after i f ≡ lit l (after (suc i) f)
+unfolding literal-at after
+literal-here i f {l} e = go (after i f) e ∙ ap (lit l) (sym (after-suc i f))
+  where
+    go : (g : Forest) → literal-at g ≡ some l → g ≡ lit l (after 1 g)
+    go nil h = none-some h
+    go (lit x g) h = ap (λ y. lit y g) (some-inj h)
+    go (node c k g) h = none-some h
+
+pub conjunction-here : (i : ℕ) (f : Forest) {k : Forest} → conjunction-at (after i f) ≡ some k → after i f ≡ node and k (after (suc i) f)
+unfolding conjunction-at after
+conjunction-here i f {k} e = go (after i f) e ∙ ap (node and k) (sym (after-suc i f))
+  where
+    go : (g : Forest) → conjunction-at g ≡ some k → g ≡ node and k (after 1 g)
+    go nil h = none-some h
+    go (lit x g) h = none-some h
+    go (node and m g) h = ap (λ y. node and y g) (some-inj h)
+    go (node or m g) h = none-some h
+    go (node root m g) h = none-some h
+
+pub same-conn-is : (c d : Conn) → same-conn c d ≡ true → c ≡ d
+unfolding same-conn
+same-conn-is and and e = refl
+same-conn-is and or e = true-false (sym e)
+same-conn-is and root e = true-false (sym e)
+same-conn-is or and e = true-false (sym e)
+same-conn-is or or e = refl
+same-conn-is or root e = true-false (sym e)
+same-conn-is root and e = true-false (sym e)
+same-conn-is root or e = true-false (sym e)
+same-conn-is root root e = refl
+
+pub same-conn-self : (c : Conn) → same-conn c c ≡ true
+unfolding same-conn
+same-conn-self and = refl
+same-conn-self or = refl
+same-conn-self root = refl
+
+pub size-zero : (f : Forest) → size f ≡ 0 → f ≡ nil
+unfolding size
+size-zero nil e = refl
+size-zero (lit l f) e = absurd (omega arith)
+size-zero (node c k f) e = absurd (omega arith)
+
+pub constant-here : (c : Conn) (i : ℕ) (f : Forest) → constant-at c (after i f) ≡ true → after i f ≡ node c nil (after (suc i) f)
+unfolding constant-at after
+constant-here c i f e = go (after i f) e ∙ ap (node c nil) (sym (after-suc i f))
+  where
+    go : (g : Forest) → constant-at c g ≡ true → g ≡ node c nil (after 1 g)
+    go nil h = true-false (sym h)
+    go (lit x g) h = true-false (sym h)
+    go (node d k g) h =
+        let s = and-split (same-conn c d) _ h in
+        let p : d ≡ c = sym (same-conn-is c d (s .0)) in
+        let q : k ≡ nil = size-zero k (eqb-true (size k) 0 (s .1)) in
+        cc
+
+-- A forest with the tree at index i taken out of the middle.
+pub cut-at : (i : ℕ) (f g : Forest) → after i f ≡ g → first i f ⊕ g ≡ f
+cut-at i f g e = ap (λ h. first i f ⊕ h) (sym e) ∙ first-after i f

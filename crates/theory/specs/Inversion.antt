@@ -1,0 +1,154 @@
+-- From the executable rules to the relation `Change`: what an accepted rule, and an accepted step, did.
+use mathlib.Core.Bool.{Bool, true, false, _&&_, _||_, not, or-assoc}
+use mathlib.Core.List.{List, [], _∷_, _++_, List·Memᴰ, List·Memᴰ·head, List·Memᴰ·tail}
+use mathlib.Core.Option.{Option, none, some}
+use mathlib.Core.Path.{_≡_, refl, sym, ap, _∙_}
+use Prim.Native.Nat.{ℕ, zero, suc, _≤_}
+use native.Mathlib.Omega.{arith}
+use borrow.Author.Tests.{leb-true, eqb-true}
+use lib.Dec.{leb, eqb}
+use lib.ListN.{take, drop, getElem?}
+use Rattle.model.specs.Base.{all, only-if, then}
+use Rattle.model.specs.Literal.{Literal, option}
+use Rattle.model.specs.Forest.{Conn, and, or, root, same-conn, Forest, nil, lit, node, constant, _⊕_, size, first, after, literal-at, conjunction-at, constant-at, literals-only, has-unit, mentions}
+use Rattle.model.specs.Code.{Node, encode, decode}
+use Rattle.model.specs.Rules.{neutral, deciding, assigned, shares, units, groups-without, groups, absorb, omit, unwrap, spread, lift, merge, factor, Family, absorbs, omits, unwraps, spreads, lifts, merges, factors, change, Row, table, row-of, turn, rewrite, step}
+use Rattle.theory.specs.Logic.{true-false, none-some, some-inj, and-split, not-is, only-some, then-some, all-at}
+use Rattle.theory.specs.Forests.{literal-here, conjunction-here, constant-here, cut-at, same-conn-is, same-conn-self}
+use Rattle.theory.specs.Changes.{Change, absorbed, omitted, unwrapped, spreaded, lifted, merged, factored}
+
+-- General laws.
+
+-- What a list has at an index is one of its members.
+pub getElem?-mem : {A : Type 0} (xs : List A) (i : ℕ) {x : A} → getElem? xs i ≡ some x → List·Memᴰ x xs
+getElem?-mem [] i e = none-some e
+getElem?-mem (y ∷ ys) zero e = List·Memᴰ·head (sym (some-inj e))
+getElem?-mem (y ∷ ys) (suc i) e = List·Memᴰ·tail (getElem?-mem ys i e)
+
+pub mentions-⊕ : (v : ℕ) (f g : Forest) → mentions v (f ⊕ g) ≡ (mentions v f || mentions v g)
+unfolding mentions _⊕_
+mentions-⊕ v nil g = refl
+mentions-⊕ v (lit x f) g =
+    rw (mentions-⊕ v f g) (sym (or-assoc (eqb v (option x)) (mentions v f) (mentions v g)))
+mentions-⊕ v (node c k f) g =
+    rw (mentions-⊕ v f g) (sym (or-assoc (mentions v k) (mentions v f) (mentions v g)))
+
+pub not-conn : {c d : Conn} → not (same-conn c d) ≡ true → c ≡ d → ⊥
+not-conn {c} {d} e q = true-false (sym (same-conn-self c) ∙ ap (same-conn c) q ∙ not-is (same-conn c d) e)
+
+-- The row of a rule is one of the table's.
+pub of-table : (r : ℕ) {w : Row} → row-of r ≡ some w → List·Memᴰ w table
+unfolding row-of
+of-table zero e = none-some e
+of-table (suc r) e = getElem?-mem table r e
+
+-- Which connectives and which fewest children a family of rules is for.
+fits : Conn → ℕ → Family → Bool
+fits c n absorbs = leb 2 n
+fits c n omits = true
+fits c n unwraps = not (same-conn c root)
+fits c n spreads = not (same-conn c and)
+fits c n lifts = not (same-conn c or)
+fits c n merges = same-conn c and
+fits c n factors = same-conn c or
+
+rows-fit : all (λ w. fits (w .conn) (w .fewest) (w .family)) table ≡ true
+unfolding all table fits same-conn
+rows-fit = refl
+
+-- A family of rules, where it fits, does a change.
+family-change : (x : Family) (c : Conn) (n i j : ℕ) (k : Forest) {g : Forest} → fits c n x ≡ true → n ≤ size k → change x c i j k ≡ some g → Change c k g
+unfolding fits change absorb omit unwrap spread lift merge factor
+family-change absorbs c n i j k t m e =
+    let o = only-some _ _ e in
+    let here = constant-here (deciding c) i k (and-split (eqb j 0) _ (o .0) .1) in
+    absorbed (first i k) (after (suc i) k) (sym (cut-at i k _ here)) (omega (arith, leb-true 2 n t)) (sym (o .1))
+family-change omits c n i j k t m e =
+    let o = only-some _ _ e in
+    let here = constant-here (neutral c) i k (and-split (eqb j 0) _ (o .0) .1) in
+    omitted (first i k) (after (suc i) k) (sym (cut-at i k _ here)) (sym (o .1))
+family-change unwraps c n i j k t m e =
+    let o = only-some _ k e in
+    unwrapped (not-conn t) (eqb-true (size k) 1 (and-split (eqb i 0 && eqb j 0) _ (o .0) .1)) (sym (o .1))
+family-change spreads c n i j k t m e =
+    let w = then-some (literal-at (after i k)) _ e in
+    let o = only-some _ _ (w .2) in
+    let here = literal-here i k (w .1) in
+    let inside = mentions-⊕ (option (w .0)) (first i k) (after (suc i) k) ∙ and-split (eqb j 0) _ (o .0) .1 in
+    spreaded (first i k) (after (suc i) k) (w .0) (not-conn t) (sym (cut-at i k _ here)) inside (sym (o .1))
+family-change lifts c n i j k t m e =
+    let w = then-some (conjunction-at (after i k)) _ e in
+    let inner = w .0 in
+    let v = then-some (literal-at (after j inner)) _ (w .2) in
+    let here = conjunction-here i k (w .1) ∙ ap (λ h. node and h (after (suc i) k)) (sym (cut-at j inner _ (literal-here j inner (v .1)))) in
+    lifted (first i k) (first j inner) (after (suc j) inner) (after (suc i) k) (v .0) (not-conn t) (sym (cut-at i k _ here)) (sym (some-inj (v .2)))
+family-change merges c n i j k t m e =
+    let w = then-some (conjunction-at (after i k)) _ e in
+    let o = only-some _ _ (w .2) in
+    let here = conjunction-here i k (w .1) in
+    merged (first i k) (w .0) (after (suc i) k) (same-conn-is c and t) (sym (cut-at i k _ here)) (sym (o .1))
+family-change factors c n i j k t m e =
+    let w = then-some (conjunction-at (after i k)) _ e in
+    let v = then-some (literal-at (after j (w .0))) _ (w .2) in
+    let a = v .0 in
+    let o = only-some _ _ (v .2) in
+    let least = literals-only (first i k) && not (has-unit a (first j (w .0))) in
+    let two = and-split (least && shares a k) (leb 2 (groups k)) (o .0) in
+    let shared = and-split least (shares a k) (two .0) .1 in
+    factored a (same-conn-is c or t) shared (leb-true 2 (groups k) (two .1)) (sym (o .1))
+
+-- A row of the table, applied to a node with its children, does a change.
+pub changed : {w : Row} → List·Memᴰ w table → (c : Conn) (i j : ℕ) (k : Forest) {g : Forest} → turn w c i j k ≡ some g → Change c k g
+unfolding turn
+changed {w} m c i j k {g} e =
+    let t = then-some (only-if (same-conn (w .conn) c && leb (w .fewest) (size k)) k) _ e in
+    let o = only-some _ k (t .1) in
+    let s = and-split (same-conn (w .conn) c) _ (o .0) in
+    let fit = all-at (λ v. fits (v .conn) (v .fewest) (v .family)) table rows-fit m in
+    family-change (w .family) c (w .fewest) i j k
+    (rw (same-conn-is (w .conn) c (s .0)) at fit)
+    (leb-true (w .fewest) (size k) (s .1))
+    (rw (o .1) (t .2))
+
+-- What a rule did to a forest: its first tree changed, the trees after it stayed.
+pub record Rewritten (f g : Forest) : Type 0 where
+  pub conn : Conn
+  pub children : Forest
+  pub rest : Forest
+  pub new : Forest
+  pub was : f ≡ node conn children rest
+  pub became : g ≡ new ⊕ rest
+  pub done : Change conn children new
+
+pub rewritten : (r i j : ℕ) (f : Forest) {g : Forest} → rewrite r i j f ≡ some g → Rewritten f g
+unfolding rewrite
+rewritten r i j nil e = none-some e
+rewritten r i j (lit l f) e = none-some e
+rewritten r i j (node c k f) e =
+    let w = then-some (row-of r) _ e in
+    let t = then-some (turn (w .0) c i j k) _ (w .2) in
+    record {
+      conn = c;
+      children = k;
+      rest = f;
+      new = t .0;
+      was = refl;
+      became = sym (some-inj (t .2));
+      done = changed (of-table r (w .1)) c i j k (t .1);
+    }
+
+-- What a step did to a list of nodes: those before the place stayed, and the forest from the place on was rewritten.
+pub record Stepped (place : ℕ) (ns ms : List Node) : Type 0 where
+  pub result : Forest
+  pub rewriting : Rewritten (decode (drop place ns)) result
+  pub nodes : ms ≡ take place ns ++ encode result
+
+pub stepped : (r place i j : ℕ) (ns : List Node) {ms : List Node} → step r place i j ns ≡ some ms → Stepped place ns ms
+unfolding step
+stepped r place i j ns e =
+    let w = then-some (rewrite r i j (decode (drop place ns))) _ e in
+    record {
+      result = w .0;
+      rewriting = rewritten r i j (decode (drop place ns)) (w .1);
+      nodes = sym (some-inj (w .2));
+    }
