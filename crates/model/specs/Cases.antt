@@ -21,7 +21,7 @@ use Rattle.model.specs.Forest.{Forest, nil, lit, node, and, or, root}
 use Rattle.model.specs.Code.{Node, encode, decode, number-of}
 use Rattle.model.specs.Clauses.{clauses}
 use Rattle.model.specs.Propagation.{Report, report}
-use Rattle.model.specs.Strategy.{next, contract, run}
+use Rattle.model.specs.Strategy.{Redex, next, contract, run}
 use Rattle.model.specs.Sheet.{chosen}
 use Rattle.model.specs.Calls.{Outcome, accepted, loadOf}
 
@@ -31,19 +31,20 @@ pub record Case : Type 0 where
   pub rules : Forest
   pub choices : List Literal
 
--- What is computed of it: the nodes of its sheet, its report, the rule numbers of the strategy's steps, whether they end and
--- the nodes that they leave.
+-- What is computed of it: the nodes of its sheet, its report, the rule numbers of the strategy's steps and their places, whether
+-- they end and the nodes that they leave.
 pub record Computed : Type 0 where
   pub nodes : List ℕ
   pub report : Report
   pub steps : List ℕ
+  pub places : List ℕ
   pub settled : Bool
   pub left : List ℕ
 
--- The rule numbers of the first steps, at most so many.
-unfoldable pub rules-done : ℕ → List Node → List ℕ
-rules-done zero ns = []
-rules-done (suc n) ns = maybe [] (λ x. x .rule ∷ maybe [] (rules-done n) (contract x ns)) (next ns)
+-- The strategy's first steps, at most so many.
+unfoldable pub redexes : ℕ → List Node → List Redex
+redexes zero ns = []
+redexes (suc n) ns = maybe [] (λ x. x ∷ maybe [] (redexes n) (contract x ns)) (next ns)
 
 unfoldable pub with-choices : List Literal → List Node → List Node
 with-choices [] ns = ns
@@ -55,7 +56,8 @@ compute c =
     record {
       nodes = map number-of ns;
       report = report (c .options) (clauses root (decode ns));
-      steps = rules-done 20 ns;
+      steps = map (λ x. x .rule) (redexes 20 ns);
+      places = map (λ x. x .place) (redexes 20 ns);
       settled = run 20 ns .settled;
       left = map number-of (run 20 ns .nodes);
     }
@@ -138,8 +140,8 @@ told ms = record { contradictory = false; marks = ms }
 abbrev pub contradiction : ℕ → Report
 contradiction n = record { contradictory = true; marks = replicate n 3 }
 
-abbrev pub result : List ℕ → Report → List ℕ → List ℕ → Computed
-result ns r ss left = record { nodes = ns; report = r; steps = ss; settled = true; left = left }
+abbrev pub result : List ℕ → Report → List ℕ → List ℕ → List ℕ → Computed
+result ns r ss ps left = record { nodes = ns; report = r; steps = ss; places = ps; settled = true; left = left }
 
 -- The starred cases. Where document 01 gives the steps they are its steps: 9, 1, 7, 5, 8; 5, 8, 10, 1, 7, 3; 14, 7, 7, 8, 12, 7;
 -- none and one.
@@ -149,17 +151,17 @@ pub starred :
       first =
           record { answer = accepted tt; buffer = 2 ∷ 6 ∷ 20481 ∷ 16386 ∷ 4096 ∷ 12290 ∷ 4096 ∷ 4097 ∷ replicate 4090 0 };
       cases =
-          result (20481 ∷ 16386 ∷ 4096 ∷ 12290 ∷ 4096 ∷ 4097 ∷ []) (told (1 ∷ 0 ∷ [])) (9 ∷ 1 ∷ 7 ∷ 5 ∷ 8 ∷ []) (20481 ∷ 4096 ∷ [])
-          ∷ result (20482 ∷ 4096 ∷ 16386 ∷ 12290 ∷ 8192 ∷ 4097 ∷ 16384 ∷ []) (contradiction 2) (5 ∷ 8 ∷ 10 ∷ 1 ∷ 7 ∷ 3 ∷ []) (20481 ∷ 16384 ∷ [])
-          ∷ result (20481 ∷ 16386 ∷ 12290 ∷ 4096 ∷ 4097 ∷ 12290 ∷ 4096 ∷ 4098 ∷ []) (told (1 ∷ 0 ∷ 0 ∷ [])) (14 ∷ 7 ∷ 7 ∷ 8 ∷ 12 ∷ 7 ∷ []) (20482 ∷ 4096 ∷ 16386 ∷ 4097 ∷ 4098 ∷ [])
-          ∷ result (20484 ∷ 8192 ∷ 16386 ∷ 4096 ∷ 8193 ∷ 16386 ∷ 4096 ∷ 8194 ∷ 16386 ∷ 4097 ∷ 4098 ∷ []) (contradiction 3) (10 ∷ 5 ∷ 5 ∷ 8 ∷ 8 ∷ 10 ∷ 5 ∷ 8 ∷ 10 ∷ 3 ∷ []) (20481 ∷ 16384 ∷ [])
-          ∷ result (20482 ∷ 16386 ∷ 4096 ∷ 4097 ∷ 16386 ∷ 8192 ∷ 4097 ∷ []) (told (0 ∷ 0 ∷ [])) [] (20482 ∷ 16386 ∷ 4096 ∷ 4097 ∷ 16386 ∷ 8192 ∷ 4097 ∷ [])
-          ∷ result (20481 ∷ 16386 ∷ 12290 ∷ 4096 ∷ 8192 ∷ 4097 ∷ []) (told (0 ∷ 0 ∷ [])) [] (20481 ∷ 16386 ∷ 12290 ∷ 4096 ∷ 8192 ∷ 4097 ∷ [])
-          ∷ result (20482 ∷ 16386 ∷ 4096 ∷ 4097 ∷ 8193 ∷ []) (told (1 ∷ 2 ∷ [])) (10 ∷ 5 ∷ 8 ∷ []) (20482 ∷ 4096 ∷ 8193 ∷ [])
-          ∷ result (20481 ∷ 16384 ∷ []) (contradiction 0) [] (20481 ∷ 16384 ∷ [])
-          ∷ result (20481 ∷ 12288 ∷ []) (told ([])) (6 ∷ []) (20480 ∷ [])
+          result (20481 ∷ 16386 ∷ 4096 ∷ 12290 ∷ 4096 ∷ 4097 ∷ []) (told (1 ∷ 0 ∷ [])) (9 ∷ 1 ∷ 7 ∷ 5 ∷ 8 ∷ []) (1 ∷ 3 ∷ 3 ∷ 1 ∷ 1 ∷ []) (20481 ∷ 4096 ∷ [])
+          ∷ result (20482 ∷ 4096 ∷ 16386 ∷ 12290 ∷ 8192 ∷ 4097 ∷ 16384 ∷ []) (contradiction 2) (5 ∷ 8 ∷ 10 ∷ 1 ∷ 7 ∷ 3 ∷ []) (2 ∷ 2 ∷ 0 ∷ 2 ∷ 2 ∷ 0 ∷ []) (20481 ∷ 16384 ∷ [])
+          ∷ result (20481 ∷ 16386 ∷ 12290 ∷ 4096 ∷ 4097 ∷ 12290 ∷ 4096 ∷ 4098 ∷ []) (told (1 ∷ 0 ∷ 0 ∷ [])) (14 ∷ 7 ∷ 7 ∷ 8 ∷ 12 ∷ 7 ∷ []) (1 ∷ 5 ∷ 6 ∷ 1 ∷ 0 ∷ 2 ∷ []) (20482 ∷ 4096 ∷ 16386 ∷ 4097 ∷ 4098 ∷ [])
+          ∷ result (20484 ∷ 8192 ∷ 16386 ∷ 4096 ∷ 8193 ∷ 16386 ∷ 4096 ∷ 8194 ∷ 16386 ∷ 4097 ∷ 4098 ∷ []) (contradiction 3) (10 ∷ 5 ∷ 5 ∷ 8 ∷ 8 ∷ 10 ∷ 5 ∷ 8 ∷ 10 ∷ 3 ∷ []) (0 ∷ 2 ∷ 4 ∷ 2 ∷ 3 ∷ 0 ∷ 4 ∷ 4 ∷ 0 ∷ 0 ∷ []) (20481 ∷ 16384 ∷ [])
+          ∷ result (20482 ∷ 16386 ∷ 4096 ∷ 4097 ∷ 16386 ∷ 8192 ∷ 4097 ∷ []) (told (0 ∷ 0 ∷ [])) [] [] (20482 ∷ 16386 ∷ 4096 ∷ 4097 ∷ 16386 ∷ 8192 ∷ 4097 ∷ [])
+          ∷ result (20481 ∷ 16386 ∷ 12290 ∷ 4096 ∷ 8192 ∷ 4097 ∷ []) (told (0 ∷ 0 ∷ [])) [] [] (20481 ∷ 16386 ∷ 12290 ∷ 4096 ∷ 8192 ∷ 4097 ∷ [])
+          ∷ result (20482 ∷ 16386 ∷ 4096 ∷ 4097 ∷ 8193 ∷ []) (told (1 ∷ 2 ∷ [])) (10 ∷ 5 ∷ 8 ∷ []) (0 ∷ 1 ∷ 1 ∷ []) (20482 ∷ 4096 ∷ 8193 ∷ [])
+          ∷ result (20481 ∷ 16384 ∷ []) (contradiction 0) [] [] (20481 ∷ 16384 ∷ [])
+          ∷ result (20481 ∷ 12288 ∷ []) (told []) (6 ∷ []) (0 ∷ []) (20480 ∷ [])
           ∷ [];
       empty = record { answer = accepted tt; buffer = 0 ∷ 1 ∷ 20480 ∷ replicate 4095 0 };
     }
-unfolding Base.pick Base.only-if Base.first-of Base.is-some Base.all Base.any Base.least Base.maybe Base.then Base.same-list Literal.complement Literal.option Literal.same Literal.has Forest.same-conn Forest._⊕_ Forest.size Forest.first Forest.after Forest.kids Forest.literal-at Forest.conjunction-at Forest.constant-at Forest.literals-only Forest.has-unit Forest.mentions Code.encode Code.push Code.decode Code.joined Code.trees Code.exactly-one Code.one-tree Code.literals Code.weight Code.kind Code.value Code.number Code.conn-kind Code.number-of Code.node-of Clauses.unions Clauses.no-child Clauses.join Clauses.clauses Propagation.others Propagation.refuted Propagation.forced-in Propagation.forced Propagation.propagate Propagation.facts-of Propagation.conflict Propagation.mark Propagation.count-from Propagation.report-by Propagation.report Rules.neutral Rules.deciding Rules.assigned Rules.without-unit Rules.shares Rules.units Rules.groups-without Rules.groups Rules.absorb Rules.omit Rules.unwrap Rules.spread Rules.lift Rules.merge Rules.factor Rules.change Rules.table Rules.row-of Rules.turn Rules.rewrite Rules.step Strategy.least-j Strategy.least-i Strategy.least-place Strategy.next Strategy.contract Strategy.next-step Strategy.one-more Strategy.run Sheet.body-node Sheet.options-in Sheet.used-in Sheet.numbers-in Sheet.nodes-in Sheet.rest-in Sheet.rooted Sheet.is-sheet Sheet.sheet-of Sheet.clauses-in Sheet.with-child Sheet.chosen Book.word Book.words Book.bytes-of Book.options-of Book.rules-of Book.size-of Book.head-in-limits Book.codes-end Book.contents-end Book.length-due Book.pieces Book.codes-of Book.entries Book.contents-of Book.numbers-of Book.between Book.character Book.then-zeros Book.code-ok Book.same-code Book.codes-ok Book.in-line Book.cut Book.bodies-of Book.body-ok Book.book-nodes Calls.answer Calls.outcome Calls.book-refusal Calls.loadOf mathlib.Core.List.flatten starred-cases compute with-choices rules-done all-computed empty-book first-book
+unfolding Base.pick Base.only-if Base.first-of Base.is-some Base.all Base.any Base.least Base.maybe Base.then Base.same-list Literal.complement Literal.option Literal.same Literal.has Forest.same-conn Forest._⊕_ Forest.size Forest.first Forest.after Forest.kids Forest.literal-at Forest.conjunction-at Forest.constant-at Forest.literals-only Forest.has-unit Forest.mentions Code.encode Code.push Code.decode Code.joined Code.trees Code.exactly-one Code.one-tree Code.literals Code.weight Code.kind Code.value Code.number Code.conn-kind Code.number-of Code.node-of Clauses.unions Clauses.no-child Clauses.join Clauses.clauses Propagation.others Propagation.refuted Propagation.forced-in Propagation.forced Propagation.propagate Propagation.facts-of Propagation.conflict Propagation.mark Propagation.count-from Propagation.report-by Propagation.report Rules.neutral Rules.deciding Rules.assigned Rules.without-unit Rules.shares Rules.units Rules.groups-without Rules.groups Rules.absorb Rules.omit Rules.unwrap Rules.spread Rules.lift Rules.merge Rules.factor Rules.change Rules.table Rules.row-of Rules.turn Rules.rewrite Rules.step Strategy.least-j Strategy.least-i Strategy.least-place Strategy.next Strategy.contract Strategy.next-step Strategy.one-more Strategy.run Sheet.body-node Sheet.options-in Sheet.used-in Sheet.numbers-in Sheet.nodes-in Sheet.rest-in Sheet.rooted Sheet.is-sheet Sheet.sheet-of Sheet.clauses-in Sheet.with-child Sheet.chosen Book.word Book.words Book.bytes-of Book.options-of Book.rules-of Book.size-of Book.head-in-limits Book.codes-end Book.contents-end Book.length-due Book.pieces Book.codes-of Book.entries Book.contents-of Book.numbers-of Book.between Book.character Book.then-zeros Book.code-ok Book.same-code Book.codes-ok Book.in-line Book.cut Book.bodies-of Book.body-ok Book.book-nodes Calls.answer Calls.outcome Calls.book-refusal Calls.loadOf mathlib.Core.List.flatten starred-cases compute with-choices redexes all-computed empty-book first-book
 starred = refl
