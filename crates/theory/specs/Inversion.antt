@@ -1,18 +1,18 @@
 -- From the executable rules to the relation `Change`: what an accepted rule, and an accepted step, did.
-use mathlib.Core.Bool.{Bool, true, false, _&&_, _||_, not, or-assoc}
+use mathlib.Core.Bool.{Bool, true, _&&_, _||_, not, or-assoc}
 use mathlib.Core.List.{List, [], _∷_, _++_, List·Memᴰ, List·Memᴰ·head, List·Memᴰ·tail}
-use mathlib.Core.Option.{Option, none, some}
+use mathlib.Core.Option.{some}
 use mathlib.Core.Path.{_≡_, refl, sym, ap, _∙_}
 use Prim.Native.Nat.{ℕ, zero, suc, _≤_}
 use native.Mathlib.Omega.{arith}
 use borrow.Author.Tests.{leb-true, eqb-true}
 use lib.Dec.{leb, eqb}
 use lib.ListN.{take, drop, getElem?}
-use Rattle.model.specs.Base.{all, only-if, then}
-use Rattle.model.specs.Literal.{Literal, option}
-use Rattle.model.specs.Forest.{Conn, and, or, root, same-conn, Forest, nil, lit, node, constant, _⊕_, size, first, after, literal-at, conjunction-at, constant-at, literals-only, has-unit, mentions}
+use Rattle.model.specs.Base.{all, only-if}
+use Rattle.model.specs.Literal.{option}
+use Rattle.model.specs.Forest.{Conn, and, or, root, same-conn, Forest, nil, lit, node, _⊕_, size, first, after, literal-at, conjunction-at, literals-only, has-unit, mentions}
 use Rattle.model.specs.Code.{Node, encode, decode}
-use Rattle.model.specs.Rules.{neutral, deciding, assigned, shares, units, groups-without, groups, absorb, omit, unwrap, spread, lift, merge, factor, Family, absorbs, omits, unwraps, spreads, lifts, merges, factors, change, Row, table, row-of, turn, rewrite, step}
+use Rattle.model.specs.Rules.{neutral, deciding, shares, groups, absorb, omit, unwrap, spread, lift, merge, factor, Family, absorbs, omits, unwraps, spreads, lifts, merges, factors, change, Row, table, row-of, turn, rewrite, step}
 use Rattle.theory.specs.Logic.{true-false, none-some, some-inj, and-split, not-is, only-some, then-some, all-at}
 use Rattle.theory.specs.Forests.{literal-here, conjunction-here, constant-here, cut-at, same-conn-is, same-conn-self}
 use Rattle.theory.specs.Changes.{Change, absorbed, omitted, unwrapped, spreaded, lifted, merged, factored}

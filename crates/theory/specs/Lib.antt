@@ -5,3 +5,7 @@ pub mod Codes
 pub mod Evaluation
 pub mod Changes
 pub mod Inversion
+pub mod Least
+pub mod Bounds
+pub mod Strategy
+pub mod Runs

@@ -1,0 +1,127 @@
+-- Bounds of the numbers of a step: whatever applies is one of the fourteen rules, at a place and at children that are there.
+use mathlib.Core.Bool.{Bool, true, false, _&&_}
+use mathlib.Core.List.{List, [], _∷_, _++_}
+use mathlib.Core.Logic.{_↔_}
+use mathlib.Core.Option.{Option, none, some}
+use mathlib.Core.Path.{_≡_, refl, sym, ap, _∙_}
+use Prim.Native.Nat.{ℕ, zero, suc, _≤_, _<_}
+use native.Mathlib.Omega.{arith}
+use borrow.Author.Tests.{eqb-true}
+use lib.Dec.{eqb}
+use lib.ListN.{length, take, drop, getElem?}
+use Rattle.model.specs.Base.{only-if, then}
+use Rattle.model.specs.Literal.{Literal}
+use Rattle.model.specs.Forest.{Conn, Forest, nil, lit, node, size, first, after, kids, literal-at, conjunction-at, constant-at, literals-only}
+use Rattle.model.specs.Code.{Node, encode, decode}
+use Rattle.model.specs.Rules.{neutral, deciding, absorb, omit, unwrap, spread, lift, merge, factor, Family, absorbs, omits, unwraps, spreads, lifts, merges, factors, change, Row, table, row-of, turn, rewrite, step}
+use Rattle.theory.specs.Logic.{none-some, and-split, only-some, then-some}
+use Rattle.theory.specs.Forests.{size-after, literal-here, conjunction-here, constant-here}
+
+-- General laws.
+
+then-none : {A B : Type 0} (o : Option A) (h : A → B) → (then o (λ a. some (h a)) ≡ none) ↔ (o ≡ none)
+unfolding then
+then-none none h = ((λ e. refl), λ e. refl)
+then-none (some a) h = ((λ e. none-some (sym e)), λ e. none-some (sym e))
+
+only-then : {A B : Type 0} (b : Bool) (a : A) (f : A → Option B) {y : B} → then (only-if b a) f ≡ some y → (b ≡ true) × (f a ≡ some y)
+unfolding then only-if
+only-then true a f e = (refl, e)
+only-then false a f e = none-some e
+
+element-within : {A : Type 0} (l : List A) (i : ℕ) {a : A} → getElem? l i ≡ some a → i < length l
+element-within [] i e = none-some e
+element-within (x ∷ l) zero e = omega arith
+element-within (x ∷ l) (suc i) e = let h = element-within l i e in omega arith
+
+-- Bounds: what a rule applies to is there.
+
+-- Child i is there, and j is 0 or an inner child that is there.
+abbrev Inside : ℕ → ℕ → Forest → Type 0
+Inside i j k = (i < size k) × (j < suc (size (kids (after i k))))
+
+child-inside : (i : ℕ) (k : Forest) {n : ℕ} → size (after i k) ≡ suc n → i < size k
+child-inside i k e = omega (arith, size-after i k)
+
+zero-inside : (i j : ℕ) (k : Forest) {n : ℕ} → eqb j 0 ≡ true → size (after i k) ≡ suc n → Inside i j k
+zero-inside i j k t e = (child-inside i k e, omega (arith, eqb-true j 0 t))
+
+constant-inside : (c : Conn) (i j : ℕ) (k a : Forest) {g : Forest} → only-if (eqb j 0 && constant-at c (after i k)) a ≡ some g → Inside i j k
+unfolding size
+constant-inside c i j k a e =
+    let t = and-split (eqb j 0) (constant-at c (after i k)) (only-some _ a e .0) in
+    zero-inside i j k (t .0) (ap size (constant-here c i k (t .1)))
+
+inner-inside : (i j : ℕ) (k : Forest) (h : Forest → Literal → Option Forest) {g : Forest} → then (conjunction-at (after i k)) (λ inner. then (literal-at (after j inner)) (h inner)) ≡ some g → Inside i j k
+unfolding size kids
+inner-inside i j k h e =
+    let w = then-some (conjunction-at (after i k)) _ e in
+    let v = then-some (literal-at (after j (w .0))) _ (w .2) in
+    let outer = conjunction-here i k (w .1) in
+    let inner = child-inside j (w .0) (ap size (literal-here j (w .0) (v .1))) in
+    (child-inside i k (ap size outer), omega (arith, ap (λ f. size (kids f)) outer))
+
+change-inside : (w : Family) (c : Conn) (i j : ℕ) (k : Forest) {g : Forest} → change w c i j k ≡ some g → Inside i j k
+unfolding change absorb omit unwrap spread lift merge factor size
+change-inside absorbs c i j k e = constant-inside (deciding c) i j k _ e
+change-inside omits c i j k e = constant-inside (neutral c) i j k _ e
+change-inside unwraps c i j k e =
+    let t = and-split (eqb i 0 && eqb j 0) (eqb (size k) 1) (only-some _ k e .0) in
+    let s = and-split (eqb i 0) (eqb j 0) (t .0) in
+    let zero-i = eqb-true i 0 (s .0) in
+    zero-inside i j k {n = 0} (s .1) (size-after i k ∙ omega (arith, eqb-true (size k) 1 (t .1)))
+change-inside spreads c i j k e =
+    let w = then-some (literal-at (after i k)) _ e in
+    zero-inside i j k (and-split (eqb j 0) _ (only-some _ _ (w .2) .0) .0) (ap size (literal-here i k (w .1)))
+change-inside lifts c i j k e = inner-inside i j k _ e
+change-inside merges c i j k e =
+    let w = then-some (conjunction-at (after i k)) _ e in
+    let t = and-split (eqb j 0 && literals-only (first i k)) _ (only-some _ _ (w .2) .0) in
+    zero-inside i j k (and-split (eqb j 0) _ (t .0) .0) (ap size (conjunction-here i k (w .1)))
+change-inside factors c i j k e = inner-inside i j k _ e
+
+row-within : (r : ℕ) {w : Row} → row-of r ≡ some w → (1 ≤ r) × (r ≤ 14)
+unfolding row-of table
+row-within zero e = none-some e
+row-within (suc r) e = (omega arith, element-within table r e)
+
+-- A rule that applies is one of the fourteen, its child is there, and its inner child is 0 or there.
+pub record Within (r i j : ℕ) (f : Forest) : Type 0 where
+  pub rule-low : 1 ≤ r
+  pub rule-high : r ≤ 14
+  pub child : i < size (kids f)
+  pub inner : j < suc (size (kids (after i (kids f))))
+
+pub rewrite-within : (r i j : ℕ) (f : Forest) {g : Forest} → rewrite r i j f ≡ some g → Within r i j f
+unfolding rewrite turn kids
+rewrite-within r i j nil e = none-some e
+rewrite-within r i j (lit l f) e = none-some e
+rewrite-within r i j (node c k f) e =
+    let w = then-some (row-of r) _ e in
+    let v = then-some (turn (w .0) c i j k) _ (w .2) in
+    let rule = row-within r (w .1) in
+    let there = change-inside (w .0 .family) c i j k (only-then _ k _ (v .1) .1) in
+    record { rule-low = rule .0; rule-high = rule .1; child = there .0; inner = there .1 }
+
+-- A step, or that there is none, from the rule on the forest that stands at the place.
+pub step-some : (r p i j : ℕ) (ns : List Node) {f : Forest} → rewrite r i j (decode (drop p ns)) ≡ some f → step r p i j ns ≡ some (take p ns ++ encode f)
+unfolding step then
+step-some r p i j ns e = rw e
+
+pub step-none : (r p i j : ℕ) (ns : List Node) → (step r p i j ns ≡ none) ↔ (rewrite r i j (decode (drop p ns)) ≡ none)
+unfolding step
+step-none r p i j ns = then-none (rewrite r i j (decode (drop p ns))) (λ f. take p ns ++ encode f)
+
+place-within : (p : ℕ) (ns : List Node) {i : ℕ} → i < size (kids (decode (drop p ns))) → p < length ns
+unfolding size kids decode
+place-within zero [] h = absurd (omega arith)
+place-within (suc p) [] h = absurd (omega arith)
+place-within zero (x ∷ ns) h = omega arith
+place-within (suc p) (x ∷ ns) h = let l = place-within p ns h in omega arith
+
+-- The place of a step is one of the nodes, and what stands there bounds the other numbers.
+pub step-within : (r p i j : ℕ) (ns : List Node) {ms : List Node} → step r p i j ns ≡ some ms → (p < length ns) × Within r i j (decode (drop p ns))
+unfolding step
+step-within r p i j ns e =
+    let h = rewrite-within r i j (decode (drop p ns)) (then-some (rewrite r i j (decode (drop p ns))) _ e .1) in
+    (place-within p ns (h .child), h)
