@@ -1,11 +1,36 @@
+-- Laws of the combinators, literals and forests.
 pub mod Logic
 pub mod Literals
 pub mod Forests
+-- Codes of forests, and their numbers.
 pub mod Codes
+pub mod Numbers
+-- Meaning: propagation is exact; evaluation; valuations.
+pub mod Exact
+pub mod ExactReports
 pub mod Evaluation
+pub mod Totals
+pub mod Valuations
+-- The rules: as a relation; they keep the meaning and the form.
 pub mod Changes
 pub mod Inversion
+pub mod Values
+pub mod Families
+pub mod Rooted
+pub mod Soundness
+pub mod Fine
+pub mod Shape
+-- Where no rule applies.
+pub mod Calm
+pub mod Standing
+pub mod Still
+pub mod Failing
+pub mod Normal
+-- The strategy and runs.
 pub mod Least
 pub mod Bounds
 pub mod Strategy
 pub mod Runs
+-- Sheets.
+pub mod Sheets
+pub mod Choice

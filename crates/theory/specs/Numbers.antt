@@ -1,0 +1,137 @@
+-- Nodes as numbers: the two forms carry the same, for numbers of kind 1 to 5 and for nodes whose value is below 4,096.
+use mathlib.Core.Bool.{Bool, true, false, _&&_, _||_}
+use mathlib.Core.List.{List, [], _∷_, map}
+use mathlib.Core.Logic.{⊎-elim}
+use mathlib.Core.Path.{_≡_, refl, sym, ap, ap₂, _∙_}
+use Prim.Native.Nat.{ℕ, zero, suc, _≤_}
+use native.Mathlib.Nat.{div-add-mod', mod-lt}
+use native.Mathlib.Omega.{arith}
+use borrow.Author.Tests.{eqb-true, leb-true, le-leb, lt-ltb, ltb-true}
+use lib.Dec.{eqb, leb, ltb}
+use Rattle.model.specs.Base.{pick, all}
+use Rattle.model.specs.Literal.{pos, neg, option}
+use Rattle.model.specs.Forest.{and, or, root, same-conn}
+use Rattle.model.specs.Code.{Node, leaf, head, kind, value, number, conn-kind, number-of, node-of}
+use Rattle.model.specs.Sheet.{body-node}
+use Rattle.theory.specs.Logic.{and-split, and-join, or-split, all-at, all-from}
+use Rattle.theory.specs.Shape.{plain}
+
+-- General laws.
+
+-- A test that follows from another holds of all where the other does.
+pub all-weaken : {A : Type 0} (p q : A → Bool) → ((x : A) → p x ≡ true → q x ≡ true) → (xs : List A) → all p xs ≡ true → all q xs ≡ true
+all-weaken p q h xs e = all-from q xs (λ x m. h x (all-at p xs e m))
+
+module _ {A B : Type 0} (f : A → B) where
+  pub all-map : (p : B → Bool) (xs : List A) → all p (map f xs) ≡ all (λ x. p (f x)) xs
+  unfolding all
+  all-map p [] = refl
+  all-map p (x ∷ xs) = ap (λ b. p (f x) && b) (all-map p xs)
+
+  -- A map that is undone on every element is undone on the list.
+  pub map-back : (g : B → A) (p : A → Bool) → ((x : A) → p x ≡ true → g (f x) ≡ x) → (xs : List A) → all p xs ≡ true → map g (map f xs) ≡ xs
+  unfolding all
+  map-back g p h [] e = refl
+  map-back g p h (x ∷ xs) e = let s = and-split (p x) _ e in ap₂ _∷_ (h x (s .0)) (map-back g p h xs (s .1))
+
+-- What holds of both values holds of the one that a test picks.
+pub pick-keeps : {A : Type 0} (P : A → Type 0) (b : Bool) {x y : A} → P x → P y → P (pick b x y)
+unfolding pick
+pick-keeps P true h g = h
+pick-keeps P false h g = g
+
+-- The value of a node: its option, or its number of children.
+unfoldable pub amount : Node → ℕ
+amount (leaf l) = option l
+amount (head c k) = k
+
+-- The node has a number.
+unfoldable pub fits : Node → Bool
+fits y = ltb (amount y) 4096
+
+-- The number is one of a node.
+unfoldable pub known : ℕ → Bool
+known x = leb 1 (kind x) && leb (kind x) 5
+
+pub kind-number : (k v : ℕ) → ltb v 4096 ≡ true → kind (number k v) ≡ k
+unfolding kind number
+kind-number k v h = let small = ltb-true v 4096 h in omega arith
+
+pub value-number : (k v : ℕ) → ltb v 4096 ≡ true → value (number k v) ≡ v
+unfolding value number
+value-number k v h = let small = ltb-true v 4096 h in omega arith
+
+pub number-parts : (x : ℕ) → number (kind x) (value x) ≡ x
+unfolding kind value number
+number-parts x = div-add-mod' x 4096
+
+-- A node is the node of its number.
+pub node-number : (y : Node) → fits y ≡ true → node-of (number-of y) ≡ y
+unfolding node-of number-of conn-kind pick fits amount option
+node-number (leaf (pos v)) h = rw (kind-number, value-number)
+node-number (leaf (neg v)) h = rw (kind-number, value-number)
+node-number (head and k) h = rw (kind-number, value-number)
+node-number (head or k) h = rw (kind-number, value-number)
+node-number (head root k) h = rw (kind-number, value-number)
+
+-- Its number passes the test of bodies where the node may stand below the root.
+pub body-number : (n : ℕ) (y : Node) → fits y ≡ true → body-node n (number-of y) ≡ plain n y
+unfolding body-node number-of conn-kind pick fits amount option plain same-conn
+body-number n (leaf (pos v)) h = rw (kind-number, value-number)
+body-number n (leaf (neg v)) h = rw (kind-number, value-number)
+body-number n (head and k) h = rw kind-number
+body-number n (head or k) h = rw kind-number
+body-number n (head root k) h = rw kind-number
+
+-- A number is the number of its node.
+pub number-node : (x : ℕ) → known x ≡ true → number-of (node-of x) ≡ x
+unfolding known node-of number-of conn-kind pick
+number-node x h =
+    let s = and-split (leb 1 (kind x)) _ h in
+    go (kind x) refl (leb-true 1 (kind x) (s .0)) (leb-true (kind x) 5 (s .1))
+  where
+    parts : (k : ℕ) → kind x ≡ k → number k (value x) ≡ x
+    parts k e = ap (λ m. number m (value x)) (sym e) ∙ number-parts x
+
+    go : (k : ℕ) → kind x ≡ k → 1 ≤ k → k ≤ 5 → number-of (node-of x) ≡ x
+    go zero e l m = absurd (omega arith)
+    go (suc zero) e l m = rw e (parts 1 e)
+    go (suc (suc zero)) e l m = rw e (parts 2 e)
+    go (suc (suc (suc zero))) e l m = rw e (parts 3 e)
+    go (suc (suc (suc (suc zero)))) e l m = rw e (parts 4 e)
+    go (suc (suc (suc (suc (suc zero))))) e l m = rw e (parts 5 e)
+    go (suc (suc (suc (suc (suc (suc k)))))) e l m = absurd (omega arith)
+
+-- The value of a number is that of its node, so the node has a number.
+pub amount-node : (x : ℕ) → amount (node-of x) ≡ value x
+unfolding node-of amount option
+amount-node x = pick-keeps P _ refl (pick-keeps P _ refl (pick-keeps P _ refl (pick-keeps P _ refl refl)))
+  where
+    P : Node → Type 0
+    P y = amount y ≡ value x
+
+pub fits-node : (x : ℕ) → fits (node-of x) ≡ true
+unfolding fits value
+fits-node x = rw (amount-node x) (lt-ltb (value x) 4096 (mod-lt x (omega arith)))
+
+-- The test of bodies, on a number: it is one of a node, which may stand below the root.
+pub known-body : (n x : ℕ) → body-node n x ≡ true → known x ≡ true
+unfolding body-node known pick
+known-body n x h = go (eqb (kind x) 1 || eqb (kind x) 2) refl h
+  where
+    of-two : (a : ℕ) → (eqb (kind x) a || eqb (kind x) (suc a)) ≡ true → (a ≤ kind x) × (kind x ≤ suc a)
+    of-two a e =
+        ⊎-elim
+        (λ q. let i = eqb-true (kind x) a q in (omega arith, omega arith))
+        (λ q. let i = eqb-true (kind x) (suc a) q in (omega arith, omega arith))
+        (or-split (eqb (kind x) a) _ e)
+
+    within : 1 ≤ kind x → kind x ≤ 5 → known x ≡ true
+    within l m = and-join (le-leb 1 (kind x) l) (le-leb (kind x) 5 m)
+
+    go : (b : Bool) → (eqb (kind x) 1 || eqb (kind x) 2) ≡ b → pick b (ltb (value x) n) (eqb (kind x) 3 || eqb (kind x) 4) ≡ true → known x ≡ true
+    go true e t = let r = of-two 1 e in within (omega arith) (omega arith)
+    go false e t = let r = of-two 3 t in within (omega arith) (omega arith)
+
+pub plain-node : (n x : ℕ) → known x ≡ true → plain n (node-of x) ≡ body-node n x
+plain-node n x h = sym (body-number n (node-of x) (fits-node x)) ∙ ap (body-node n) (number-node x h)

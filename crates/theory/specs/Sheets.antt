@@ -1,0 +1,215 @@
+-- Sheets: what a list that is a sheet holds, and that the sheet of well-formed nodes is one.
+use mathlib.Core.Bool.{Bool, true, _&&_}
+use mathlib.Core.List.{List, [], _∷_, _++_, map, append-nil}
+use mathlib.Core.Option.{Option, none, some}
+use mathlib.Core.Path.{_≡_, refl, sym, ap, ap₂, _∙_}
+use Prim.Native.Nat.{ℕ, zero, suc, _-_, _≤_, _<_}
+use native.Mathlib.Omega.{arith}
+use borrow.Author.Tests.{eqb-true, eq-eqb, leb-true, le-leb, ltb-true, lt-ltb}
+use lib.Dec.{eqb, leb, ltb}
+use lib.ListN.{length, getD, drop, replicate, length-append, length-drop, length-map, length-replicate, take-append-drop}
+use lib.Seq.{length-take-le, take-at, drop-at, drop-cons}
+use Rattle.model.specs.Base.{pick, all}
+use Rattle.model.specs.Literal.{option}
+use Rattle.model.specs.Forest.{Conn, root, Forest, nil, lit, node, size}
+use Rattle.model.specs.Code.{Node, head, encode, decode, joined, trees, exactly-one, one-tree, weight, kind, value, number, node-of, number-of, conn-kind}
+use Rattle.model.specs.Limits.{sheet-length, sheet-room}
+use Rattle.model.specs.Sheet.{body-node, options-in, used-in, numbers-in, nodes-in, rest-in, rooted, is-sheet, sheet-of}
+use Rattle.theory.specs.Logic.{true-false, and-split, and-join, only-some, then-some, all-append, all-at, all-from}
+use Rattle.theory.specs.Codes.{decode-encode}
+use Rattle.theory.specs.Fine.{fine, fine-node}
+use Rattle.theory.specs.Shape.{plain, plain-encode, Shaped, shaped, shaped-trees}
+use Rattle.theory.specs.Numbers.{all-weaken, all-map, map-back, fits, amount, known, kind-number, node-number, number-node, known-body, plain-node, body-number}
+
+-- General laws.
+
+pub all-replicate : {A : Type 0} (p : A → Bool) (k : ℕ) (a : A) → p a ≡ true → all p (replicate k a) ≡ true
+unfolding all
+all-replicate p zero a h = refl
+all-replicate p (suc k) a h = and-join h (all-replicate p k a h)
+
+two-first : (xs : List ℕ) → 2 ≤ length xs → xs ≡ getD xs 0 0 ∷ getD xs 1 0 ∷ drop 2 xs
+two-first xs h = drop-cons xs 0 0 (omega arith) ∙ ap (λ r. getD xs 0 0 ∷ r) (drop-cons xs 1 0 (omega arith))
+
+-- A list of which every number is zero.
+pub all-zero : (xs : List ℕ) → all (eqb 0) xs ≡ true → xs ≡ replicate (length xs) 0
+unfolding all
+all-zero [] e = refl
+all-zero (x ∷ xs) e = let s = and-split (eqb 0 x) _ e in ap₂ _∷_ (sym (eqb-true 0 x (s .0))) (all-zero xs (s .1))
+
+pub size-length : (f : Forest) → size f ≤ length (encode f)
+unfolding size encode
+size-length nil = omega arith
+size-length (lit l f) = omega (arith, size-length f)
+size-length (node c k f) = omega (arith, size-length f, length-append (encode k) (encode f))
+
+-- One tree; below its head stand as many as the head says.
+pub one-tree-is : (ns : List Node) → one-tree ns ≡ true → trees ns ≡ some 1
+unfolding one-tree exactly-one
+one-tree-is ns h = go (trees ns) h
+  where
+    go : (o : Option ℕ) → exactly-one o ≡ true → o ≡ some 1
+    go none e = true-false (sym e)
+    go (some t) e = ap some (eqb-true t 1 e)
+
+pub trees-below : (c : Conn) (k : ℕ) (ns : List Node) → trees (head c k ∷ ns) ≡ some 1 → trees ns ≡ some k
+unfolding trees joined
+trees-below c k ns e =
+    let w = then-some (trees ns) (joined (head c k)) e in
+    let o = only-some (leb k (w .0)) _ (w .2) in
+    w .1 ∙ ap some (omega (arith, leb-true k (w .0) (o .0), o .1))
+
+-- Numbers that begin with kind 5 and go on with nodes of bodies: each is one of a node, and as one tree they are shaped.
+rooted-known : (n : ℕ) (xs : List ℕ) → rooted n xs ≡ true → all known xs ≡ true
+unfolding rooted all known
+rooted-known n [] h = true-false (sym h)
+rooted-known n (x ∷ xs) h =
+    let s = and-split (eqb (kind x) 5) _ h in
+    let five : known x ≡ true = rw (eqb-true (kind x) 5 (s .0)) in
+    and-join five (all-weaken (body-node n) known (known-body n) xs (s .1))
+
+rooted-shaped : (n : ℕ) (xs : List ℕ) → rooted n xs ≡ true → one-tree (map node-of xs) ≡ true → Shaped n (map node-of xs)
+unfolding rooted node-of pick
+rooted-shaped n [] h o = true-false (sym h)
+rooted-shaped n (x ∷ xs) h o =
+    let s = and-split (eqb (kind x) 5) _ h in
+    let top : node-of x ≡ head root (value x) = rw (eqb-true (kind x) 5 (s .0)) in
+    let whole = ap (λ y. trees (y ∷ map node-of xs)) (sym top) ∙ one-tree-is (map node-of (x ∷ xs)) o in
+    let below : all (plain n) (map node-of xs) ≡ true = all-map node-of (plain n) xs ∙ all-weaken (body-node n) _ (λ y b. plain-node n y (known-body n y b) ∙ b) xs (s .1) in
+    rw top (shaped n (value x) (map node-of xs) (trees-below root (value x) _ whole) below)
+
+-- What a sheet holds.
+pub record Sheet-facts (s : List ℕ) : Type 0 where
+  pub whole : length s ≡ 4098
+  pub options : options-in s ≤ 512
+  pub used : used-in s ≤ 4096
+  pub count : length (nodes-in s) ≡ used-in s
+  pub numbers : numbers-in s ≡ map number-of (nodes-in s)
+  pub rooted : rooted (options-in s) (numbers-in s) ≡ true
+  pub rest : rest-in s ≡ replicate (4096 - used-in s) 0
+  pub shaped : Shaped (options-in s) (nodes-in s)
+  pub weight : weight (nodes-in s) ≤ 4096
+
+pub sheet-facts : (s : List ℕ) → is-sheet s ≡ true → Sheet-facts s
+unfolding is-sheet numbers-in nodes-in rest-in
+sheet-facts s h =
+    let a = eqb (length s) sheet-length in
+    let b = leb (options-in s) 512 in
+    let c = leb (used-in s) sheet-room in
+    let d = rooted (options-in s) (numbers-in s) in
+    let e = one-tree (nodes-in s) in
+    let f = all (eqb 0) (rest-in s) in
+    let last = and-split (a && b && c && d && e && f) _ h in
+    let zeros = and-split (a && b && c && d && e) f (last .0) in
+    let tree = and-split (a && b && c && d) e (zeros .0) in
+    let form = and-split (a && b && c) d (tree .0) in
+    let room = and-split (a && b) c (form .0) in
+    let first = and-split a b (room .0) in
+    let long = eqb-true (length s) sheet-length (first .0) in
+    let used = leb-true (used-in s) sheet-room (room .1) in
+    let enough : used-in s ≤ length (drop 2 s) = omega (arith, length-drop 2 s) in
+    let left : length (rest-in s) ≡ 4096 - used-in s = omega (arith, length-drop (used-in s) (drop 2 s), length-drop 2 s) in
+    record {
+      whole = long;
+      options = leb-true (options-in s) 512 (first .1);
+      used = used;
+      count = length-map (numbers-in s) node-of ∙ length-take-le (used-in s) (drop 2 s) enough;
+      numbers = sym (map-back node-of number-of known number-node (numbers-in s) (rooted-known _ (numbers-in s) (form .1)));
+      rooted = form .1;
+      rest = all-zero (rest-in s) (zeros .1) ∙ ap (λ k. replicate k 0) left;
+      shaped = rooted-shaped (options-in s) (numbers-in s) (form .1) (tree .1);
+      weight = leb-true (weight (nodes-in s)) 4096 (last .1);
+    }
+
+module _ (s : List ℕ) (h : is-sheet s ≡ true) where
+  pub sheet-shaped : Shaped (options-in s) (nodes-in s)
+  sheet-shaped = sheet-facts s h .shaped
+
+  pub sheet-options : options-in s ≤ 512
+  sheet-options = sheet-facts s h .options
+
+  pub sheet-weight : weight (nodes-in s) ≤ 4096
+  sheet-weight = sheet-facts s h .weight
+
+  -- A sheet is the sheet of its options and nodes.
+  pub sheet-is : s ≡ sheet-of (options-in s) (nodes-in s)
+  unfolding sheet-of options-in used-in rest-in numbers-in
+  sheet-is =
+      let k = sheet-facts s h in
+      let body : drop 2 s ≡ map number-of (nodes-in s) ++ replicate (4096 - used-in s) 0 = sym (take-append-drop (used-in s) (drop 2 s)) ∙ ap₂ _++_ (k .numbers) (k .rest) in
+      rw (k .count) (two-first s (omega (arith, k .whole)) ∙ ap (λ r. getD s 0 0 ∷ getD s 1 0 ∷ r) body)
+
+-- Nodes of the form of a sheet, at most 4,096 of them, have numbers.
+fits-encode : (n : ℕ) (f : Forest) → n ≤ 4096 → fine n f ≡ true → length (encode f) < 4096 → all fits (encode f) ≡ true
+unfolding fine encode all fits amount
+fits-encode n nil l h b = refl
+fits-encode n (lit x f) l h b =
+    let s = and-split (ltb (option x) n) _ h in
+    and-join (lt-ltb (option x) 4096 (omega (arith, ltb-true (option x) n (s .0)))) (fits-encode n f l (s .1) (omega arith))
+fits-encode n (node c k f) l h b =
+    let s = fine-node n c k f h in
+    let long = length-append (encode k) (encode f) in
+    and-join
+    (lt-ltb (size k) 4096 (omega (arith, size-length k)))
+    (all-append fits (encode k) (encode f) ∙ and-join (fits-encode n k l (s .1) (omega arith)) (fits-encode n f l (s .2) (omega arith)))
+
+pub options-made : (n : ℕ) (ns : List Node) → options-in (sheet-of n ns) ≡ n
+unfolding options-in sheet-of
+options-made n ns = refl
+
+module _ (n : ℕ) (ns : List Node) where
+  numbers-made : numbers-in (sheet-of n ns) ≡ map number-of ns
+  unfolding numbers-in used-in sheet-of
+  numbers-made = take-at (map number-of ns) _ (length ns) (length-map ns number-of)
+
+  rest-made : rest-in (sheet-of n ns) ≡ replicate (4096 - length ns) 0
+  unfolding rest-in used-in sheet-of
+  rest-made = drop-at (map number-of ns) _ (length ns) (length-map ns number-of)
+
+-- Nodes of the form of a sheet: the head of the root, then the nodes of its children; and what they are read as.
+pub shaped-flat : {n : ℕ} {ns : List Node} (form : Shaped n ns) → ns ≡ head root (size (form .kids)) ∷ encode (form .kids)
+unfolding encode
+shaped-flat form = form .spelled ∙ ap (λ xs. head root (size (form .kids)) ∷ xs) (append-nil (encode (form .kids)))
+
+pub shaped-decode : {n : ℕ} {ns : List Node} (form : Shaped n ns) → decode ns ≡ node root (form .kids) nil
+shaped-decode form = ap decode (form .spelled) ∙ decode-encode (node root (form .kids) nil)
+
+module _ {n : ℕ} {ns : List Node} (few : n ≤ 512) (form : Shaped n ns) (light : weight ns ≤ 4096) where
+  few-nodes : length ns ≤ 4096
+  unfolding weight
+  few-nodes = omega arith
+
+  nodes-fit : all fits ns ≡ true
+  unfolding all fits amount
+  nodes-fit =
+      let k = form .kids in
+      let long : suc (length (encode k)) ≤ 4096 = rw (shaped-flat form) at few-nodes in
+      rw (shaped-flat form) (and-join (lt-ltb (size k) 4096 (omega (arith, size-length k))) (fits-encode n k (omega arith) (form .fine) long))
+
+  -- The nodes of the sheet made of well-formed nodes are those nodes.
+  pub nodes-made : nodes-in (sheet-of n ns) ≡ ns
+  unfolding nodes-in
+  nodes-made = ap (map node-of) (numbers-made n ns) ∙ map-back number-of node-of fits node-number ns nodes-fit
+
+  numbers-rooted : rooted n (map number-of ns) ≡ true
+  unfolding rooted number-of conn-kind all fits amount
+  numbers-rooted =
+      let below = encode (form .kids) in
+      let small = and-split (fits (head root (size (form .kids)))) (all fits below) (rw (shaped-flat form) at nodes-fit) in
+      let five = eq-eqb _ 5 (kind-number 5 (size (form .kids)) (small .0)) in
+      let inner = plain-encode n (form .kids) ∙ form .fine in
+      let bodies = all-from (λ y. body-node n (number-of y)) below (λ y m. body-number n y (all-at fits below (small .1) m) ∙ all-at (plain n) below inner m) in
+      rw (shaped-flat form) (and-join five (all-map number-of (body-node n) below ∙ bodies))
+
+  -- The sheet made of well-formed nodes is a sheet.
+  pub sheet-made : is-sheet (sheet-of n ns) ≡ true
+  unfolding is-sheet sheet-of options-in used-in one-tree exactly-one
+  sheet-made =
+      let new = sheet-of n ns in
+      let zeros : List ℕ = replicate (4096 - length ns) 0 in
+      let long : length new ≡ 4098 = omega (arith, few-nodes, length-append (map number-of ns) zeros, length-map ns number-of, length-replicate {A = ℕ} (4096 - length ns) 0) in
+      let head : rooted n (numbers-in new) ≡ true = ap (rooted n) (numbers-made n ns) ∙ numbers-rooted in
+      let tree : one-tree (nodes-in new) ≡ true = ap one-tree nodes-made ∙ ap exactly-one (shaped-trees form) in
+      let rest : all (eqb 0) (rest-in new) ≡ true = ap (all (eqb 0)) (rest-made n ns) ∙ all-replicate (eqb 0) (4096 - length ns) 0 refl in
+      let load : leb (weight (nodes-in new)) 4096 ≡ true = ap (λ ms. leb (weight ms) 4096) nodes-made ∙ le-leb (weight ns) 4096 light in
+      and-join (and-join (and-join (and-join (and-join (and-join (eq-eqb (length new) 4098 long) (le-leb n 512 few)) (le-leb (length ns) 4096 few-nodes)) head) tree) rest) load

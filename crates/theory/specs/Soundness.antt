@@ -1,0 +1,195 @@
+-- Soundness of the rules: a change keeps the value of a tree, and a step keeps the models of a sheet.
+use mathlib.Core.Bool.{true, false, _||_, not}
+use mathlib.Core.List.{List, [], _∷_, _++_}
+use mathlib.Core.Logic.{_⊎_, inl, inr, _↔_}
+use mathlib.Core.Option.{some}
+use mathlib.Core.Path.{_≡_, refl, sym, ap, _∙_}
+use Prim.Native.Nat.{ℕ, zero, suc, _+_}
+use native.Mathlib.Omega.{arith}
+use borrow.Author.Tests.{eqb-true, eq-eqb}
+use lib.ListN.{take, drop, take-append-drop}
+use Rattle.model.specs.Literal.{Literal, pos, neg, complement, same}
+use Rattle.model.specs.Forest.{Conn, and, or, root, same-conn, Forest, nil, lit, node, constant, _⊕_, kids, has-unit}
+use Rattle.model.specs.Code.{Node, encode, decode}
+use Rattle.model.specs.Rules.{neutral, deciding, assigned, step}
+use Rattle.theory.specs.Logic.{true-false, and-split, or-split, or-left, or-right, fails-if}
+use Rattle.theory.specs.Literals.{same-is, same-self, complement-other}
+use Rattle.theory.specs.Forests.{⊕-nil}
+use Rattle.theory.specs.Codes.{decode-encode}
+use Rattle.theory.specs.Evaluation.{Set, fails-empty, fails-both, fails, values, Valuation, value-of, zeros, with-one, Holds}
+use Rattle.theory.specs.Values.{both-empty, fails-⊕, same-fails, values-⊕, decode-onto, decode-++, values-onto}
+use Rattle.theory.specs.Changes.{Change, absorbed, omitted, unwrapped, spreaded, lifted, merged, factored}
+use Rattle.theory.specs.Inversion.{Stepped, stepped, not-conn}
+use Rattle.theory.specs.Rooted.{Rooted, no-root, below-root}
+use Rattle.theory.specs.Families.{Opposed, beside, absorbed-fails, omitted-fails, unwrapped-values, spread-fails, lifted-fails, factored-fails}
+
+-- What a change asks of a set: that each literal which is a child both before and after it, as the literal of rules 9 and 10
+-- is, be opposed to its complement. A conjunction is asked nothing.
+abbrev pub Suits : Set → Conn → Forest → Forest → Type 0
+Suits s c k g = (l : Literal) → has-unit l k ≡ true → has-unit l (kids g) ≡ true → (c ≡ and → ⊥) → Opposed s c l
+
+unit-here : (l : Literal) (p q : Forest) → has-unit l (p ⊕ lit l q) ≡ true
+unfolding has-unit _⊕_
+unit-here l nil q = or-left (has-unit l q) (same-self l)
+unit-here l (lit x p) q = or-right (same l x) (unit-here l p q)
+unit-here l (node c k p) q = unit-here l p q
+
+kept : (s : Set) (c : Conn) (k m : Forest) {g : Forest} → g ≡ node c m nil → fails s c m ≡ fails s c k → values s g ≡ fails s c k ∷ []
+unfolding values
+kept s c k m r e = ap (values s) r ∙ ap (λ b. b ∷ []) e
+
+-- Soundness of a change: the tree that a node becomes has the node's value.
+pub sound : (s : Set) {c : Conn} {k g : Forest} → Change c k g → Suits s c k g → values s g ≡ fails s c k ∷ []
+unfolding fails kids
+sound s {c} {k} (absorbed p q e n r) h =
+    kept s c k (constant (deciding c)) r (absorbed-fails s c p q ∙ ap (fails s c) (sym e))
+sound s {c} {k} (omitted p q e r) h =
+    kept s c k (p ⊕ q) r (beside s c p q (node (neutral c) nil q) (omitted-fails s c q) ∙ ap (fails s c) (sym e))
+sound s {c} {k} (unwrapped n e r) h = ap (values s) r ∙ unwrapped-values s c k e
+sound s {c} {k} (spreaded p q l n e m r) h =
+    let new = assigned c l p ⊕ lit l (assigned c l q) in
+    let before = ap (has-unit l) e ∙ unit-here l p q in
+    let still = ap (λ t. has-unit l (kids t)) r ∙ unit-here l (assigned c l p) (assigned c l q) in
+    kept s c k new r (spread-fails s c l p q (h l before still n) ∙ ap (fails s c) (sym e))
+sound s {c} {k} (lifted p a b q l n e r) h =
+    let new = lit l (node and (a ⊕ b) q) in
+    let old = node and (a ⊕ lit l b) q in
+    kept s c k (p ⊕ new) r (beside s c p new old (lifted-fails s c l a b q n) ∙ ap (fails s c) (sym e))
+sound s {c} {k} (merged p a q n e r) h =
+    let flat = fails-⊕ s c a q ∙ ap (λ d. fails-both c (fails s d a) (fails s c q)) n in
+    kept s c k (p ⊕ a ⊕ q) r (beside s c p (a ⊕ q) (node and a q) flat ∙ ap (fails s c) (sym e))
+sound s {c} {k} (factored a n e m r) h = kept s c k _ r (rw n (factored-fails s a k e))
+
+-- The same for the change that a step did; the step then keeps the values of all trees.
+abbrev pub Suits-step : Set → {place : ℕ} {ns ms : List Node} → Stepped place ns ms → Type 0
+Suits-step s t = Suits s (t .rewriting .conn) (t .rewriting .children) (t .rewriting .new)
+
+pub step-values : (s : Set) {place : ℕ} {ns ms : List Node} (t : Stepped place ns ms) → Suits-step s t → values s (decode ns) ≡ values s (decode ms)
+unfolding values
+step-values s {place} {ns} t h =
+    let w = t .rewriting in
+    let here : values s (decode (drop place ns)) ≡ values s (t .result) = ap (values s) (w .was) ∙ ap (λ vs. vs ++ values s (w .rest)) (sym (sound s (w .done) h)) ∙ sym (values-⊕ s (w .new) (w .rest)) ∙ ap (values s) (sym (w .became)) in
+    let before : decode ns ≡ decode-onto (take place ns) (decode (drop place ns)) = ap decode (sym (take-append-drop place ns)) ∙ decode-++ (take place ns) (drop place ns) in
+    let now = ap decode (t .nodes) ∙ decode-++ (take place ns) (encode (t .result)) ∙ ap (decode-onto (take place ns)) (decode-encode (t .result)) in
+    ap (values s) before ∙ values-onto s (take place ns) _ _ here ∙ ap (values s) (sym now)
+
+-- A consistent set never holds a literal with its complement.
+abbrev pub Consistent : Set → Type 0
+Consistent s = (l : Literal) → s l ≡ true → s (complement l) ≡ false
+
+value-complement : (u : Valuation) (l : Literal) → value-of u l + value-of u (complement l) ≡ 2
+unfolding value-of complement
+value-complement u (pos v) = omega (arith, u .small v)
+value-complement u (neg v) = omega (arith, u .small v)
+
+zero-value : (u : Valuation) (l : Literal) → zeros u l ≡ true → value-of u l ≡ 0
+unfolding zeros
+zero-value u l e = eqb-true (value-of u l) 0 e
+
+pub zeros-consistent : (u : Valuation) → Consistent (zeros u)
+zeros-consistent u l h =
+    fails-if (zeros u (complement l)) (λ k. omega (arith, zero-value u l h, zero-value u (complement l) k, value-complement u l))
+
+pub with-one-consistent : (u : Valuation) (m : Literal) → value-of u m ≡ 1 → Consistent (with-one (zeros u) m)
+unfolding with-one
+with-one-consistent u m e l h =
+    fails-if (with-one (zeros u) m (complement l)) (λ k. go (or-split (zeros u l) (same l m) h) (or-split (zeros u (complement l)) (same (complement l) m) k))
+  where
+    go : (zeros u l ≡ true) ⊎ (same l m ≡ true) → (zeros u (complement l) ≡ true) ⊎ (same (complement l) m ≡ true) → ⊥
+    go (inl a) (inl b) = omega (arith, zero-value u l a, zero-value u (complement l) b, value-complement u l)
+    go (inl a) (inr b) = omega (arith, zero-value u l a, ap (value-of u) (same-is (complement l) m b), value-complement u l)
+    go (inr a) (inl b) = omega (arith, zero-value u (complement l) b, ap (value-of u) (same-is l m a), value-complement u l)
+    go (inr a) (inr b) = complement-other l (same-is (complement l) m b ∙ sym (same-is l m a))
+
+-- What the sets that a valuation asks about, `zeros u` and `with-one (zeros u) m`, have in common.
+pub record Asked (u : Valuation) (s : Set) : Type 0 where
+  pub consistent : Consistent s
+  pub zeros-in : (l : Literal) → value-of u l ≡ 0 → s l ≡ true
+
+zeros-asked : (u : Valuation) → Asked u (zeros u)
+unfolding zeros
+zeros-asked u = record { consistent = zeros-consistent u; zeros-in = λ l e. eq-eqb (value-of u l) 0 e }
+
+with-one-asked : (u : Valuation) (m : Literal) → value-of u m ≡ 1 → Asked u (with-one (zeros u) m)
+unfolding with-one zeros
+with-one-asked u m e =
+    record {
+      consistent = with-one-consistent u m e;
+      zeros-in = λ l z. or-left (same l m) (eq-eqb (value-of u l) 0 z);
+    }
+
+-- Trees that evaluate alike under those sets have the same models.
+pub holds-along : (u : Valuation) (c : Conn) (f g : Forest) → ((s : Set) → Asked u s → fails s c f ≡ fails s c g) → Holds u c f → Holds u c g
+holds-along u c f g e h =
+    (sym (e (zeros u) (zeros-asked u)) ∙ h .0, λ m q. sym (e (with-one (zeros u) m) (with-one-asked u m q)) ∙ h .1 m q)
+
+-- A model gives a unit the value 2, since the root fails where a unit does.
+unit-fails : (s : Set) (l : Literal) (k : Forest) → has-unit l k ≡ true → s l ≡ true → fails s root k ≡ true
+unfolding has-unit fails fails-both
+unit-fails s l nil e h = true-false (sym e)
+unit-fails s l (lit x f) e h = go (or-split (same l x) (has-unit l f) e) (unit-fails s l f)
+  where
+    go : (same l x ≡ true) ⊎ (has-unit l f ≡ true) → (has-unit l f ≡ true → s l ≡ true → fails s root f ≡ true) → (s x || fails s root f) ≡ true
+    go (inl q) r = or-left (fails s root f) (ap s (sym (same-is l x q)) ∙ h)
+    go (inr q) r = or-right (s x) (r q h)
+unit-fails s l (node c k f) e h = or-right (fails s c k) (unit-fails s l f e h)
+
+pub unit-value : (u : Valuation) (l : Literal) (k : Forest) → Holds u root (node root k nil) → has-unit l k ≡ true → value-of u l ≡ 2
+unfolding fails with-one zeros
+unit-value u l k h e =
+    let not-in : (s : Set) → fails s root (node root k nil) ≡ false → s l ≡ true → ⊥ = λ s f q. true-false (sym (unit-fails s l k e q) ∙ sym (both-empty root (fails s root k)) ∙ f) in
+    let not-zero : value-of u l ≡ 0 → ⊥ = λ z. not-in (zeros u) (h .0) (eq-eqb (value-of u l) 0 z) in
+    let not-one : value-of u l ≡ 1 → ⊥ = λ z. not-in (with-one (zeros u) l) (h .1 l z) (or-right (zeros u l) (same-self l)) in
+    omega (arith, value-complement u l)
+
+-- Rule 10: in a model, a unit of the root is opposed to its complement. Rule 9: below the root every consistent set suits.
+unit-opposed : (u : Valuation) (s : Set) → Asked u s → {c : Conn} → c ≡ root → (l : Literal) (k : Forest) → Holds u root (node root k nil) → has-unit l k ≡ true → Opposed s c l
+unfolding deciding fails-empty
+unit-opposed u s a q l k h e o =
+    rw q (a .zeros-in (complement l) (omega (arith, value-complement u l, unit-value u l k h e)))
+
+inner-suits : (s : Set) → Consistent s → (c : Conn) (k g : Forest) → (c ≡ root → ⊥) → Suits s c k g
+unfolding deciding fails-empty
+inner-suits s h and k g n l before still m = absurd (m refl)
+inner-suits s h or k g n l before still m = h l
+inner-suits s h root k g n l before still m = absurd (n refl)
+
+-- A change of a root leaves a root.
+at-root : {c : Conn} {m g : Forest} → g ≡ node c m nil → c ≡ root → g ≡ node root (kids g) nil
+unfolding kids
+at-root {c} {m} {g} r h = r ∙ ap (λ d. node d m nil) h ∙ ap (λ f. node root f nil) (sym (ap kids r))
+
+root-stays : {c : Conn} {k g : Forest} → Change c k g → c ≡ root → g ≡ node root (kids g) nil
+root-stays (absorbed p q e n r) h = at-root r h
+root-stays (omitted p q e r) h = at-root r h
+root-stays (unwrapped n e r) h = absurd (n h)
+root-stays (spreaded p q l n e m r) h = at-root r h
+root-stays (lifted p a b q l n e r) h = at-root r h
+root-stays (merged p a q n e r) h = at-root r h
+root-stays (factored a n e m r) h = at-root r h
+
+suited-holds : (u : Valuation) {place : ℕ} {ns ms : List Node} (t : Stepped place ns ms) → ((s : Set) → Asked u s → Suits-step s t) → Holds u root (decode ns) ↔ Holds u root (decode ms)
+suited-holds u {ns} {ms} t h =
+    let alike : (s : Set) → Asked u s → fails s root (decode ns) ≡ fails s root (decode ms) = λ s a. same-fails s root (decode ns) (decode ms) (step-values s t (h s a)) in
+    (holds-along u root (decode ns) (decode ms) alike, holds-along u root (decode ms) (decode ns) (λ s a. sym (alike s a)))
+
+-- Soundness of a step: the nodes before it and after it have the same models.
+pub stepped-holds : (u : Valuation) (place : ℕ) (ns : List Node) {ms : List Node} → Rooted ns → Stepped place ns ms → Holds u root (decode ns) ↔ Holds u root (decode ms)
+unfolding no-root
+stepped-holds u zero ns {ms} w t =
+    let x = t .rewriting in
+    let is-root : x .conn ≡ root = cc in
+    let alone : x .rest ≡ nil = cc in
+    let before : decode ns ≡ node root (x .children) nil = cc in
+    let now : decode ms ≡ node root (kids (x .new)) nil = ap decode (t .nodes) ∙ decode-encode (t .result) ∙ x .became ∙ ap (λ f. x .new ⊕ f) alone ∙ ⊕-nil (x .new) ∙ root-stays (x .done) is-root in (
+      λ h. suited-holds u t (λ s a l was still n. unit-opposed u s a is-root l (x .children) (rw before at h) was) .0 h,
+      λ h. suited-holds u t (λ s a l was still n. unit-opposed u s a is-root l (kids (x .new)) (rw now at h) still) .1 h,
+    )
+stepped-holds u (suc place) ns w t =
+    let x = t .rewriting in
+    let inside = ap no-root (sym (x .was)) ∙ below-root place ns w in
+    let inner = not-conn (and-split (not (same-conn (x .conn) root)) _ inside .0) in
+    suited-holds u t (λ s a. inner-suits s (a .consistent) (x .conn) (x .children) (x .new) inner)
+
+pub step-holds : (u : Valuation) (r place i j : ℕ) (ns : List Node) {ms : List Node} → Rooted ns → step r place i j ns ≡ some ms → Holds u root (decode ns) ↔ Holds u root (decode ms)
+step-holds u r place i j ns w e = stepped-holds u place ns w (stepped r place i j ns e)
