@@ -1,6 +1,6 @@
 -- What the trees of a sheet's rules look like: no root inside, options below a number. Every change keeps it.
 use mathlib.Core.Bool.{Bool, true, false, _&&_, not, and-assoc}
-use mathlib.Core.Logic.{_⊎_, inl, inr}
+use mathlib.Core.Logic.{_⊎_, inl, inr, ⊎-elim}
 use mathlib.Core.Path.{_≡_, refl, sym, ap, _∙_}
 use Prim.Native.Nat.{ℕ, _≤_}
 use native.Mathlib.Omega.{arith}
@@ -12,6 +12,16 @@ use Rattle.model.specs.Rules.{neutral, deciding, assigned, without-unit, shares
 use Rattle.theory.specs.Logic.{true-false, and-split, or-split, not-is}
 use Rattle.theory.specs.Literals.{same-is}
 use Rattle.theory.specs.Changes.{Change, absorbed, omitted, unwrapped, spreaded, lifted, merged, factored}
+
+-- General law: what a literal becomes where another is assigned.
+pub assigned-lit : (P : Forest → Type 0) (c : Conn) (l x : Literal) (f : Forest) → (same l x ≡ true → P (node (neutral c) nil (assigned c l f))) → (same (complement l) x ≡ true → P (node (deciding c) nil (assigned c l f))) → (same l x ≡ false → same (complement l) x ≡ false → P (lit x (assigned c l f))) → P (assigned c l (lit x f))
+unfolding assigned pick
+assigned-lit P c l x f same-one other-one neither = go (same l x) (same (complement l) x) refl refl
+  where
+    go : (a b : Bool) → same l x ≡ a → same (complement l) x ≡ b → P (pick a (node (neutral c) nil (assigned c l f)) (pick b (node (deciding c) nil (assigned c l f)) (lit x (assigned c l f))))
+    go true b e o = same-one e
+    go false true e o = other-one o
+    go false false e o = neither e o
 
 -- No root stands in the trees, and every option is below n.
 unfoldable pub fine : ℕ → Forest → Bool
@@ -37,6 +47,10 @@ inner-deciding and = refl
 inner-deciding or = refl
 inner-deciding root = refl
 
+-- A node of the connective with fine children.
+abbrev pub Renewed : ℕ → Conn → Forest → Type 0
+Renewed n c g = (m : Forest) × (g ≡ node c m nil) × (fine n m ≡ true)
+
 module _ (n : ℕ) where
   fine-split : {k : Forest} (f g : Forest) → k ≡ f ⊕ g → fine n k ≡ true → (fine n f ≡ true) × (fine n g ≡ true)
   fine-split f g e h = and-split (fine n f) (fine n g) (sym (ap (fine n) e ∙ fine-⊕ n f g) ∙ h)
@@ -53,14 +67,12 @@ module _ (n : ℕ) where
       (not-is (same-conn root c) (t .0), t .1, s .1)
 
   fine-assigned : (c : Conn) (l : Literal) (f : Forest) → fine n f ≡ true → fine n (assigned c l f) ≡ true
-  unfolding fine assigned pick
+  unfolding fine assigned
   fine-assigned c l nil h = refl
-  fine-assigned c l (lit x f) h = let s = fine-lit x f h in go (same l x) (same (complement l) x) (s .0) (fine-assigned c l f (s .1))
-    where
-      go : (a b : Bool) → ltb (option x) n ≡ true → fine n (assigned c l f) ≡ true → fine n (pick a (node (neutral c) nil (assigned c l f)) (pick b (node (deciding c) nil (assigned c l f)) (lit x (assigned c l f)))) ≡ true
-      go true b o r = rw (inner-neutral c, r)
-      go false true o r = rw (inner-deciding c, r)
-      go false false o r = rw (o, r)
+  fine-assigned c l (lit x f) h =
+      let s = fine-lit x f h in
+      let r = fine-assigned c l f (s .1) in
+      assigned-lit (λ g. fine n g ≡ true) c l x f (λ e. rw (inner-neutral c, r)) (λ e. rw (inner-deciding c, r)) (λ e o. rw (s .0, r))
   fine-assigned c l (node d k f) h =
       let s = fine-node d k f h in rw (s .0, fine-assigned c l k (s .1), fine-assigned c l f (s .2))
 
@@ -91,11 +103,9 @@ module _ (n : ℕ) where
   unit-below : (a : Literal) (f : Forest) → has-unit a f ≡ true → fine n f ≡ true → ltb (option a) n ≡ true
   unfolding has-unit
   unit-below a nil u h = true-false (sym u)
-  unit-below a (lit x f) u h = let s = fine-lit x f h in go (or-split (same a x) (has-unit a f) u) (s .0) (λ v. unit-below a f v (s .1))
-    where
-      go : (same a x ≡ true) ⊎ (has-unit a f ≡ true) → ltb (option x) n ≡ true → (has-unit a f ≡ true → ltb (option a) n ≡ true) → ltb (option a) n ≡ true
-      go (inl e) o r = rw (same-is a x e) o
-      go (inr v) o r = r v
+  unit-below a (lit x f) u h =
+      let s = fine-lit x f h in
+      ⊎-elim (λ e. rw (same-is a x e) (s .0)) (λ v. unit-below a f v (s .1)) (or-split (same a x) (has-unit a f) u)
   unit-below a (node c k f) u h = unit-below a f u (fine-node c k f h .2)
 
   shared-below : (a : Literal) (f : Forest) → shares a f ≡ true → 1 ≤ groups f → fine n f ≡ true → ltb (option a) n ≡ true
@@ -107,7 +117,7 @@ module _ (n : ℕ) where
   shared-below a (node root k f) s g h = true-false (sym s)
 
   -- A change leaves the node with other fine children, or, not at the root, just its children.
-  pub change-form : {c : Conn} {k g : Forest} → Change c k g → fine n k ≡ true → ((m : Forest) × (g ≡ node c m nil) × (fine n m ≡ true)) ⊎ ((c ≡ root → ⊥) × (g ≡ k))
+  pub change-form : {c : Conn} {k g : Forest} → Change c k g → fine n k ≡ true → Renewed n c g ⊎ ((c ≡ root → ⊥) × (g ≡ k))
   unfolding fine same-conn
   change-form {c} (absorbed p q e t r) h = inl (_, r, rw (inner-deciding c))
   change-form {c} (omitted p q e r) h =
@@ -134,18 +144,10 @@ module _ (n : ℕ) where
   -- So it keeps trees fine below the root, and at the root gives the root again with fine children.
   pub change-fine : {c : Conn} {k g : Forest} → Change c k g → same-conn root c ≡ false → fine n k ≡ true → fine n g ≡ true
   unfolding fine
-  change-fine {c} {k} {g} x d h = go (change-form x h)
-    where
-      go : ((m : Forest) × (g ≡ node c m nil) × (fine n m ≡ true)) ⊎ ((c ≡ root → ⊥) × (g ≡ k)) → fine n g ≡ true
-      go (inl w) = rw (w .1, d, w .2)
-      go (inr w) = rw (w .1) h
+  change-fine x d h = ⊎-elim (λ w. rw (w .1, d, w .2)) (λ w. rw (w .1) h) (change-form x h)
 
-  pub change-root : {k g : Forest} → Change root k g → fine n k ≡ true → (m : Forest) × (g ≡ node root m nil) × (fine n m ≡ true)
-  change-root {k} {g} x h = go (change-form x h)
-    where
-      go : ((m : Forest) × (g ≡ node root m nil) × (fine n m ≡ true)) ⊎ ((root ≡ root → ⊥) × (g ≡ k)) → (m : Forest) × (g ≡ node root m nil) × (fine n m ≡ true)
-      go (inl w) = w
-      go (inr w) = absurd (w .0 refl)
+  pub change-root : {k g : Forest} → Change root k g → fine n k ≡ true → Renewed n root g
+  change-root x h = ⊎-elim (λ w. w) (λ w. absurd (w .0 refl)) (change-form x h)
 
 -- One tree becomes one tree.
 pub change-size : {c : Conn} {k g : Forest} → Change c k g → size g ≡ 1

@@ -5,6 +5,7 @@ pub mod Forests
 -- Codes of forests, and their numbers.
 pub mod Codes
 pub mod Numbers
+pub mod Scan
 -- Meaning: propagation is exact; evaluation; valuations.
 pub mod Exact
 pub mod ExactReports
@@ -20,6 +21,10 @@ pub mod Rooted
 pub mod Soundness
 pub mod Fine
 pub mod Shape
+-- Steps grow fewer: the weight, the measure, the bound.
+pub mod Mass
+pub mod Measure
+pub mod Steps
 -- Where no rule applies.
 pub mod Calm
 pub mod Standing
@@ -34,3 +39,5 @@ pub mod Runs
 -- Sheets.
 pub mod Sheets
 pub mod Choice
+pub mod Bytes
+pub mod Loading

@@ -135,3 +135,7 @@ known-body n x h = go (eqb (kind x) 1 || eqb (kind x) 2) refl h
 
 pub plain-node : (n x : ℕ) → known x ≡ true → plain n (node-of x) ≡ body-node n x
 plain-node n x h = sym (body-number n (node-of x) (fits-node x)) ∙ ap (body-node n) (number-node x h)
+
+pub plain-nodes : (n : ℕ) (xs : List ℕ) → all (body-node n) xs ≡ true → all (plain n) (map node-of xs) ≡ true
+plain-nodes n xs h =
+    all-map node-of (plain n) xs ∙ all-weaken (body-node n) _ (λ x b. plain-node n x (known-body n x b) ∙ b) xs h

@@ -3,14 +3,14 @@ use mathlib.Core.Bool.{Bool, true, false, _&&_, not, and-assoc}
 use mathlib.Core.List.{List, [], _∷_, _++_, append-nil}
 use mathlib.Core.Option.{some}
 use mathlib.Core.Path.{_≡_, refl, sym, ap, ap₂, _∙_}
-use Prim.Native.Nat.{ℕ, zero, suc, _+_, _≤_}
+use Prim.Native.Nat.{ℕ, zero, suc, _≤_}
 use native.Mathlib.Nat.{add-zero}
 use native.Mathlib.Omega.{arith}
 use lib.Dec.{ltb}
 use lib.ListN.{length, take, drop, take-append-drop}
 use Rattle.model.specs.Base.{all, then}
 use Rattle.model.specs.Literal.{option}
-use Rattle.model.specs.Forest.{Conn, root, same-conn, Forest, nil, lit, node, _⊕_, size}
+use Rattle.model.specs.Forest.{Conn, and, or, root, same-conn, Forest, nil, lit, node, _⊕_, size}
 use Rattle.model.specs.Code.{Node, leaf, head, encode, decode, joined, trees}
 use Rattle.model.specs.Rules.{step}
 use Rattle.theory.specs.Logic.{and-split, and-join, then-some, all-append}
@@ -18,6 +18,7 @@ use Rattle.theory.specs.Forests.{⊕-nil, size-⊕}
 use Rattle.theory.specs.Codes.{decode-encode, trees-encode, encode-decode}
 use Rattle.theory.specs.Changes.{Change}
 use Rattle.theory.specs.Inversion.{stepped}
+use Rattle.theory.specs.Rooted.{no-root, Rooted}
 use Rattle.theory.specs.Fine.{fine, fine-⊕, fine-node, change-fine, change-root, change-size}
 
 -- General laws of codes.
@@ -87,7 +88,7 @@ pub record Shaped (n : ℕ) (ns : List Node) : Type 0 where
   pub spelled : ns ≡ encode (node root kids nil)
   pub fine : fine n kids ≡ true
 
--- The same, told of the list: after the head of the root come as many trees as it says, all their nodes plain.
+-- The same, told of the list: after the head of the root come as many trees as it says, all their nodes plain; and back.
 pub shaped : (n m : ℕ) (xs : List Node) → trees xs ≡ some m → all (plain n) xs ≡ true → Shaped n (head root m ∷ xs)
 unfolding encode
 shaped n m xs t h =
@@ -97,6 +98,11 @@ shaped n m xs t h =
       spelled = ap₂ (λ s ys. head root s ∷ ys) (sym (d .1)) (sym (d .0) ∙ sym (append-nil (encode (decode xs))));
       fine = sym (plain-encode n (decode xs)) ∙ ap (all (plain n)) (d .0) ∙ h;
     }
+
+pub shaped-nodes : {n : ℕ} {ns : List Node} (s : Shaped n ns) → (ns ≡ head root (size (s .kids)) ∷ encode (s .kids)) × (all (plain n) (encode (s .kids)) ≡ true)
+unfolding encode
+shaped-nodes {n} s =
+    (s .spelled ∙ ap (λ xs. head root (size (s .kids)) ∷ xs) (append-nil (encode (s .kids))), plain-encode n (s .kids) ∙ s .fine)
 
 pub shaped-trees : {n : ℕ} {ns : List Node} → Shaped n ns → trees ns ≡ some 1
 unfolding size
@@ -130,17 +136,40 @@ inner-shaped n kids rest b {c} {k} {new} h e x =
     (plain-after n b (new ⊕ rest) ∙ and-join (s .0) (fine-⊕ n new rest ∙ and-join (change-fine n x (u .0) (u .1)) (u .2)))
 
 pub changed-shaped : {n : ℕ} {ns ms : List Node} → Changed ns ms → Shaped n ns → Shaped n ms
-unfolding encode
 changed-shaped {n} {ns} {ms} w s = go (w .before) (w .was) (w .became)
   where
     go : (b : List Node) → ns ≡ b ++ encode (node (w .conn) (w .children) (w .rest)) → ms ≡ b ++ encode (w .new ⊕ w .rest) → Shaped n ms
-    go [] e f = rw f (root-shaped n (s .kids) (s .fine) (sym (decode-encode _) ∙ ap decode (sym (s .spelled) ∙ e) ∙ decode-encode _) (w .done))
+    go [] e f =
+        let whole = sym (decode-encode _) ∙ ap decode (sym (s .spelled) ∙ e) ∙ decode-encode _ in
+        rw f (root-shaped n (s .kids) (s .fine) whole (w .done))
     go (x ∷ b) e f =
-        let whole = sym (s .spelled) ∙ e in
+        let listed = shaped-nodes s .0 in
         let first : head root (size (s .kids)) ≡ x = cc in
-        let after : encode (s .kids) ++ [] ≡ b ++ encode (node (w .conn) (w .children) (w .rest)) = cc in
-        rw (f, ← first) (inner-shaped n (s .kids) (w .rest) b (s .fine) (sym (append-nil (encode (s .kids))) ∙ after) (w .done))
+        let inside : encode (s .kids) ≡ b ++ encode (node (w .conn) (w .children) (w .rest)) = cc in
+        rw (f, ← first) (inner-shaped n (s .kids) (w .rest) b (s .fine) inside (w .done))
 
 -- A step keeps the form of a sheet.
 pub step-shaped : (r p i j : ℕ) {n : ℕ} {ns ms : List Node} → Shaped n ns → step r p i j ns ≡ some ms → Shaped n ms
 step-shaped r p i j {n} {ns} s e = changed-shaped (step-changed r p i j ns (shaped-trees s) e) s
+
+-- The nodes of a sheet are rooted.
+not-root : (c : Conn) → same-conn root c ≡ false → same-conn c root ≡ false
+unfolding same-conn
+not-root and e = refl
+not-root or e = refl
+not-root root e = e
+
+fine-no-root : (n : ℕ) (f : Forest) → fine n f ≡ true → no-root f ≡ true
+unfolding no-root fine
+fine-no-root n nil h = refl
+fine-no-root n (lit l f) h = fine-no-root n f (and-split (ltb (option l) n) (fine n f) h .1)
+fine-no-root n (node c k f) h =
+    let s = fine-node n c k f h in rw (not-root c (s .0), fine-no-root n k (s .1), fine-no-root n f (s .2))
+
+pub shaped-rooted : {n : ℕ} {ns : List Node} → Shaped n ns → Rooted ns
+shaped-rooted {n} s =
+    record {
+      body = s .kids;
+      whole = ap decode (s .spelled) ∙ decode-encode (node root (s .kids) nil);
+      inside = fine-no-root n (s .kids) (s .fine);
+    }

@@ -19,7 +19,7 @@ use Rattle.theory.specs.Logic.{true-false, and-split, and-join, only-som
 use Rattle.theory.specs.Codes.{decode-encode}
 use Rattle.theory.specs.Fine.{fine, fine-node}
 use Rattle.theory.specs.Shape.{plain, plain-encode, Shaped, shaped, shaped-trees}
-use Rattle.theory.specs.Numbers.{all-weaken, all-map, map-back, fits, amount, known, kind-number, node-number, number-node, known-body, plain-node, body-number}
+use Rattle.theory.specs.Numbers.{all-weaken, all-map, map-back, fits, amount, known, kind-number, node-number, number-node, known-body, plain-nodes, body-number}
 
 -- General laws.
 
@@ -75,8 +75,7 @@ rooted-shaped n (x ∷ xs) h o =
     let s = and-split (eqb (kind x) 5) _ h in
     let top : node-of x ≡ head root (value x) = rw (eqb-true (kind x) 5 (s .0)) in
     let whole = ap (λ y. trees (y ∷ map node-of xs)) (sym top) ∙ one-tree-is (map node-of (x ∷ xs)) o in
-    let below : all (plain n) (map node-of xs) ≡ true = all-map node-of (plain n) xs ∙ all-weaken (body-node n) _ (λ y b. plain-node n y (known-body n y b) ∙ b) xs (s .1) in
-    rw top (shaped n (value x) (map node-of xs) (trees-below root (value x) _ whole) below)
+    rw top (shaped n (value x) (map node-of xs) (trees-below root (value x) _ whole) (plain-nodes n xs (s .1)))
 
 -- What a sheet holds.
 pub record Sheet-facts (s : List ℕ) : Type 0 where
@@ -173,6 +172,12 @@ shaped-flat form = form .spelled ∙ ap (λ xs. head root (size (form .kids)) �
 
 pub shaped-decode : {n : ℕ} {ns : List Node} (form : Shaped n ns) → decode ns ≡ node root (form .kids) nil
 shaped-decode form = ap decode (form .spelled) ∙ decode-encode (node root (form .kids) nil)
+
+pub shaped-kids : {n k : ℕ} {ns : List Node} (form : Shaped n (head root k ∷ ns)) → form .kids ≡ decode ns
+shaped-kids {ns = ns} form =
+    let flat = shaped-flat form in
+    let below : encode (form .kids) ≡ ns = cc in
+    sym (decode-encode (form .kids)) ∙ ap decode below
 
 module _ {n : ℕ} {ns : List Node} (few : n ≤ 512) (form : Shaped n ns) (light : weight ns ≤ 4096) where
   few-nodes : length ns ≤ 4096

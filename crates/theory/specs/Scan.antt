@@ -1,0 +1,29 @@
+-- Numbers read from the right, one node at a time: what a program that checks a body computes.
+use mathlib.Core.Bool.{Bool, true, false, _&&_, _||_}
+use mathlib.Core.List.{List, [], _∷_, map}
+use mathlib.Core.Option.{Option, none, some}
+use mathlib.Core.Path.{_≡_, refl, sym, ap, _∙_}
+use Prim.Native.Nat.{ℕ, zero, suc, _≤_}
+use lib.Dec.{eqb}
+use lib.ListN.{length}
+use Rattle.model.specs.Base.{only-if, then, all}
+use Rattle.model.specs.Code.{kind, node-of, joined, trees, exactly-one, one-tree, literals}
+use Rattle.model.specs.Sheet.{body-node}
+use Rattle.model.specs.Book.{body-ok}
+
+-- Kinds 1 and 2 are literals.
+unfoldable pub is-literal : ℕ → Bool
+is-literal x = eqb (kind x) 1 || eqb (kind x) 2
+
+-- The trees after one node more: none where the number is no node of a body of n options, or lacks children.
+unfoldable pub joined-by : ℕ → ℕ → ℕ → Option ℕ
+joined-by n x t = then (only-if (body-node n x) t) (joined (node-of x))
+
+unfoldable pub scan : ℕ → List ℕ → Option ℕ
+scan n [] = some zero
+scan n (x ∷ xs) = then (scan n xs) (joined-by n x)
+
+-- The count itself; 0 for none.
+unfoldable pub counted : Option ℕ → ℕ
+counted none = zero
+counted (some t) = t
