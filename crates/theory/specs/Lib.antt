@@ -41,3 +41,11 @@ pub mod Sheets
 pub mod Choice
 pub mod Bytes
 pub mod Loading
+-- Books and sheets, written and loaded.
+pub mod Contents
+pub mod Counts
+pub mod Parts
+pub mod Writing
+pub mod RoundTrips
+-- Calls, and lists of calls.
+pub mod Effects
