@@ -191,6 +191,13 @@ step-effect s r p i j h = go _ refl
         one (w .0) (w .1)
     go (some x) e = still s h
 
+-- The nodes that a run leaves on the sheet.
+pub run-leaves : (s : List ℕ) (b : ℕ) → is-sheet s ≡ true → nodes-in (sheet-of (options-in s) (strategy.run b (nodes-in s) .nodes)) ≡ strategy.run b (nodes-in s) .nodes
+run-leaves s b h =
+    let form = sheet-shaped s h in
+    let t = strategy-steps (run-steps b (nodes-in s)) in
+    nodes-made (sheet-options s h) (steps-shaped form t) (omega (arith, sheet-weight s h, steps-weight form t))
+
 run-effect : (s : List ℕ) (b : ℕ) → is-sheet s ≡ true → Effect s (after-call (run b) s) (choice-of (run b) s) (steps-of-call (run b) s)
 unfolding after-call choice-of steps-of-call runOf outcome if-accepted
 run-effect s b h = go (only-if (not (is-sheet s)) sheet-refused)

@@ -49,3 +49,5 @@ pub mod Writing
 pub mod RoundTrips
 -- Calls, and lists of calls.
 pub mod Effects
+pub mod Settled
+pub mod Reordered

@@ -159,7 +159,7 @@ not-root and e = refl
 not-root or e = refl
 not-root root e = e
 
-fine-no-root : (n : ℕ) (f : Forest) → fine n f ≡ true → no-root f ≡ true
+pub fine-no-root : (n : ℕ) (f : Forest) → fine n f ≡ true → no-root f ≡ true
 unfolding no-root fine
 fine-no-root n nil h = refl
 fine-no-root n (lit l f) h = fine-no-root n f (and-split (ltb (option l) n) (fine n f) h .1)
