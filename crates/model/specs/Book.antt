@@ -1,13 +1,13 @@
 -- The book file.
-use mathlib.Core.Bool.{Bool, true, false, _&&_, _||_, not}
+use mathlib.Core.Bool.{Bool, true, _&&_, _||_, not}
 use mathlib.Core.List.{List, [], _∷_, _++_, map, flatten}
 use mathlib.Core.Option.{Option, none, some}
 use Prim.Native.Nat.{ℕ, zero, suc, _+_, _*_, _/_, _%_}
-use lib.Dec.{eqb, leb, ltb}
+use lib.Dec.{eqb, leb}
 use lib.ListN.{length, getD, take, drop}
-use Rattle.model.specs.Base.{pick, only-if, all, any, same-list}
+use Rattle.model.specs.Base.{pick, all, any, same-list}
 use Rattle.model.specs.Forest.{Forest, nil, lit, node, kids, size, root}
-use Rattle.model.specs.Code.{Node, head, encode, decode, one-tree, weight, node-of}
+use Rattle.model.specs.Code.{Node, head, encode, decode, one-tree, node-of}
 use Rattle.model.specs.Clauses.{Clause, clauses}
 use Rattle.model.specs.Limits.{usual, most-rules, most-nodes, code-length}
 use Rattle.model.specs.Sheet.{body-node, options-in, numbers-in, nodes-in}

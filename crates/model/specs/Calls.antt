@@ -1,17 +1,17 @@
 -- What each call answers, and what each lent buffer holds after it.
-use mathlib.Core.Bool.{Bool, true, false, not, _&&_}
-use mathlib.Core.List.{List, [], _∷_, _++_}
+use mathlib.Core.Bool.{Bool, not, _&&_}
+use mathlib.Core.List.{List, _++_}
 use mathlib.Core.Option.{Option, none, some}
-use Prim.Native.Nat.{ℕ, _+_, _≤_}
+use Prim.Native.Nat.{ℕ, _+_}
 use lib.Dec.{eqb, leb, ltb}
 use lib.ListN.{length, drop}
 use Rattle.model.specs.Base
 use Rattle.model.specs.Base.{pick, only-if, first-of, is-some, maybe}
 use Rattle.model.specs.Literal.{Literal, pos, neg}
-use Rattle.model.specs.Code.{Node, weight}
+use Rattle.model.specs.Code.{weight}
 use Rattle.model.specs.Propagation.{Report, report, complete}
 use Rattle.model.specs.Rules.{step}
-use Rattle.model.specs.Strategy.{Run, run}
+use Rattle.model.specs.Strategy.{run}
 use Rattle.model.specs.Limits.{usual, sheet-length}
 use Rattle.model.specs.Sheet.{options-in, nodes-in, is-sheet, sheet-of, clauses-in, chosen}
 use Rattle.model.specs.Book.{options-of, head-in-limits, length-due, codes-of, codes-ok, contents-of, in-line, size-of, bodies-of, body-ok, book-nodes, written, option-of-code}

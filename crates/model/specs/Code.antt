@@ -1,13 +1,13 @@
 -- The prefix code: a tree as a list of nodes, "a node before its children".
-use mathlib.Core.Bool.{Bool, true, false}
-use mathlib.Core.List.{List, [], _∷_, _++_, map}
+use mathlib.Core.Bool.{Bool, false}
+use mathlib.Core.List.{List, [], _∷_, _++_}
 use mathlib.Core.Option.{Option, none, some}
 use Prim.Native.Nat.{ℕ, zero, suc, _+_, _-_, _*_, _/_, _%_}
 use lib.Dec.{eqb, leb}
 use lib.ListN.{length}
 use Rattle.model.specs.Base.{pick, only-if, then}
 use Rattle.model.specs.Literal.{Literal, pos, neg}
-use Rattle.model.specs.Forest.{Conn, and, or, root, Forest, nil, lit, node, size, first, after, _⊕_}
+use Rattle.model.specs.Forest.{Conn, and, or, root, Forest, nil, lit, node, size, first, after}
 
 -- A literal, or a connective with its number of children.
 pub data Node : Type 0 where

@@ -1,11 +1,11 @@
 -- "From loading on": the list of calls of demand 3, what it accepts, does and leaves.
-use mathlib.Core.Bool.{Bool, true, false}
+use mathlib.Core.Bool.{Bool, false}
 use mathlib.Core.List.{List, [], _∷_, _++_, map}
-use Prim.Native.Nat.{ℕ, zero, suc, _+_}
+use Prim.Native.Nat.{ℕ, zero, _+_, _*_}
 use Rattle.model.specs.Literal.{Literal}
 use Rattle.model.specs.Clauses.{Clause}
 use Rattle.model.specs.Book.{clauses-of-book}
-use Rattle.model.specs.Calls.{Answer, refused, accepted, Outcome, literal, chooseOf, stepOf, runOf, Ran}
+use Rattle.model.specs.Calls.{Answer, refused, accepted, literal, chooseOf, stepOf, runOf}
 
 -- "The list holds choices, single steps and runs, in any order and number, with any arguments."
 pub data Call : Type 0 where
@@ -47,6 +47,10 @@ steps-of-call (run b) s = if-accepted (runOf s b .answer) 0 (λ r. r .count)
 unfoldable pub steps-of : List Call → List ℕ → ℕ
 steps-of [] s = zero
 steps-of (c ∷ cs) s = steps-of-call c s + steps-of cs (after-call c s)
+
+-- "The cube of n + 2l."
+abbrev pub cube : ℕ → ℕ
+cube x = x * x * x
 
 -- "Where the list ends in a run that says settled."
 unfoldable pub says-settled : Call → List ℕ → Bool

@@ -1,5 +1,5 @@
 -- The limits of books and sheets, in one place.
-use Prim.Native.Nat.{ℕ, _+_}
+use Prim.Native.Nat.{ℕ}
 
 pub record Limits : Type 0 where
   pub options : ℕ

@@ -2,12 +2,13 @@
 use mathlib.Core.Bool.{Bool, true, false, _&&_, _||_, not}
 use mathlib.Core.List.{List, [], _∷_, _++_}
 use mathlib.Core.Option.{Option, none, some}
+use mathlib.Core.Path.{_≡_}
 use Prim.Native.Nat.{ℕ, zero, suc}
 use lib.Dec.{eqb, leb}
 use lib.ListN.{getElem?, take, drop}
 use Rattle.model.specs.Base.{pick, only-if, then}
 use Rattle.model.specs.Literal.{Literal, complement, option, same}
-use Rattle.model.specs.Forest.{Conn, and, or, root, same-conn, Forest, nil, lit, node, constant, _⊕_, size, first, after, kids, literal-at, conjunction-at, constant-at, literals-only, has-unit, mentions}
+use Rattle.model.specs.Forest.{Conn, and, or, root, same-conn, Forest, nil, lit, node, constant, _⊕_, size, first, after, literal-at, conjunction-at, constant-at, literals-only, has-unit, mentions}
 use Rattle.model.specs.Code.{Node, encode, decode}
 
 -- The connective whose empty group adds nothing among a node's children, and the one whose empty group decides it.
@@ -173,3 +174,11 @@ rewrite r i j (node c k f) = then (row-of r) (λ w. then (turn w c i j k) (λ g.
 unfoldable pub step : ℕ → ℕ → ℕ → ℕ → List Node → Option (List Node)
 step r place i j ns =
     then (rewrite r i j (decode (drop place ns))) (λ f. some (take place ns ++ encode f))
+
+-- "A rule applies when its conditions hold at some place, i and j." There the step gives some nodes.
+abbrev pub Applies : ℕ → ℕ → ℕ → ℕ → List Node → Type 0
+Applies r place i j ns = (ms : List Node) × (step r place i j ns ≡ some ms)
+
+-- No rule applies, whatever its number, at any place, i and j.
+abbrev pub NoRule : List Node → Type 0
+NoRule ns = (r place i j : ℕ) → step r place i j ns ≡ none

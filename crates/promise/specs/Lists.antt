@@ -9,18 +9,18 @@ use Rattle.model.specs.Literal.{Literal}
 use Rattle.model.specs.Code.{literals}
 use Rattle.model.specs.Clauses.{Derived, Contradictory}
 use Rattle.model.specs.Propagation.{report}
+use Rattle.model.specs.Rules.{NoRule}
 use Rattle.model.specs.Limits.{sheet-length}
 use Rattle.model.specs.Sheet.{options-in, nodes-in, is-sheet, sheet-of, clauses-in, is-unit, Falsum}
 use Rattle.model.specs.Book.{options-of, book-nodes, clauses-of-book}
 use Rattle.model.specs.Calls.{accepted, checkOf, loadOf, reportOf}
-use Rattle.model.specs.History.{Call, after-calls, choices-of, steps-of, ends-settled, choice-clauses, meaning}
-use Rattle.theory.specs.Strategy.{NoRule}
-use Rattle.theory.specs.Steps.{cube, steps-bound}
-use Rattle.theory.specs.Valuations.{SameModels, same-report, same-contradictory, same-derived}
+use Rattle.model.specs.History.{Call, after-calls, choices-of, steps-of, cube, ends-settled, choice-clauses, meaning}
+use Rattle.theory.specs.Steps.{steps-bound}
+use Rattle.theory.specs.Valuations.{SameModels, same-of, same-trans, same-report, same-contradictory, same-derived}
 use Rattle.theory.specs.Loading.{accepted-book, loaded-sheet, loaded-meaning}
 use Rattle.theory.specs.RoundTrips.{load-accepted}
 use Rattle.theory.specs.Sheets.{sheet-shaped, options-made}
-use Rattle.theory.specs.Effects.{Effect, calls-effect, same-of, same-trans}
+use Rattle.theory.specs.Effects.{Effect, calls-effect}
 use Rattle.theory.specs.Settled.{ends-no-rule, sheet-normal}
 use Rattle.promise.specs.Refusals.{check-none}
 use Rattle.promise.specs.Reports.{reported, Reported, report-given, propagation-exact}

@@ -10,8 +10,7 @@ use Rattle.model.specs.Book.{options-of, bodies-of, clauses-of-body, clauses-of
 use Rattle.model.specs.Propagation.{report}
 use Rattle.model.specs.Calls.{accepted, checkOf, loadOf, reportOf}
 use Rattle.model.specs.History.{Call, after-calls, choices-of, choice-clauses, meaning}
-use Rattle.theory.specs.Valuations.{same-report}
-use Rattle.theory.specs.Effects.{same-append}
+use Rattle.theory.specs.Valuations.{same-append, same-report}
 use Rattle.theory.specs.Reordered.{reordered-models}
 use Rattle.promise.specs.Reports.{reported}
 use Rattle.promise.specs.Lists.{demand-3}

@@ -2,20 +2,19 @@
 use mathlib.Core.Bool.{true}
 use mathlib.Core.List.{List, _++_}
 use mathlib.Core.Path.{_≡_, ap, _∙_}
-use Prim.Native.Nat.{ℕ, _≤_}
-use lib.ListN.{length, drop}
+use Prim.Native.Nat.{ℕ, _≤_, _<_}
+use lib.ListN.{length, getD, drop}
 use Rattle.model.specs.Sheet.{is-sheet, options-in}
 use Rattle.model.specs.Book.{options-of, written}
 use Rattle.model.specs.Limits.{sheet-length}
 use Rattle.model.specs.Calls.{accepted, checkOf, loadOf, writeOf}
-use Rattle.theory.specs.Bytes.{Bytes}
 use Rattle.theory.specs.RoundTrips as round
 use Rattle.theory.specs.Writing.{written-accepted, written-loads}
 use Rattle.promise.specs.Refusals.{check-none}
 
--- "A book loaded and written is the same bytes": the writer gives the book's bytes and its length, and bytes beyond stay. A slice
--- of bytes holds numbers below 256, which is what `Bytes` says.
-pub load-then-write : (book target out : List ℕ) → checkOf book ≡ accepted tt → Bytes book → length target ≡ sheet-length → length book ≤ length out → writeOf (loadOf book target .buffer) book out ≡ record { answer = accepted (length book); buffer = book ++ drop (length book) out }
+-- "A book loaded and written is the same bytes": the writer gives the book's bytes and its length, and bytes beyond stay. (A slice
+-- of bytes holds numbers below 256.)
+pub load-then-write : (book target out : List ℕ) → checkOf book ≡ accepted tt → ((i : ℕ) → getD book i 0 < 256) → length target ≡ sheet-length → length book ≤ length out → writeOf (loadOf book target .buffer) book out ≡ record { answer = accepted (length book); buffer = book ++ drop (length book) out }
 load-then-write book target out ok bytes = round.load-then-write book target out (check-none book .0 ok) bytes
 
 -- "A sheet written and loaded is the same sheet": for every sheet and every accepted book of its N.

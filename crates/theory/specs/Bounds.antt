@@ -1,40 +1,22 @@
 -- Bounds of the numbers of a step: whatever applies is one of the fourteen rules, at a place and at children that are there.
-use mathlib.Core.Bool.{Bool, true, false, _&&_}
-use mathlib.Core.List.{List, [], _∷_, _++_}
-use mathlib.Core.Logic.{_↔_}
-use mathlib.Core.Option.{Option, none, some}
-use mathlib.Core.Path.{_≡_, refl, sym, ap, _∙_}
+use mathlib.Core.Bool.{true, _&&_}
+use mathlib.Core.List.{List, [], _∷_}
+use mathlib.Core.Option.{Option, some}
+use mathlib.Core.Path.{_≡_, ap, _∙_}
 use Prim.Native.Nat.{ℕ, zero, suc, _≤_, _<_}
 use native.Mathlib.Omega.{arith}
 use borrow.Author.Tests.{eqb-true}
 use lib.Dec.{eqb}
-use lib.ListN.{length, take, drop, getElem?}
+use lib.ListN.{length, drop}
 use Rattle.model.specs.Base.{only-if, then}
 use Rattle.model.specs.Literal.{Literal}
-use Rattle.model.specs.Forest.{Conn, Forest, nil, lit, node, size, first, after, kids, literal-at, conjunction-at, constant-at, literals-only}
-use Rattle.model.specs.Code.{Node, encode, decode}
+use Rattle.model.specs.Forest.{Conn, Forest, size, first, after, kids, literal-at, conjunction-at, constant-at, literals-only}
+use Rattle.model.specs.Code.{Node, decode}
 use Rattle.model.specs.Rules.{neutral, deciding, absorb, omit, unwrap, spread, lift, merge, factor, Family, absorbs, omits, unwraps, spreads, lifts, merges, factors, change, Row, table, row-of, turn, rewrite, step}
-use Rattle.theory.specs.Logic.{none-some, and-split, only-some, then-some}
+use Rattle.theory.specs.Logic.{none-some, and-split, only-some, then-some, only-then}
+use Rattle.theory.specs.Lists.{element-within}
 use Rattle.theory.specs.Forests.{size-after, literal-here, conjunction-here, constant-here}
-
--- General laws.
-
-then-none : {A B : Type 0} (o : Option A) (h : A → B) → (then o (λ a. some (h a)) ≡ none) ↔ (o ≡ none)
-unfolding then
-then-none none h = ((λ e. refl), λ e. refl)
-then-none (some a) h = ((λ e. none-some (sym e)), λ e. none-some (sym e))
-
-only-then : {A B : Type 0} (b : Bool) (a : A) (f : A → Option B) {y : B} → then (only-if b a) f ≡ some y → (b ≡ true) × (f a ≡ some y)
-unfolding then only-if
-only-then true a f e = (refl, e)
-only-then false a f e = none-some e
-
-element-within : {A : Type 0} (l : List A) (i : ℕ) {a : A} → getElem? l i ≡ some a → i < length l
-element-within [] i e = none-some e
-element-within (x ∷ l) zero e = omega arith
-element-within (x ∷ l) (suc i) e = let h = element-within l i e in omega arith
-
--- Bounds: what a rule applies to is there.
+use Rattle.theory.specs.Inversion.{rewritten}
 
 -- Child i is there, and j is 0 or an inner child that is there.
 abbrev Inside : ℕ → ℕ → Forest → Type 0
@@ -93,24 +75,12 @@ pub record Within (r i j : ℕ) (f : Forest) : Type 0 where
   pub inner : j < suc (size (kids (after i (kids f))))
 
 pub rewrite-within : (r i j : ℕ) (f : Forest) {g : Forest} → rewrite r i j f ≡ some g → Within r i j f
-unfolding rewrite turn kids
-rewrite-within r i j nil e = none-some e
-rewrite-within r i j (lit l f) e = none-some e
-rewrite-within r i j (node c k f) e =
-    let w = then-some (row-of r) _ e in
-    let v = then-some (turn (w .0) c i j k) _ (w .2) in
-    let rule = row-within r (w .1) in
-    let there = change-inside (w .0 .family) c i j k (only-then _ k _ (v .1) .1) in
-    record { rule-low = rule .0; rule-high = rule .1; child = there .0; inner = there .1 }
-
--- A step, or that there is none, from the rule on the forest that stands at the place.
-pub step-some : (r p i j : ℕ) (ns : List Node) {f : Forest} → rewrite r i j (decode (drop p ns)) ≡ some f → step r p i j ns ≡ some (take p ns ++ encode f)
-unfolding step then
-step-some r p i j ns e = rw e
-
-pub step-none : (r p i j : ℕ) (ns : List Node) → (step r p i j ns ≡ none) ↔ (rewrite r i j (decode (drop p ns)) ≡ none)
-unfolding step
-step-none r p i j ns = then-none (rewrite r i j (decode (drop p ns))) (λ f. take p ns ++ encode f)
+unfolding turn kids
+rewrite-within r i j f e =
+    let w = rewritten r i j f e in
+    let rule = row-within r (w .of-rule) in
+    let there = change-inside (w .row .family) (w .conn) i j (w .children) (only-then _ (w .children) _ (w .turned) .1) in
+    rw (w .was) (record { rule-low = rule .0; rule-high = rule .1; child = there .0; inner = there .1 })
 
 place-within : (p : ℕ) (ns : List Node) {i : ℕ} → i < size (kids (decode (drop p ns))) → p < length ns
 unfolding size kids decode

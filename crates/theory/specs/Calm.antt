@@ -1,38 +1,19 @@
 -- Lists of nodes to which no rule applies: no node of the forest that they spell can be turned, at any depth.
-use mathlib.Core.Bool.{Bool, true, _&&_, not}
 use mathlib.Core.List.{List, [], _∷_, _++_, append-assoc, append-nil}
-use mathlib.Core.Option.{Option, none, some}
-use mathlib.Core.Path.{_≡_, refl, sym, ap, subst, _∙_}
+use mathlib.Core.Option.{none}
+use mathlib.Core.Path.{_≡_, sym, ap, subst, _∙_}
 use Prim.{Unit, tt}
 use Prim.Native.Nat.{ℕ, _+_}
 use lib.ListN.{length, drop}
 use lib.Seq.{drop-append-add}
 use Rattle.model.specs.Base.{then}
-use Rattle.model.specs.Forest.{Conn, root, same-conn, Forest, nil, lit, node, _⊕_, size}
+use Rattle.model.specs.Forest.{Conn, Forest, nil, lit, node, _⊕_, size}
 use Rattle.model.specs.Code.{Node, leaf, head, encode, decode}
-use Rattle.model.specs.Rules.{row-of, turn, rewrite, step}
-use Rattle.theory.specs.Logic.{none-some}
+use Rattle.model.specs.Rules.{row-of, turn, rewrite, NoRule}
+use Rattle.theory.specs.Logic.{then-then-none}
 use Rattle.theory.specs.Forests.{node-⊕}
 use Rattle.theory.specs.Codes.{decode-encode-++}
-
--- General laws
-
--- What is made of an answer in any case is missing only where the answer is.
-then-none : {A B : Type 0} (o : Option A) (f : A → B) → then o (λ x. some (f x)) ≡ none → o ≡ none
-unfolding then
-then-none none f e = refl
-then-none (some a) f e = none-some (sym e)
-
-then-then-none : {A B C : Type 0} (o : Option A) (t : A → Option B) (f : B → C) → then o (λ x. then (t x) (λ y. some (f y))) ≡ none → then o t ≡ none
-unfolding then
-then-then-none none t f e = refl
-then-then-none (some a) t f e = then-none (t a) f e
-
--- Where no rule applies
-
--- No rule applies to the list of nodes, at any place.
-abbrev pub NoRule : List Node → Type 0
-NoRule ns = (r p i j : ℕ) → step r p i j ns ≡ none
+use Rattle.theory.specs.Inversion.{step-none}
 
 -- No rule turns a node of this connective with these children.
 abbrev pub Still : Conn → Forest → Type 0
@@ -43,12 +24,6 @@ abbrev pub Calm : Forest → Type 0
 Calm nil = Unit {0}
 Calm (lit l f) = Calm f
 Calm (node c k f) = Still c k × Calm k × Calm f
-
--- No root among the trees, at any depth.
-unfoldable pub no-root : Forest → Bool
-no-root nil = true
-no-root (lit l f) = no-root f
-no-root (node c k f) = not (same-conn root c) && no-root k && no-root f
 
 -- The same as `NoRule`, by the forest that is read from each place on.
 abbrev Unchanged : List Node → Type 0
@@ -72,5 +47,4 @@ calm-before (node c k f) ns h =
 
 -- Where no rule applies to a forest's code, every node of the forest is still.
 pub calm : (f : Forest) → NoRule (encode f) → Calm f
-unfolding step
-calm f h = calm-before f [] (rw append-nil (λ r p i j. then-none (rewrite r i j (decode (drop p (encode f)))) _ (h r p i j)))
+calm f h = calm-before f [] (rw append-nil (λ r p i j. step-none r p i j (encode f) .0 (h r p i j)))

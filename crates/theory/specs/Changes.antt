@@ -1,8 +1,9 @@
 -- The rules as a relation: one constructor a family, with the children written as what stands before, at and after the
 -- child that the rule is about. Soundness, measure and form are shown by matching on it.
 use mathlib.Core.Bool.{true}
+use mathlib.Core.Logic.{_⊎_, inl, inr}
 use mathlib.Core.Path.{_≡_}
-use Prim.Native.Nat.{ℕ, _≤_}
+use Prim.Native.Nat.{_≤_}
 use Rattle.model.specs.Literal.{Literal, option}
 use Rattle.model.specs.Forest.{Conn, and, or, root, Forest, nil, lit, node, constant, _⊕_, size, mentions}
 use Rattle.model.specs.Rules.{neutral, deciding, assigned, shares, units, groups-without, groups}
@@ -16,3 +17,13 @@ pub data Change : Conn → Forest → Forest → Type 0 where
   lifted : {c : Conn} {k g : Forest} (p a b q : Forest) (l : Literal) → (c ≡ or → ⊥) → k ≡ p ⊕ node and (a ⊕ lit l b) q → g ≡ node c (p ⊕ lit l (node and (a ⊕ b) q)) nil → Change c k g
   merged : {c : Conn} {k g : Forest} (p a q : Forest) → c ≡ and → k ≡ p ⊕ node and a q → g ≡ node c (p ⊕ a ⊕ q) nil → Change c k g
   factored : {c : Conn} {k g : Forest} (a : Literal) → c ≡ or → shares a k ≡ true → 2 ≤ groups k → g ≡ node c (units k ⊕ node and (lit a (node or (groups-without a k) nil)) nil) nil → Change c k g
+
+-- A change leaves the node with other children or, below the root, its only child.
+pub change-node : {c : Conn} {k g : Forest} → Change c k g → ((m : Forest) × (g ≡ node c m nil)) ⊎ ((c ≡ root → ⊥) × (size k ≡ 1) × (g ≡ k))
+change-node (absorbed p q e n r) = inl (_, r)
+change-node (omitted p q e r) = inl (_, r)
+change-node (unwrapped n e r) = inr (n, e, r)
+change-node (spreaded p q l n e m r) = inl (_, r)
+change-node (lifted p a b q l n e r) = inl (_, r)
+change-node (merged p a q n e r) = inl (_, r)
+change-node (factored a n e m r) = inl (_, r)

@@ -11,18 +11,9 @@ use Rattle.model.specs.Code.{Node, leaf, head, encode, literals, weight}
 use Rattle.model.specs.Sheet.{with-child, chosen}
 use Rattle.theory.specs.Logic.{and-join}
 use Rattle.theory.specs.Forests.{size-⊕}
-use Rattle.theory.specs.Codes.{encode-⊕}
+use Rattle.theory.specs.Codes.{encode-⊕, literals-append}
 use Rattle.theory.specs.Fine.{fine, fine-⊕}
-use Rattle.theory.specs.Shape.{Shaped}
-use Rattle.theory.specs.Sheets.{shaped-flat, shaped-decode}
-
--- General laws.
-
-pub literals-append : (xs ys : List Node) → literals (xs ++ ys) ≡ literals xs + literals ys
-unfolding literals
-literals-append [] ys = omega arith
-literals-append (leaf l ∷ xs) ys = omega (arith, literals-append xs ys)
-literals-append (head c k ∷ xs) ys = literals-append xs ys
+use Rattle.theory.specs.Shape.{Shaped, shaped-flat, shaped-decode}
 
 -- A choice puts its mark as the last child of the root: one node more at the end, and one child more at the head.
 module _ {n : ℕ} {ns : List Node} (l : Literal) (form : Shaped n ns) where

@@ -1,15 +1,17 @@
--- The contents of a book: pairs in line are exactly the places of bodies of such node counts, one after another.
+-- The contents of a book: pairs in line are exactly the places of bodies of such node counts, one after another, and cut the
+-- numbers into these bodies.
 use mathlib.Core.Bool.{true, _&&_, and-assoc}
-use mathlib.Core.List.{List, [], _∷_, map}
+use mathlib.Core.List.{List, [], _∷_, map, _++_, flatten}
 use mathlib.Core.Path.{_≡_, refl, sym, ap, ap₂, _∙_}
-use Prim.Native.Nat.{ℕ, zero, suc, _+_, _<_}
-use native.Mathlib.Omega.{arith}
+use Prim.Native.Nat.{ℕ, zero, suc, _+_, _<_, _≤_}
 use native.Mathlib.Nat.{add-zero, add-assoc}
+use native.Mathlib.Omega.{arith}
 use borrow.Author.Tests.{eqb-true, eq-eqb}
 use lib.Dec.{eqb, leb}
-use lib.ListN.{length}
+use lib.ListN.{length, take, drop, length-drop, take-append-drop}
+use lib.Seq.{length-take-le}
 use Rattle.model.specs.Base.{all}
-use Rattle.model.specs.Book.{Entry, in-line, lined-up}
+use Rattle.model.specs.Book.{Entry, in-line, lined-up, cut}
 use Rattle.theory.specs.Logic.{and-split}
 use Rattle.theory.specs.Bytes.{Below, below-cons, flat}
 
@@ -59,6 +61,27 @@ in-line-means t sum es h =
     let are = in-line-are t sum es h in
     let s = and-split (all (leb 1) ks) (eqb (sum + total ks) t) (sym (in-line-places t sum ks) ∙ ap (in-line t sum) (sym are) ∙ h) in
     (are, s .0, eqb-true (sum + total ks) t (s .1))
+
+-- The contents cut numbers into as many parts. Where there are numbers enough, the parts are as long as the counts say; where
+-- there are just enough, the parts put together are the numbers again.
+pub length-cut : (es : List Entry) (xs : List ℕ) → length (cut es xs) ≡ length es
+unfolding cut
+length-cut [] xs = refl
+length-cut (e ∷ es) xs = ap suc (length-cut es (drop (e .count) xs))
+
+pub lengths-cut : (es : List Entry) (xs : List ℕ) → total (node-counts es) ≤ length xs → map length (cut es xs) ≡ node-counts es
+unfolding total cut
+lengths-cut [] xs h = refl
+lengths-cut (e ∷ es) xs h =
+    ap₂ _∷_ (length-take-le (e .count) xs (omega arith)) (lengths-cut es (drop (e .count) xs) (omega (arith, length-drop (e .count) xs)))
+
+pub flatten-cut : (es : List Entry) (xs : List ℕ) → total (node-counts es) ≡ length xs → flatten (cut es xs) ≡ xs
+unfolding total cut flatten
+flatten-cut [] [] h = refl
+flatten-cut [] (x ∷ xs) h = absurd (omega arith)
+flatten-cut (e ∷ es) xs h =
+    ap (λ r. take (e .count) xs ++ r) (flatten-cut es (drop (e .count) xs) (omega (arith, length-drop (e .count) xs)))
+    ∙ take-append-drop (e .count) xs
 
 -- Every number of the contents is below what the sum of the counts is below.
 pub below-places : (m sum : ℕ) (ks : List ℕ) → sum + total ks < m → Below m (lined-up sum ks)

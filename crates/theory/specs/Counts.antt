@@ -1,42 +1,24 @@
 -- The node counts of the trees of a forest: they cut its code into the codes of its trees.
-use mathlib.Core.Bool.{Bool, true, _&&_}
+use mathlib.Core.Bool.{true}
 use mathlib.Core.List.{List, [], _∷_, _++_, map, append-nil}
 use mathlib.Core.Path.{_≡_, refl, sym, ap, ap₂, _∙_}
-use Prim.Native.Nat.{ℕ, zero, suc, _+_, _≤_}
+use Prim.Native.Nat.{ℕ, suc, _+_}
 use native.Mathlib.Omega.{arith}
 use borrow.Author.Tests.{le-leb}
 use lib.Dec.{leb}
-use lib.ListN.{length, take, drop, length-append, length-map, length-drop, take-append-drop}
-use lib.Seq.{take-at, drop-at, length-take-le}
+use lib.ListN.{length, take, drop, length-append, length-map}
+use lib.Seq.{take-at, drop-at}
 use Rattle.model.specs.Base.{all}
 use Rattle.model.specs.Forest.{Forest, nil, lit, node, _⊕_, size}
 use Rattle.model.specs.Code.{encode, decode, exactly-one, one-tree, node-of}
 use Rattle.model.specs.Sheet.{body-node}
 use Rattle.model.specs.Book.{cut, body-ok, counts}
-use Rattle.theory.specs.Logic.{and-split, and-join, all-append}
+use Rattle.theory.specs.Logic.{and-split, and-join}
+use Rattle.theory.specs.Lists.{map-take, map-drop, all-cut}
 use Rattle.theory.specs.Forests.{size-zero}
-use Rattle.theory.specs.Codes.{encode-⊕, encode-decode}
-use Rattle.theory.specs.Shape.{trees-code}
-use Rattle.theory.specs.Sheets.{one-tree-is}
-use Rattle.theory.specs.Loading.{forest-of}
+use Rattle.theory.specs.Codes.{encode-⊕, trees-code}
 use Rattle.theory.specs.Contents.{total, places}
-
--- General laws.
-
-module _ {A B : Type 0} (f : A → B) where
-  pub map-take : (n : ℕ) (xs : List A) → map f (take n xs) ≡ take n (map f xs)
-  map-take zero xs = refl
-  map-take (suc n) [] = refl
-  map-take (suc n) (x ∷ xs) = ap (λ r. f x ∷ r) (map-take n xs)
-
-  pub map-drop : (n : ℕ) (xs : List A) → map f (drop n xs) ≡ drop n (map f xs)
-  map-drop zero xs = refl
-  map-drop (suc n) [] = refl
-  map-drop (suc n) (x ∷ xs) = map-drop n xs
-
--- A test holds of a list where it holds of the two parts that the list is cut into.
-pub all-cut : {A : Type 0} (p : A → Bool) (n : ℕ) (xs : List A) → all p xs ≡ (all p (take n xs) && all p (drop n xs))
-all-cut p n xs = ap (all p) (sym (take-append-drop n xs)) ∙ all-append p (take n xs) (drop n xs)
+use Rattle.theory.specs.Loading.{forest-of, body-tree}
 
 pub counts-⊕ : (f g : Forest) → counts (f ⊕ g) ≡ counts f ++ counts g
 unfolding counts _⊕_
@@ -95,20 +77,12 @@ bodies-ok n sum (node c k f) xs e h =
 
 -- And the tree of each well-formed body has as many nodes as the body has numbers.
 pub counts-bodies : (n : ℕ) (xss : List (List ℕ)) → all (body-ok n) xss ≡ true → counts (forest-of xss) ≡ map length xss
-unfolding counts all forest-of body-ok
+unfolding counts all forest-of
 counts-bodies n [] h = refl
 counts-bodies n (xs ∷ xss) h =
     let s = and-split (body-ok n xs) (all (body-ok n) xss) h in
     let t : Forest = decode (map node-of xs) in
-    let one = and-split (all (body-node n) xs) (one-tree (map node-of xs)) (s .0) .1 in
-    let tree = encode-decode (map node-of xs) 1 (one-tree-is (map node-of xs) one) in
+    let tree = body-tree n xs (s .0) in
     counts-⊕ t (forest-of xss)
     ∙ ap₂ _++_ (counts-one t (tree .1)) (counts-bodies n xss (s .1))
     ∙ ap (λ k. k ∷ map length xss) (ap length (tree .0) ∙ length-map xs node-of)
-
--- Numbers that are enough for these counts are cut into parts of these lengths.
-pub lengths-cut : (sum : ℕ) (ks xs : List ℕ) → total ks ≤ length xs → map length (cut (places sum ks) xs) ≡ ks
-unfolding total cut places
-lengths-cut sum [] xs h = refl
-lengths-cut sum (k ∷ ks) xs h =
-    ap₂ _∷_ (length-take-le k xs (omega arith)) (lengths-cut (sum + k) ks (drop k xs) (omega (arith, length-drop k xs)))

@@ -1,50 +1,34 @@
 -- What a call does to a sheet, and what a list of calls does: one invariant through the whole list.
 use mathlib.Core.Bool.{Bool, true, false, not, _&&_}
-use mathlib.Core.List.{List, [], _∷_, _++_, map, map-append, append-nil, append-assoc, cons-ne-nil}
-use mathlib.Core.Logic.{_↔_, Iff·rfl, Iff·trans, Iff·symm}
+use mathlib.Core.List.{List, [], _∷_, _++_, map-append, append-nil, append-assoc, cons-ne-nil, append-eq-nil-iff}
+use mathlib.Core.Logic.{Iff·rfl, Iff·trans, Iff·symm}
 use mathlib.Core.Option.{Option, none, some}
-use mathlib.Core.Path.{_≡_, refl, sym, ap, subst, _∙_}
-use Prim.Native.Nat.{ℕ, zero, suc, _+_, _≤_, _<_}
-use native.Mathlib.Nat.{zero-add}
+use mathlib.Core.Path.{_≡_, refl, sym, ap, _∙_}
+use Prim.Native.Nat.{ℕ, _+_, _≤_, _<_}
 use native.Mathlib.Omega.{arith}
 use borrow.Author.Tests.{ltb-true, ltb-false, not-false}
 use lib.Dec.{ltb, leb}
 use Rattle.model.specs.Base.{pick, only-if, first-of, is-some, maybe}
-use Rattle.model.specs.Literal.{Literal, pos, neg, option}
-use Rattle.model.specs.Forest.{root, Forest, nil, lit, node, _⊕_}
-use Rattle.model.specs.Code.{Node, encode, decode, weight}
-use Rattle.model.specs.Clauses.{Clause, clauses, join, no-child}
+use Rattle.model.specs.Literal.{Literal, option}
+use Rattle.model.specs.Forest.{root, nil, lit, node, _⊕_}
+use Rattle.model.specs.Code.{Node, decode, weight}
+use Rattle.model.specs.Clauses.{clauses}
 use Rattle.model.specs.Rules as rules
 use Rattle.model.specs.Strategy as strategy
-use Rattle.model.specs.Limits.{usual}
 use Rattle.model.specs.Sheet.{options-in, nodes-in, is-sheet, sheet-of, clauses-in, chosen}
-use Rattle.model.specs.Calls.{Refusal, sheet-refused, option-refused, full-refused, rule-refused, step-refused, Answer, refused, accepted, Outcome, outcome, literal, chooseOf, stepOf, runOf, Ran}
+use Rattle.model.specs.Calls.{Refusal, sheet-refused, option-refused, full-refused, rule-refused, step-refused, outcome, literal, chooseOf, stepOf, runOf, accepted}
 use Rattle.model.specs.History.{Call, choose, step, run, after-call, after-calls, if-accepted, choice-of, choices-of, steps-of-call, steps-of, choice-clauses}
-use Rattle.theory.specs.Logic.{true-false, not-is, is-some-of}
+use Rattle.theory.specs.Logic.{is-some-of, only-none, none-due}
 use Rattle.theory.specs.Codes.{decode-encode}
-use Rattle.theory.specs.Valuations.{Model, SameModels, model-append, model-holds}
+use Rattle.theory.specs.Clauses.{clauses-⊕, clauses-root, clauses-lit}
+use Rattle.theory.specs.Valuations.{SameModels, model-holds, same-of, same-trans, same-append}
 use Rattle.theory.specs.Soundness.{step-holds}
-use Rattle.theory.specs.Shape.{Shaped, shaped-rooted, step-shaped}
+use Rattle.theory.specs.Shape.{Shaped, shaped-rooted, step-shaped, shaped-decode}
 use Rattle.theory.specs.Steps.{Steps, done, more, steps-append, steps-shaped, steps-weight}
 use Rattle.theory.specs.Runs as runs
 use Rattle.theory.specs.Runs.{Strategy-steps, run-steps, step-of}
-use Rattle.theory.specs.Sheets.{sheet-shaped, sheet-options, sheet-weight, sheet-made, nodes-made, options-made, shaped-decode}
+use Rattle.theory.specs.Sheets.{sheet-shaped, sheet-options, sheet-weight, sheet-made, nodes-made, options-made}
 use Rattle.theory.specs.Choice.{chosen-is, chosen-shaped, chosen-weight}
-use Rattle.theory.specs.Loading.{only-none, none-due, clauses-⊕, clauses-root}
-
--- Equal clauses have the same models, and the relation is transitive.
-pub same-of : {cs ds : List Clause} → cs ≡ ds → SameModels cs ds
-same-of {cs} e u = subst (λ xs. Model u cs ↔ Model u xs) e Iff·rfl
-
-pub same-trans : {cs ds es : List Clause} → SameModels cs ds → SameModels ds es → SameModels cs es
-same-trans p q u = Iff·trans (p u) (q u)
-
--- The same clauses more keep the same models.
-pub same-append : {cs ds : List Clause} (es : List Clause) → SameModels cs ds → SameModels (cs ++ es) (ds ++ es)
-same-append {cs} {ds} es p u =
-    let a = model-append u cs es in
-    let b = model-append u ds es in
-    ((λ m. b .1 (p u .0 (a .0 m .0), a .0 m .1)), λ m. a .1 (p u .1 (b .0 m .0), b .0 m .1))
 
 -- Steps keep the models of the rules.
 pub steps-models : {n k : ℕ} {ns ms : List Node} → Shaped n ns → Steps k ns ms → SameModels (clauses root (decode ms)) (clauses root (decode ns))
@@ -77,14 +61,16 @@ pub choice-append : (ls ms : List Literal) → choice-clauses (ls ++ ms) ≡ cho
 unfolding choice-clauses
 choice-append ls ms = map-append (λ l. l ∷ []) ls ms
 
-no-choice : (ls ms : List Literal) → ls ++ ms ≡ [] → (ls ≡ []) × (ms ≡ [])
-no-choice [] ms e = (refl, e)
-no-choice (l ∷ ls) ms e = absurd (cons-ne-nil l (ls ++ ms) e)
-
 -- Nothing done.
 pub still : (s : List ℕ) → is-sheet s ≡ true → Effect s s [] 0
 unfolding choice-clauses
 still s h = record { sheet = h; options = refl; models = same-of (sym (append-nil (clauses-in s))); steps = λ e. done }
+
+-- The nodes of the sheet that steps leave.
+steps-leave : (s : List ℕ) {k : ℕ} {ms : List Node} → is-sheet s ≡ true → Steps k (nodes-in s) ms → nodes-in (sheet-of (options-in s) ms) ≡ ms
+steps-leave s h t =
+    let form = sheet-shaped s h in
+    nodes-made (sheet-options s h) (steps-shaped form t) (omega (arith, sheet-weight s h, steps-weight form t))
 
 -- Steps done on a sheet.
 stepped-effect : (s : List ℕ) {k : ℕ} {ms : List Node} → is-sheet s ≡ true → Steps k (nodes-in s) ms → Effect s (sheet-of (options-in s) ms) [] k
@@ -92,7 +78,7 @@ unfolding clauses-in choice-clauses
 stepped-effect s {k} {ms} h t =
     let form = sheet-shaped s h in
     let light : weight ms ≤ 4096 = omega (arith, sheet-weight s h, steps-weight form t) in
-    let back = nodes-made (sheet-options s h) (steps-shaped form t) light in
+    let back = steps-leave s h t in
     record {
       sheet = sheet-made (sheet-options s h) (steps-shaped form t) light;
       options = options-made (options-in s) ms;
@@ -105,10 +91,6 @@ unfolding option literal pick
 option-literal v true = refl
 option-literal v false = refl
 
-unit-clauses : (l : Literal) → clauses root (lit l nil) ≡ (l ∷ []) ∷ []
-unfolding clauses join no-child
-unit-clauses l = refl
-
 -- The clauses after a choice are those before it, and the clause of its literal alone.
 chosen-clauses : (l : Literal) {n : ℕ} {ns : List Node} → Shaped n ns → clauses root (decode (chosen l ns)) ≡ clauses root (decode ns) ++ ((l ∷ []) ∷ [])
 chosen-clauses l {ns = ns} form =
@@ -118,7 +100,7 @@ chosen-clauses l {ns = ns} form =
     ∙ clauses-root (k ⊕ lit l nil)
     ∙ clauses-⊕ k (lit l nil)
     ∙ ap (λ cs. cs ++ clauses root (lit l nil)) (sym (ap (clauses root) (shaped-decode form) ∙ clauses-root k))
-    ∙ ap (λ cs. clauses root (decode ns) ++ cs) (unit-clauses l)
+    ∙ ap (λ cs. clauses root (decode ns) ++ cs) (clauses-lit l)
 
 -- A literal chosen on a sheet that has room for it.
 chosen-effect : (s : List ℕ) (l : Literal) → is-sheet s ≡ true → option l < options-in s → weight (nodes-in s) + 2 ≤ 4096 → Effect s (sheet-of (options-in s) (chosen l (nodes-in s))) (l ∷ []) 0
@@ -191,29 +173,17 @@ step-effect s r p i j h = go _ refl
         one (w .0) (w .1)
     go (some x) e = still s h
 
--- The nodes that a run leaves on the sheet.
+-- A run on a sheet is accepted, and the sheet then holds the nodes that it leaves.
+pub run-accepted : (s : List ℕ) (b : ℕ) → is-sheet s ≡ true → runOf s b ≡ record { answer = accepted (record { settled = strategy.run b (nodes-in s) .settled; count = strategy.run b (nodes-in s) .count }); buffer = sheet-of (options-in s) (strategy.run b (nodes-in s) .nodes) }
+unfolding runOf outcome only-if
+run-accepted s b h = rw h
+
 pub run-leaves : (s : List ℕ) (b : ℕ) → is-sheet s ≡ true → nodes-in (sheet-of (options-in s) (strategy.run b (nodes-in s) .nodes)) ≡ strategy.run b (nodes-in s) .nodes
-run-leaves s b h =
-    let form = sheet-shaped s h in
-    let t = strategy-steps (run-steps b (nodes-in s)) in
-    nodes-made (sheet-options s h) (steps-shaped form t) (omega (arith, sheet-weight s h, steps-weight form t))
+run-leaves s b h = steps-leave s h (strategy-steps (run-steps b (nodes-in s)))
 
 run-effect : (s : List ℕ) (b : ℕ) → is-sheet s ≡ true → Effect s (after-call (run b) s) (choice-of (run b) s) (steps-of-call (run b) s)
-unfolding after-call choice-of steps-of-call runOf outcome if-accepted
-run-effect s b h = go (only-if (not (is-sheet s)) sheet-refused)
-  where
-    ran : strategy.Run
-    ran = strategy.run b (nodes-in s)
-
-    said : Ran
-    said = record { settled = ran .settled; count = ran .count }
-
-    filled : List ℕ
-    filled = sheet-of (options-in s) (ran .nodes)
-
-    go : (o : Option Refusal) → Effect s (outcome o said s filled .buffer) [] (if-accepted (outcome o said s filled .answer) 0 (λ r. r .count))
-    go none = stepped-effect s h (strategy-steps (run-steps b (nodes-in s)))
-    go (some x) = still s h
+unfolding after-call choice-of steps-of-call if-accepted
+run-effect s b h = rw (run-accepted s b h, after-call) (stepped-effect s h (strategy-steps (run-steps b (nodes-in s))))
 
 -- What each call does to a sheet.
 pub call-effect : (c : Call) (s : List ℕ) → is-sheet s ≡ true → Effect s (after-call c s) (choice-of c s) (steps-of-call c s)
@@ -228,7 +198,7 @@ effect-then {s} {t} {u} {ls} {ms} {j} {k} e f =
       sheet = f .sheet;
       options = f .options ∙ e .options;
       models = same-trans (f .models) (same-trans (same-append (choice-clauses ms) (e .models)) (same-of (append-assoc (clauses-in s) (choice-clauses ls) (choice-clauses ms) ∙ ap (λ cs. clauses-in s ++ cs) (sym (choice-append ls ms)))));
-      steps = λ none. let w = no-choice ls ms none in steps-append (e .steps (w .0)) (f .steps (w .1));
+      steps = λ none. let w = append-eq-nil-iff {p = ls} {q = ms} .0 none in steps-append (e .steps (w .0)) (f .steps (w .1));
     }
 
 -- What a list of calls does to a sheet.

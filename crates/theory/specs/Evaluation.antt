@@ -1,14 +1,14 @@
 -- Evaluation: which trees fail under a set of failed literals, and the bridge from the multiplied-out clauses to it.
-use mathlib.Core.Bool.{Bool, true, false, _&&_, _||_}
+use mathlib.Core.Bool.{Bool, true, false, _&&_, _||_, and-false, and-true, or-false, and-or-distrib-left, and-or-distrib-right}
 use mathlib.Core.List.{List, [], _∷_, _++_, map}
-use mathlib.Core.Path.{_≡_, refl, sym, ap, ap₂, _∙_}
+use mathlib.Core.Path.{_≡_, refl, sym, ap₂, _∙_}
 use Prim.Native.Nat.{ℕ, _≤_, _-_}
 use lib.Dec.{eqb}
 use Rattle.model.specs.Base.{all, any}
 use Rattle.model.specs.Literal.{Literal, pos, neg, same}
 use Rattle.model.specs.Forest.{Conn, and, or, root, Forest, nil, lit, node}
 use Rattle.model.specs.Clauses.{Clause, unions, no-child, join, clauses}
-use Rattle.theory.specs.Logic.{all-append, any-append}
+use Rattle.theory.specs.Lists.{all-append, any-append}
 
 -- A set of literals, by its test. A literal and its complement are independent here.
 abbrev pub Set : Type 0
@@ -43,17 +43,9 @@ some-inside s cs = any (all s) cs
 
 unions-one : (s : Set) (c : Clause) (ds : List Clause) → any (all s) (map (λ d. c ++ d) ds) ≡ (all s c && any (all s) ds)
 unfolding any
-unions-one s c [] = go (all s c)
-  where
-    go : (b : Bool) → false ≡ (b && false)
-    go true = refl
-    go false = refl
+unions-one s c [] = sym (and-false (all s c))
 unions-one s c (d ∷ ds) =
-    ap₂ _||_ (all-append s c d) (unions-one s c ds) ∙ go (all s c) (all s d) (any (all s) ds)
-  where
-    go : (a b r : Bool) → ((a && b) || (a && r)) ≡ (a && (b || r))
-    go true b r = refl
-    go false b r = refl
+    ap₂ _||_ (all-append s c d) (unions-one s c ds) ∙ sym (and-or-distrib-left (all s c) (all s d) (any (all s) ds))
 
 unions-inside : (s : Set) (cs ds : List Clause) → any (all s) (unions cs ds) ≡ (any (all s) cs && any (all s) ds)
 unfolding any unions
@@ -61,14 +53,7 @@ unions-inside s [] ds = refl
 unions-inside s (c ∷ cs) ds =
     any-append (all s) (map (λ d. c ++ d) ds) (unions cs ds)
     ∙ ap₂ _||_ (unions-one s c ds) (unions-inside s cs ds)
-    ∙ go (all s c) (any (all s) cs) (any (all s) ds)
-  where
-    go : (a b r : Bool) → ((a && r) || (b && r)) ≡ ((a || b) && r)
-    go true true true = refl
-    go true true false = refl
-    go true false true = refl
-    go true false false = refl
-    go false b r = refl
+    ∙ sym (and-or-distrib-right (all s c) (any (all s) cs) (any (all s) ds))
 
 join-inside : (s : Set) (c : Conn) (cs ds : List Clause) → some-inside s (join c cs ds) ≡ fails-both c (some-inside s cs) (some-inside s ds)
 unfolding some-inside join fails-both
@@ -84,11 +69,7 @@ none-inside s root = refl
 
 unit-inside : (s : Set) (l : Literal) → some-inside s ((l ∷ []) ∷ []) ≡ s l
 unfolding some-inside any all
-unit-inside s l = go (s l)
-  where
-    go : (b : Bool) → ((b && true) || false) ≡ b
-    go true = refl
-    go false = refl
+unit-inside s l = or-false (s l && true) ∙ and-true (s l)
 
 -- The bridge: some clause lies inside the set exactly where the tree fails under it.
 pub bridge : (s : Set) (c : Conn) (f : Forest) → some-inside s (clauses c f) ≡ fails s c f

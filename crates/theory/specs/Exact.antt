@@ -1,65 +1,21 @@
 -- Propagation is exact: facts that are sound and closed are the derived literals, and propagation arrives at such facts.
 use mathlib.Core.Bool.{Bool, true, false, _&&_, _||_, not}
-use mathlib.Core.List.{List, [], _∷_, flatten, List·Memᴰ, List·Memᴰ·head, List·Memᴰ·tail, Memᴰ·append-left, Memᴰ·append-right}
+use mathlib.Core.List.{List, [], _∷_, flatten, List·Memᴰ, List·Memᴰ·head, List·Memᴰ·tail}
 use mathlib.Core.Logic.{_⊎_, inl, inr, ⊎-elim, _↔_}
 use mathlib.Core.Option.{Option, none, some}
 use mathlib.Core.Path.{_≡_, refl, sym, ap, _∙_}
 use Prim.Native.Nat.{ℕ, zero, suc, _+_, _≤_}
 use native.Mathlib.Omega.{arith}
+use borrow.Author.Tests.{not-true}
 use lib.ListN.{length}
-use Rattle.model.specs.Base.{pick, only-if, first-of, maybe, all, any}
+use Rattle.model.specs.Base.{pick, only-if, maybe, any}
 use Rattle.model.specs.Literal.{Literal, complement, same, has}
 use Rattle.model.specs.Clauses.{Clause, Derived, derived, Contradictory}
 use Rattle.model.specs.Propagation.{others, refuted, forced-in, forced, propagate, facts-of, conflict}
-use Rattle.theory.specs.Logic.{true-false, none-some, either, and-split, or-split, or-left, or-right, not-is, same-test, only-some, all-at, all-from, any-at, any-from}
-use Rattle.theory.specs.Literals.{same-is, is-same, not-same, mem-has}
-use Rattle.theory.specs.Evaluation.{Set, with-one}
-
--- General laws.
-
-first-some : {A : Type 0} (a b : Option A) {x : A} → first-of a b ≡ some x → (a ≡ some x) ⊎ (b ≡ some x)
-unfolding first-of
-first-some none b e = inr e
-first-some (some a) b e = inl e
-
-first-none : {A : Type 0} (a b : Option A) → first-of a b ≡ none → (a ≡ none) × (b ≡ none)
-unfolding first-of
-first-none none b e = (refl, e)
-first-none (some a) b e = none-some (sym e)
-
-only-none : {A : Type 0} (b : Bool) (a : A) → only-if b a ≡ none → b ≡ false
-unfolding only-if
-only-none true a e = none-some (sym e)
-only-none false a e = refl
-
--- What a test decides.
-by-test : {A : Type 0} (b : Bool) → (b ≡ true) ↔ A → A ⊎ (A → ⊥)
-by-test true h = inl (h .0 refl)
-by-test false h = inr (λ a. true-false (sym (h .1 a)))
-
-pub same-sym : (a b : Literal) → same a b ≡ same b a
-same-sym a b =
-    same-test (same a b) (same b a) (λ e. is-same (sym (same-is a b e))) (λ e. is-same (sym (same-is b a e)))
-
--- The other literals of a clause lie inside a set exactly where the whole clause lies inside the set with that one more.
-pub all-others : (s : Set) (l : Literal) (c : Clause) → all s (others l c) ≡ all (with-one s l) c
-unfolding all others pick with-one
-all-others s l [] = refl
-all-others s l (x ∷ c) = rw (same-sym x l) (go (same l x) (s x) refl (all-others s l c))
-  where
-    go : (b t : Bool) → s x ≡ t → all s (others l c) ≡ all (with-one s l) c → all s (pick b (others l c) (x ∷ others l c)) ≡ ((s x || b) && all (with-one s l) c)
-    go true true q e = rw q e
-    go true false q e = rw q e
-    go false true q e = rw q e
-    go false false q e = rw q
-
--- All but one literal of a clause lie inside a set.
-pub all-but-one : (s : Set) (l : Literal) (c : Clause) → (all (with-one s l) c ≡ true) ↔ ((x : Literal) → List·Memᴰ x c → (x ≡ l → ⊥) → s x ≡ true)
-unfolding with-one
-all-but-one s l c = (
-  λ e x m n. ⊎-elim (λ h. h) (λ h. absurd (n (same-is x l h))) (or-split (s x) (same x l) (all-at (with-one s l) c e m)),
-  λ h. all-from (with-one s l) c (λ x m. ⊎-elim (or-right (s x)) (λ e. or-left (same x l) (h x m (not-same e))) (either (same x l))),
-)
+use Rattle.theory.specs.Logic.{true-false, none-some, either, and-split, or-split, only-some, first-some, first-none, only-none, by-test}
+use Rattle.theory.specs.Lists.{all-at, all-from, any-at, any-from, mem-flatten}
+use Rattle.theory.specs.Literals.{same-is, not-same, mem-has, same-sym}
+use Rattle.theory.specs.Clauses.{all-others, all-but-one}
 
 -- The other literals of a clause are refuted.
 pub refuted-others : (facts : List Literal) (l : Literal) (c : Clause) → (refuted facts (others l c) ≡ true) ↔ ((x : Literal) → List·Memᴰ x c → (x ≡ l → ⊥) → has (complement x) facts ≡ true)
@@ -155,11 +111,6 @@ missing-fewer facts (x ∷ ls) l f = rw (same-sym l x) (go (same x l) refl (has 
     go false e true g r = r
     go false e false g r = omega arith
 
-mem-flatten : {l : Literal} {c : Clause} (cs : List Clause) → List·Memᴰ c cs → List·Memᴰ l c → List·Memᴰ l (flatten cs)
-unfolding flatten
-mem-flatten (d ∷ cs) (List·Memᴰ·head q) k = Memᴰ·append-left (flatten cs) (rw q at k)
-mem-flatten (d ∷ cs) (List·Memᴰ·tail m) k = Memᴰ·append-right d (mem-flatten cs m k)
-
 module _ (cs : List Clause) (facts : List Literal) (s : Sound cs facts) where
   -- Where nothing is forced, sound facts are settled.
   at-rest : forced facts cs ≡ none → Settled cs facts
@@ -177,7 +128,7 @@ module _ (cs : List Clause) (facts : List Literal) (s : Sound cs facts) where
       let t = and-split (not (has l facts)) (refuted facts (others l (w .0))) (w .3) in
       let d : Derived cs l = derived (w .0) (w .1) (w .2) (λ x k n. s (complement x) (refuted-others facts l (w .0) .0 (t .1) x k n)) in (
         λ x h. ⊎-elim (λ q. rw (same-is x l q) d) (s x) (or-split (same x l) (has x facts) h),
-        rw (mem-has (flatten cs) (mem-flatten cs (w .1) (w .2))) at (missing-fewer facts (flatten cs) l (not-is (has l facts) (t .0))),
+        rw (mem-has (flatten cs) (mem-flatten cs (w .1) (w .2))) at (missing-fewer facts (flatten cs) l (not-true (has l facts) (t .0))),
       )
 
 -- Rounds enough for all that is missing settle sound facts.

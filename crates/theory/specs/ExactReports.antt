@@ -3,8 +3,8 @@ use mathlib.Core.Bool.{Bool, true, false}
 use mathlib.Core.List.{List, map}
 use mathlib.Core.Logic.{⊎-elim, _↔_, Iff·rfl}
 use mathlib.Core.Path.{_≡_, refl, sym, ap, _∙_}
-use Prim.Native.Nat.{ℕ, zero, suc, _+_, _<_}
-use native.Mathlib.Nat.{zero-add, add-zero}
+use Prim.Native.Nat.{ℕ, _<_}
+use native.Mathlib.Nat.{zero-add}
 use native.Mathlib.Omega.{arith}
 use lib.ListN.{length, getD, replicate, length-replicate}
 use lib.Seq.{ext-getD}
@@ -13,20 +13,8 @@ use Rattle.model.specs.Literal.{Literal, pos, neg, complement, has}
 use Rattle.model.specs.Clauses.{Clause, Derived, Contradictory}
 use Rattle.model.specs.Propagation.{Report, conflict, mark, count-from, report-by, report}
 use Rattle.theory.specs.Logic.{true-false, fails-if, same-test, pick-true}
+use Rattle.theory.specs.Lists.{count-length, count-at}
 use Rattle.theory.specs.Exact.{Settled, exact-derived, exact-contradictory, facts-settled, derived-or-not, contradictory-or-not, consistent}
-
--- General laws: a function of the numbers from one on.
-
-count-length : {A : Type 0} (f : ℕ → A) (v n : ℕ) → length (map f (count-from v n)) ≡ n
-unfolding count-from
-count-length f v zero = refl
-count-length f v (suc n) = ap suc (count-length f (suc v) n)
-
-count-at : (f : ℕ → ℕ) (v n i : ℕ) → i < n → getD (map f (count-from v n)) i 0 ≡ f (v + i)
-unfolding count-from
-count-at f v zero i h = absurd (omega arith)
-count-at f v (suc n) zero h = ap f (sym (add-zero v))
-count-at f v (suc n) (suc i) h = count-at f (suc v) n i (omega arith) ∙ ap f (omega arith)
 
 -- What a report tells of the clauses: whether they are contradictory; if so, 3 for each option; if not, 1 for each option
 -- that is derived, 2 for each whose complement is, 0 for the others.

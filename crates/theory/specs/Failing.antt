@@ -1,6 +1,6 @@
 -- Evaluation where no rule applies: under a set of which at most one literal stands in the trees, the root fails only if that
 -- literal is a unit.
-use mathlib.Core.Bool.{Bool, true, false, _&&_, not}
+use mathlib.Core.Bool.{Bool, true, false}
 use mathlib.Core.Logic.{_⊎_, inl, inr, ⊎-elim}
 use mathlib.Core.Option.{some}
 use mathlib.Core.Path.{_≡_, refl, sym, ap, _∙_}
@@ -11,10 +11,13 @@ use borrow.Author.Tests.{eq-eqb}
 use Rattle.model.specs.Literal.{Literal, option, same}
 use Rattle.model.specs.Forest.{Conn, and, or, root, same-conn, Forest, nil, lit, node, size, first, after, literal-at, conjunction-at, constant-at, has-unit, mentions}
 use Rattle.model.specs.Rules.{shares, groups}
-use Rattle.theory.specs.Logic.{true-false, and-split, and-join, or-split, or-left, or-right, or-neither, not-is, either}
+use Rattle.theory.specs.Logic.{true-false, and-split, and-join, or-split, or-left, or-right, or-neither, either}
 use Rattle.theory.specs.Literals.{is-same, same-self}
+use Rattle.theory.specs.Forests.{not-conn}
 use Rattle.theory.specs.Evaluation.{Set, fails, fails-empty, fails-both}
-use Rattle.theory.specs.Calm.{Still, Calm, no-root}
+use Rattle.theory.specs.Values.{conjunctive}
+use Rattle.theory.specs.Rooted.{no-root, no-root-node}
+use Rattle.theory.specs.Calm.{Still, Calm}
 use Rattle.theory.specs.Standing.{stands, unit-mentions, unit-index}
 use Rattle.theory.specs.Still.{NoFalse, no-false, empty-or-two, literal-alone, nothing-to-lift, nothing-to-factor}
 
@@ -26,10 +29,7 @@ no-child-fails or n = n
 no-child-fails root n = refl
 
 either-fails : (c : Conn) (x y : Bool) → same-conn or c ≡ false → fails-both c x y ≡ true → (x ≡ true) ⊎ (y ≡ true)
-unfolding same-conn fails-both
-either-fails and x y n e = or-split x y e
-either-fails or x y n e = true-false n
-either-fails root x y n e = or-split x y e
+either-fails c x y n e = or-split x y (sym (conjunctive c (λ q. not-conn n (sym q)) x y) ∙ e)
 
 module _ (s : Set) (a : Literal) where
   -- No literal of the set but a stands in the trees.
@@ -111,10 +111,9 @@ module _ (s : Set) (a : Literal) where
   fail-by (lit x f) n w u o =
       (o x (or-left _ (same-self x)), fail-by f n w (λ i. u (suc i)) (λ y p. o y (or-right (same y x) p)))
   fail-by (node c k f) n w u o =
-      let p = and-split (not (same-conn root c) && no-root k) (no-root f) n in
-      let q = and-split (not (same-conn root c)) (no-root k) (p .0) in
-      let inner : NoFalse k → FailBy k = λ v. fail-by k (q .1) (w .1) v (λ y r. o y (or-left _ r)) in
-      (group-fails c k (not-is (same-conn root c) (q .0)) (w .0) (u 0) inner, fail-by f (p .1) (w .2) (λ i. u (suc i)) (λ y r. o y (or-right (stands y k) r)))
+      let p = no-root-node c k f n in
+      let inner : NoFalse k → FailBy k = λ v. fail-by k (p .1) (w .1) v (λ y r. o y (or-left _ r)) in
+      (group-fails c k (p .0) (w .0) (u 0) inner, fail-by f (p .2) (w .2) (λ i. u (suc i)) (λ y r. o y (or-right (stands y k) r)))
 
   -- Where no rule applies and no child of the root is false, the root fails only if a is a unit.
   pub root-fails : (k : Forest) → no-root k ≡ true → Still root k → Calm k → NoFalse k → OnlyOne k → fails s root k ≡ true → has-unit a k ≡ true

@@ -1,5 +1,5 @@
 -- What each family of rules does to evaluation: an equation of values a family, for every connective that it is for.
-use mathlib.Core.Bool.{Bool, true, false, _&&_, _||_, and-assoc}
+use mathlib.Core.Bool.{Bool, true, false, _&&_, _||_, and-assoc, or-true}
 use mathlib.Core.List.{[], _∷_}
 use mathlib.Core.Logic.{_⊎_, inl, inr}
 use mathlib.Core.Path.{_≡_, refl, sym, ap, ap₂, _∙_}
@@ -8,11 +8,11 @@ use Rattle.model.specs.Base.{pick}
 use Rattle.model.specs.Literal.{Literal, complement, same}
 use Rattle.model.specs.Forest.{Conn, and, or, root, Forest, nil, lit, node, constant, _⊕_, size, has-unit}
 use Rattle.model.specs.Rules.{neutral, deciding, assigned, without-unit, shares, units, groups-without}
-use Rattle.theory.specs.Logic.{true-false, and-split}
+use Rattle.theory.specs.Logic.{true-false, and-split, or-swap}
 use Rattle.theory.specs.Literals.{same-is}
-use Rattle.theory.specs.Forests.{size-zero}
+use Rattle.theory.specs.Forests.{size-zero, assigned-lit}
 use Rattle.theory.specs.Evaluation.{Set, fails-empty, fails-both, fails, values}
-use Rattle.theory.specs.Values.{empty-both, both-empty, fails-⊕}
+use Rattle.theory.specs.Values.{empty-both, both-empty, fails-⊕, conjunctive}
 
 -- The neutral constant has the value of no child at all; the deciding one has the other value, which decides the node
 -- whatever stands beside it.
@@ -64,14 +64,14 @@ unwrapped-values s c (node d k f) e = rw (size-zero f (omega arith)) (ap (λ b. 
 
 -- Rules 9, 10. Where the constants have the values of the literals that they stand for, nothing changes.
 assigned-fails : (s : Set) (c : Conn) (l : Literal) → s l ≡ fails-empty (neutral c) → s (complement l) ≡ fails-empty (deciding c) → (d : Conn) (f : Forest) → fails s d (assigned c l f) ≡ fails s d f
-unfolding fails assigned pick
+unfolding fails assigned
 assigned-fails s c l e h d nil = refl
-assigned-fails s c l e h d (lit x f) = go (same l x) (same (complement l) x) refl refl (assigned-fails s c l e h d f)
-  where
-    go : (a b : Bool) → same l x ≡ a → same (complement l) x ≡ b → fails s d (assigned c l f) ≡ fails s d f → fails s d (pick a (node (neutral c) nil (assigned c l f)) (pick b (node (deciding c) nil (assigned c l f)) (lit x (assigned c l f)))) ≡ fails-both d (s x) (fails s d f)
-    go true b p q r = ap₂ (fails-both d) (sym e ∙ ap s (same-is l x p)) r
-    go false true p q r = ap₂ (fails-both d) (sym h ∙ ap s (same-is (complement l) x q)) r
-    go false false p q r = ap (fails-both d (s x)) r
+assigned-fails s c l e h d (lit x f) =
+    let r = assigned-fails s c l e h d f in
+    assigned-lit (λ g. fails s d g ≡ fails-both d (s x) (fails s d f)) c l x f
+    (λ p. ap₂ (fails-both d) (sym e ∙ ap s (same-is l x p)) r)
+    (λ p. ap₂ (fails-both d) (sym h ∙ ap s (same-is (complement l) x p)) r)
+    (λ p q. ap (fails-both d (s x)) r)
 assigned-fails s c l e h d (node b k f) =
     ap₂ (fails-both d) (assigned-fails s c l e h b k) (assigned-fails s c l e h d f)
 
@@ -91,17 +91,6 @@ spread-fails s c l p q h =
     go (inr e) = rw e (deciding-wins c _ _ ∙ sym (deciding-wins c _ _))
 
 -- Rules 11, 12: where the node is no disjunction, a literal may leave a conjunction among the children.
-conjunctive : (c : Conn) → (c ≡ or → ⊥) → (x y : Bool) → fails-both c x y ≡ (x || y)
-unfolding fails-both
-conjunctive and h x y = refl
-conjunctive or h x y = absurd (h refl)
-conjunctive root h x y = refl
-
-or-swap : (x y z : Bool) → (x || (y || z)) ≡ (y || (x || z))
-or-swap true true z = refl
-or-swap true false z = refl
-or-swap false y z = refl
-
 pub lifted-fails : (s : Set) (c : Conn) (l : Literal) (a b q : Forest) → (c ≡ or → ⊥) → fails s c (lit l (node and (a ⊕ b) q)) ≡ fails s c (node and (a ⊕ lit l b) q)
 unfolding fails fails-both
 lifted-fails s c l a b q h =
@@ -128,11 +117,7 @@ pulled-out s a (node c k f) e =
 
 shared-fails : (s : Set) (a : Literal) (k : Forest) → shares a k ≡ true → (fails s or (units k) && (s a || fails s or (groups-without a k))) ≡ fails s or k
 unfolding shares units groups-without fails fails-both fails-empty
-shared-fails s a nil e = go (s a)
-  where
-    go : (x : Bool) → (x || true) ≡ true
-    go true = refl
-    go false = refl
+shared-fails s a nil e = or-true (s a)
 shared-fails s a (lit x f) e =
     and-assoc (s x) (fails s or (units f)) _ ∙ ap (λ b. s x && b) (shared-fails s a f e)
 shared-fails s a (node and k f) e =

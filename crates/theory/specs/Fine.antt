@@ -6,22 +6,13 @@ use Prim.Native.Nat.{ℕ, _≤_}
 use native.Mathlib.Omega.{arith}
 use lib.Dec.{ltb}
 use Rattle.model.specs.Base.{pick}
-use Rattle.model.specs.Literal.{Literal, complement, option, same}
+use Rattle.model.specs.Literal.{Literal, option, same}
 use Rattle.model.specs.Forest.{Conn, and, or, root, same-conn, Forest, nil, lit, node, _⊕_, size, has-unit}
 use Rattle.model.specs.Rules.{neutral, deciding, assigned, without-unit, shares, units, groups-without, groups}
-use Rattle.theory.specs.Logic.{true-false, and-split, or-split, not-is}
+use Rattle.theory.specs.Logic.{true-false, and-split, or-split, not-and-split}
 use Rattle.theory.specs.Literals.{same-is}
-use Rattle.theory.specs.Changes.{Change, absorbed, omitted, unwrapped, spreaded, lifted, merged, factored}
-
--- General law: what a literal becomes where another is assigned.
-pub assigned-lit : (P : Forest → Type 0) (c : Conn) (l x : Literal) (f : Forest) → (same l x ≡ true → P (node (neutral c) nil (assigned c l f))) → (same (complement l) x ≡ true → P (node (deciding c) nil (assigned c l f))) → (same l x ≡ false → same (complement l) x ≡ false → P (lit x (assigned c l f))) → P (assigned c l (lit x f))
-unfolding assigned pick
-assigned-lit P c l x f same-one other-one neither = go (same l x) (same (complement l) x) refl refl
-  where
-    go : (a b : Bool) → same l x ≡ a → same (complement l) x ≡ b → P (pick a (node (neutral c) nil (assigned c l f)) (pick b (node (deciding c) nil (assigned c l f)) (lit x (assigned c l f))))
-    go true b e o = same-one e
-    go false true e o = other-one o
-    go false false e o = neither e o
+use Rattle.theory.specs.Forests.{assigned-lit}
+use Rattle.theory.specs.Changes.{Change, absorbed, omitted, unwrapped, spreaded, lifted, merged, factored, change-node}
 
 -- No root stands in the trees, and every option is below n.
 unfoldable pub fine : ℕ → Forest → Bool
@@ -61,10 +52,7 @@ module _ (n : ℕ) where
 
   pub fine-node : (c : Conn) (k f : Forest) → fine n (node c k f) ≡ true → (same-conn root c ≡ false) × (fine n k ≡ true) × (fine n f ≡ true)
   unfolding fine
-  fine-node c k f h =
-      let s = and-split (not (same-conn root c) && fine n k) (fine n f) h in
-      let t = and-split (not (same-conn root c)) (fine n k) (s .0) in
-      (not-is (same-conn root c) (t .0), t .1, s .1)
+  fine-node c k f h = not-and-split (same-conn root c) (fine n k) (fine n f) h
 
   fine-assigned : (c : Conn) (l : Literal) (f : Forest) → fine n f ≡ true → fine n (assigned c l f) ≡ true
   unfolding fine assigned
@@ -152,10 +140,4 @@ module _ (n : ℕ) where
 -- One tree becomes one tree.
 pub change-size : {c : Conn} {k g : Forest} → Change c k g → size g ≡ 1
 unfolding size
-change-size (absorbed p q e t r) = rw r
-change-size (omitted p q e r) = rw r
-change-size (unwrapped d t r) = rw r t
-change-size (spreaded p q l d e m r) = rw r
-change-size (lifted p a b q l d e r) = rw r
-change-size (merged p a q d e r) = rw r
-change-size (factored a d s g r) = rw r
+change-size x = ⊎-elim (λ w. rw (w .1)) (λ w. rw (w .2) (w .1)) (change-node x)

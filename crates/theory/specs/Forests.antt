@@ -1,15 +1,18 @@
--- Laws of forests side by side, and of their first trees and the rest; each for all connectives.
-use mathlib.Core.Bool.{Bool, true, false, _&&_, _||_}
-use mathlib.Core.List.{List, [], _∷_, _++_, append-assoc, append-nil}
-use mathlib.Core.Option.{Option, none, some}
+-- Laws of forests side by side, of their first trees and the rest, and of what stands in them; each for all connectives.
+use mathlib.Core.Bool.{Bool, true, false, _||_, or-assoc}
+use mathlib.Core.Option.{some}
 use mathlib.Core.Path.{_≡_, refl, sym, ap, _∙_}
-use Prim.Native.Nat.{ℕ, zero, suc, _+_, _≤_, _<_, _-_, min}
-use native.Mathlib.Nat.{zero-add, suc-add, add-zero}
+use Prim.Native.Nat.{ℕ, zero, suc, _+_, _≤_, _-_}
+use native.Mathlib.Nat.{zero-add, suc-add}
 use native.Mathlib.Omega.{arith}
 use borrow.Author.Tests.{eqb-true}
-use Rattle.model.specs.Literal.{Literal, option, same}
-use Rattle.model.specs.Forest.{Conn, and, or, root, same-conn, Forest, nil, lit, node, constant, _⊕_, size, first, after, kids, literal-at, conjunction-at, constant-at, literals-only, has-unit, mentions}
-use Rattle.theory.specs.Logic.{true-false, none-some, some-inj, and-split}
+use lib.Dec.{eqb}
+use Rattle.model.specs.Base.{pick}
+use Rattle.model.specs.Literal.{Literal, option, same, complement}
+use Rattle.model.specs.Forest.{Conn, and, or, root, same-conn, Forest, nil, lit, node, _⊕_, size, first, after, literal-at, conjunction-at, constant-at, has-unit, mentions}
+use Rattle.model.specs.Rules.{neutral, deciding, assigned, groups}
+use Rattle.theory.specs.Logic.{true-false, none-some, some-inj, and-split, or-left, or-right}
+use Rattle.theory.specs.Literals.{same-self}
 
 pub ⊕-nil : (f : Forest) → f ⊕ nil ≡ f
 unfolding _⊕_
@@ -122,11 +125,18 @@ same-conn-self and = refl
 same-conn-self or = refl
 same-conn-self root = refl
 
+-- Two connectives that are told apart.
+pub not-conn : {c d : Conn} → same-conn c d ≡ false → c ≡ d → ⊥
+not-conn {c} {d} e q = true-false (sym (same-conn-self c) ∙ ap (same-conn c) q ∙ e)
+
 pub size-zero : (f : Forest) → size f ≡ 0 → f ≡ nil
 unfolding size
 size-zero nil e = refl
 size-zero (lit l f) e = absurd (omega arith)
 size-zero (node c k f) e = absurd (omega arith)
+
+pub past-end : (i : ℕ) (f : Forest) → size f ≤ i → after i f ≡ nil
+past-end i f n = size-zero (after i f) (omega (arith, size-after i f))
 
 pub constant-here : (c : Conn) (i : ℕ) (f : Forest) → constant-at c (after i f) ≡ true → after i f ≡ node c nil (after (suc i) f)
 unfolding constant-at after
@@ -144,3 +154,40 @@ constant-here c i f e = go (after i f) e ∙ ap (node c nil) (sym (after-suc i f
 -- A forest with the tree at index i taken out of the middle.
 pub cut-at : (i : ℕ) (f g : Forest) → after i f ≡ g → first i f ⊕ g ≡ f
 cut-at i f g e = ap (λ h. first i f ⊕ h) (sym e) ∙ first-after i f
+
+-- What stands in a forest: options, literals that are trees themselves, groups.
+pub mentions-⊕ : (v : ℕ) (f g : Forest) → mentions v (f ⊕ g) ≡ (mentions v f || mentions v g)
+unfolding mentions _⊕_
+mentions-⊕ v nil g = refl
+mentions-⊕ v (lit x f) g =
+    rw (mentions-⊕ v f g) (sym (or-assoc (eqb v (option x)) (mentions v f) (mentions v g)))
+mentions-⊕ v (node c k f) g =
+    rw (mentions-⊕ v f g) (sym (or-assoc (mentions v k) (mentions v f) (mentions v g)))
+
+pub mentions-some : (v : ℕ) (f : Forest) → mentions v f ≡ true → 1 ≤ size f
+unfolding mentions size
+mentions-some v nil e = true-false (sym e)
+mentions-some v (lit x f) e = omega arith
+mentions-some v (node c k f) e = omega arith
+
+pub unit-here : (l : Literal) (p q : Forest) → has-unit l (p ⊕ lit l q) ≡ true
+unfolding has-unit _⊕_
+unit-here l nil q = or-left (has-unit l q) (same-self l)
+unit-here l (lit x p) q = or-right (same l x) (unit-here l p q)
+unit-here l (node c k p) q = unit-here l p q
+
+pub groups-size : (f : Forest) → groups f ≤ size f
+unfolding groups size
+groups-size nil = omega arith
+groups-size (lit x f) = omega (arith, groups-size f)
+groups-size (node c k f) = omega (arith, groups-size f)
+
+-- What a literal becomes where another is assigned, by the test for the same literal and for its complement.
+pub assigned-lit : (P : Forest → Type 0) (c : Conn) (l x : Literal) (f : Forest) → (same l x ≡ true → P (node (neutral c) nil (assigned c l f))) → (same (complement l) x ≡ true → P (node (deciding c) nil (assigned c l f))) → (same l x ≡ false → same (complement l) x ≡ false → P (lit x (assigned c l f))) → P (assigned c l (lit x f))
+unfolding assigned pick
+assigned-lit P c l x f same-one other-one neither = go (same l x) (same (complement l) x) refl refl
+  where
+    go : (a b : Bool) → same l x ≡ a → same (complement l) x ≡ b → P (pick a (node (neutral c) nil (assigned c l f)) (pick b (node (deciding c) nil (assigned c l f)) (lit x (assigned c l f))))
+    go true b e o = same-one e
+    go false true e o = other-one o
+    go false false e o = neither e o

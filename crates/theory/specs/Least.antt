@@ -1,14 +1,14 @@
 -- Laws of the search for the least number that has an answer.
 use mathlib.Core.Bool.{true, false}
-use mathlib.Core.Option.{Option, none, some}
-use mathlib.Core.Path.{_≡_, refl, sym, _∙_}
 use mathlib.Core.Logic.{_⊎_, inl, inr, _↔_}
+use mathlib.Core.Option.{Option, none, some}
+use mathlib.Core.Path.{_≡_, refl, _∙_}
 use Prim.Native.Nat.{ℕ, zero, suc, _<_, _≤_}
 use native.Mathlib.Omega.{arith}
 use borrow.Author.Tests.{ltb-true, ltb-false}
 use lib.Dec.{ltb}
 use Rattle.model.specs.Base.{first-of, least}
-use Rattle.theory.specs.Logic.{none-some, either}
+use Rattle.theory.specs.Logic.{none-some, either, first-none}
 
 -- `Least n f a`: the answer a stands at a number below n, and no smaller number has one.
 pub record Least {A : Type 0} (n : ℕ) (f : ℕ → Option A) (a : A) : Type 0 where
@@ -50,11 +50,6 @@ module _ {A : Type 0} where
       go zero f k l e h = absurd (omega arith)
       go (suc n) f zero l e h = rw e
       go (suc n) f (suc k) l e h = rw (h 0 (omega arith)) (go n (λ i. f (suc i)) k (omega arith) e (λ j m. h (suc j) (omega arith)))
-
-  first-none : (o p : Option A) → first-of o p ≡ none → (o ≡ none) × (p ≡ none)
-  unfolding first-of
-  first-none none p e = (refl, e)
-  first-none (some a) p e = none-some (sym e)
 
   -- The search has no answer exactly where no number below the bound has one.
   pub least-none : (n : ℕ) (f : ℕ → Option A) → (least n f ≡ none) ↔ ((k : ℕ) → k < n → f k ≡ none)

@@ -1,17 +1,20 @@
--- Laws of the combinators, literals and forests.
+-- Laws of the combinators, lists, literals and forests.
 pub mod Logic
+pub mod Lists
 pub mod Literals
 pub mod Forests
 -- Codes of forests, and their numbers.
 pub mod Codes
 pub mod Numbers
 pub mod Scan
--- Meaning: propagation is exact; evaluation; valuations.
+-- Meaning: evaluation; clauses; propagation is exact; valuations; rules in another order.
+pub mod Evaluation
+pub mod Clauses
 pub mod Exact
 pub mod ExactReports
-pub mod Evaluation
 pub mod Totals
 pub mod Valuations
+pub mod Reordered
 -- The rules: as a relation; they keep the meaning and the form.
 pub mod Changes
 pub mod Inversion
@@ -36,13 +39,13 @@ pub mod Least
 pub mod Bounds
 pub mod Strategy
 pub mod Runs
--- Sheets.
+-- Sheets, and choices on them.
 pub mod Sheets
 pub mod Choice
+-- Books: their bytes and contents; books and sheets, loaded and written.
 pub mod Bytes
-pub mod Loading
--- Books and sheets, written and loaded.
 pub mod Contents
+pub mod Loading
 pub mod Counts
 pub mod Parts
 pub mod Writing
@@ -50,4 +53,3 @@ pub mod RoundTrips
 -- Calls, and lists of calls.
 pub mod Effects
 pub mod Settled
-pub mod Reordered

@@ -1,13 +1,12 @@
 -- Laws of literals: the test for the same literal is equality, and `has` is membership.
-use mathlib.Core.Bool.{Bool, true, false}
-use mathlib.Core.List.{List, [], _∷_, List·Memᴰ, List·Memᴰ·head, List·Memᴰ·tail, Memᴰ·cast}
-use mathlib.Core.Path.{_≡_, refl, sym, ap, _∙_}
+use mathlib.Core.Bool.{true, false}
+use mathlib.Core.List.{List, List·Memᴰ, Memᴰ·cast}
 use mathlib.Core.Logic.{_⊎_, inl, inr}
-use Prim.Native.Nat.{ℕ}
-use borrow.Author.Tests.{eqb-true, eqb-false, eq-eqb, ne-eqb}
-use Rattle.model.specs.Base.{any}
+use mathlib.Core.Path.{_≡_, refl, sym, ap, _∙_}
+use borrow.Author.Tests.{eqb-true, eq-eqb}
 use Rattle.model.specs.Literal.{Literal, pos, neg, complement, option, same, has}
-use Rattle.theory.specs.Logic.{true-false, any-at, any-from, either, fails-if}
+use Rattle.theory.specs.Logic.{true-false, fails-if, same-test}
+use Rattle.theory.specs.Lists.{any-at, any-from}
 
 pub same-is : (a b : Literal) → same a b ≡ true → a ≡ b
 unfolding same
@@ -69,3 +68,7 @@ mem-has {l} ls m = any-from (same l) ls m (same-self l)
 
 pub not-has : {l : Literal} {ls : List Literal} → has l ls ≡ false → List·Memᴰ l ls → ⊥
 not-has {l} {ls} e m = true-false (sym (mem-has ls m) ∙ e)
+
+pub same-sym : (a b : Literal) → same a b ≡ same b a
+same-sym a b =
+    same-test (same a b) (same b a) (λ e. is-same (sym (same-is a b e))) (λ e. is-same (sym (same-is b a e)))

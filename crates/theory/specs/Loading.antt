@@ -1,59 +1,30 @@
 -- Loading: what an accepted book holds, and that the sheet which it fills is a sheet and means what its bodies mean.
-use mathlib.Core.Bool.{Bool, true, false, _&&_, not}
-use mathlib.Core.List.{List, [], _∷_, _++_, map, flatten, append-nil, append-assoc, map-append}
-use mathlib.Core.Option.{Option, none, some}
+use mathlib.Core.Bool.{true, _&&_, not}
+use mathlib.Core.List.{List, [], _∷_, _++_, map, flatten, map-append}
+use mathlib.Core.Option.{none, some}
 use mathlib.Core.Path.{_≡_, refl, sym, ap, ap₂, _∙_}
-use Prim.Native.Nat.{ℕ, suc, _+_, _≤_}
-use native.Mathlib.Nat.{zero-add}
+use Prim.Native.Nat.{ℕ, _≤_}
 use native.Mathlib.Omega.{arith}
 use borrow.Author.Tests.{eqb-true, eq-eqb, leb-true, le-leb, ltb-false, le-ltb, not-false}
 use lib.Dec.{eqb, leb, ltb}
-use lib.ListN.{length, take, drop, length-drop, take-append-drop}
+use lib.ListN.{length, drop}
 use Rattle.model.specs.Base.{only-if, first-of, all}
-use Rattle.model.specs.Forest.{root, Forest, nil, lit, node, _⊕_, size}
-use Rattle.model.specs.Code.{head, encode, decode, trees, weight, node-of}
-use Rattle.model.specs.Clauses.{no-child, join, clauses}
+use Rattle.model.specs.Forest.{root, Forest, nil, _⊕_, size}
+use Rattle.model.specs.Code.{encode, decode, trees, weight, node-of}
+use Rattle.model.specs.Clauses.{no-child, clauses}
 use Rattle.model.specs.Sheet.{body-node, is-sheet, sheet-of, clauses-in}
-use Rattle.model.specs.Book.{word, options-of, rules-of, size-of, head-in-limits, length-due, codes-of, Entry, contents-of, numbers-of, codes-ok, in-line, cut, bodies-of, body-ok, book-nodes, clauses-of-body, clauses-of-book}
+use Rattle.model.specs.Book.{word, options-of, rules-of, size-of, head-in-limits, length-due, codes-of, contents-of, numbers-of, codes-ok, in-line, bodies-of, body-ok, book-nodes, clauses-of-body, clauses-of-book, contents-end}
 use Rattle.model.specs.Calls.{book-refusal}
-use Rattle.theory.specs.Logic.{none-some, and-split, all-append}
+use Rattle.theory.specs.Logic.{and-split, only-none, none-due}
+use Rattle.theory.specs.Lists.{all-weaken, all-flatten}
 use Rattle.theory.specs.Forests.{size-⊕}
-use Rattle.theory.specs.Codes.{encode-⊕, decode-encode, encode-decode}
-use Rattle.theory.specs.Shape.{plain, Shaped, shaped, trees-code}
-use Rattle.theory.specs.Numbers.{all-weaken, plain-nodes}
-use Rattle.theory.specs.Sheets.{one-tree-is, shaped-decode, shaped-kids, nodes-made, sheet-made}
+use Rattle.theory.specs.Codes.{encode-⊕, decode-encode, encode-decode, trees-code, one-tree-is}
+use Rattle.theory.specs.Numbers.{plain-nodes}
+use Rattle.theory.specs.Clauses.{clauses-⊕, clauses-root}
+use Rattle.theory.specs.Shape.{Shaped, shaped, shaped-decode, shaped-kids}
+use Rattle.theory.specs.Sheets.{nodes-made, sheet-made}
 use Rattle.theory.specs.Bytes.{length-words, length-entries}
-
--- General laws.
-
-pub only-none : {A : Type 0} (b : Bool) (a : A) → only-if b a ≡ none → b ≡ false
-unfolding only-if
-only-none true a e = none-some (sym e)
-only-none false a e = refl
-
--- A chain of refusals is none where none of them is due.
-pub none-due : {A : Type 0} (b : Bool) (a : A) (o : Option A) → first-of (only-if b a) o ≡ none → (b ≡ false) × (o ≡ none)
-unfolding first-of only-if
-none-due true a o e = none-some (sym e)
-none-due false a o e = (refl, e)
-
-pub all-flatten : {A : Type 0} (p : A → Bool) (xss : List (List A)) → all p (flatten xss) ≡ all (all p) xss
-unfolding all flatten
-all-flatten p [] = refl
-all-flatten p (xs ∷ xss) = all-append p xs (flatten xss) ∙ ap (λ b. all p xs && b) (all-flatten p xss)
-
--- The clauses of trees side by side under the root are those of the first and those of the second.
-pub clauses-⊕ : (f g : Forest) → clauses root (f ⊕ g) ≡ clauses root f ++ clauses root g
-unfolding clauses join no-child _⊕_
-clauses-⊕ nil g = refl
-clauses-⊕ (lit l f) g = ap (λ cs. (l ∷ []) ∷ cs) (clauses-⊕ f g)
-clauses-⊕ (node c k f) g =
-    ap (λ cs. clauses c k ++ cs) (clauses-⊕ f g) ∙ sym (append-assoc (clauses c k) (clauses root f) (clauses root g))
-
--- A root alone has the clauses of its children.
-pub clauses-root : (f : Forest) → clauses root (node root f nil) ≡ clauses root f
-unfolding clauses join no-child
-clauses-root f = append-nil (clauses root f)
+use Rattle.theory.specs.Contents.{in-line-means, flatten-cut, length-cut}
 
 -- What is known of an accepted book.
 pub record Accepted (b : List ℕ) : Type 0 where
@@ -116,33 +87,12 @@ book-accepted b a =
       le-leb (weight (book-nodes b)) 4096 (a .weight),
     )
 
--- Pairs in line cut the numbers into parts that are the numbers again.
-in-line-sum : (total sum : ℕ) (es : List Entry) → in-line total sum es ≡ true → sum ≤ total
-unfolding in-line
-in-line-sum total sum [] h = omega (arith, eqb-true sum total h)
-in-line-sum total sum (e ∷ es) h =
-    let s = and-split (eqb (e .first) sum && leb 1 (e .count)) _ h in
-    omega (arith, in-line-sum total (sum + e .count) es (s .1))
-
-pub cut-whole : (total sum : ℕ) (es : List Entry) (xs : List ℕ) → in-line total sum es ≡ true → sum + length xs ≡ total → flatten (cut es xs) ≡ xs
-unfolding in-line cut flatten
-cut-whole total sum [] [] h e = refl
-cut-whole total sum [] (x ∷ xs) h e = absurd (omega (arith, eqb-true sum total h))
-cut-whole total sum (c ∷ es) xs h e =
-    let s = and-split (eqb (c .first) sum && leb 1 (c .count)) _ h in
-    let within = in-line-sum total (sum + c .count) es (s .1) in
-    let rest = cut-whole total (sum + c .count) es (drop (c .count) xs) (s .1) (omega (arith, length-drop (c .count) xs)) in
-    ap (λ r. take (c .count) xs ++ r) rest ∙ take-append-drop (c .count) xs
-
-length-cut : (es : List Entry) (xs : List ℕ) → length (cut es xs) ≡ length es
-unfolding cut
-length-cut [] xs = refl
-length-cut (e ∷ es) xs = ap suc (length-cut es (drop (e .count) xs))
-
+-- The bodies, one after another, are the book's numbers, and there are as many as the book has rules.
 pub bodies-flat : (b : List ℕ) → Accepted b → flatten (bodies-of b) ≡ numbers-of b
 unfolding bodies-of numbers-of
 bodies-flat b a =
-    cut-whole (size-of b) 0 (contents-of b) (numbers-of b) (a .contents) (zero-add _ ∙ length-words (size-of b) _)
+    let sum = in-line-means (size-of b) 0 (contents-of b) (a .contents) .2 in
+    flatten-cut (contents-of b) (numbers-of b) (omega (arith, length-words (size-of b) (drop (contents-end b) b)))
 
 pub bodies-count : (b : List ℕ) → length (bodies-of b) ≡ rules-of b
 unfolding bodies-of contents-of
@@ -155,7 +105,7 @@ forest-of (x ∷ xs) = decode (map node-of x) ⊕ forest-of xs
 
 module _ (n : ℕ) where
   -- A body is the code of one tree.
-  body-tree : (xs : List ℕ) → body-ok n xs ≡ true → (encode (decode (map node-of xs)) ≡ map node-of xs) × (size (decode (map node-of xs)) ≡ 1)
+  pub body-tree : (xs : List ℕ) → body-ok n xs ≡ true → (encode (decode (map node-of xs)) ≡ map node-of xs) × (size (decode (map node-of xs)) ≡ 1)
   unfolding body-ok
   body-tree xs h = encode-decode (map node-of xs) 1 (one-tree-is (map node-of xs) (and-split (all (body-node n) xs) _ h .1))
 
@@ -172,11 +122,12 @@ module _ (n : ℕ) where
         omega (arith, size-⊕ t (forest-of xss)),
       )
 
-  bodies-plain : (xss : List (List ℕ)) → all (body-ok n) xss ≡ true → all (plain n) (map node-of (flatten xss)) ≡ true
+  -- Their numbers are nodes of bodies.
+  bodies-numbers : (xss : List (List ℕ)) → all (body-ok n) xss ≡ true → all (body-node n) (flatten xss) ≡ true
   unfolding body-ok
-  bodies-plain xss h =
-      plain-nodes n (flatten xss)
-      (all-flatten (body-node n) xss ∙ all-weaken (body-ok n) (all (body-node n)) (λ xs k. and-split (all (body-node n) xs) _ k .0) xss h)
+  bodies-numbers xss h =
+      all-flatten (body-node n) xss
+      ∙ all-weaken (body-ok n) (all (body-node n)) (λ xs k. and-split (all (body-node n) xs) _ k .0) xss h
 
 -- The clauses of the bodies' trees side by side are those of every body.
 clauses-forest : (xss : List (List ℕ)) → clauses root (forest-of xss) ≡ flatten (map clauses-of-body xss)
@@ -187,6 +138,12 @@ clauses-forest (xs ∷ xss) =
     ∙ ap (λ cs. clauses root (decode (map node-of xs)) ++ cs) (clauses-forest xss)
 
 module _ (b : List ℕ) (a : Accepted b) where
+  -- Every number of an accepted book's bodies passes the test of bodies.
+  pub book-numbers : all (body-node (options-of b)) (numbers-of b) ≡ true
+  book-numbers =
+      ap (all (body-node (options-of b))) (sym (bodies-flat b a))
+      ∙ bodies-numbers (options-of b) (bodies-of b) (a .bodies)
+
   -- The numbers of an accepted book spell its bodies' trees side by side, as many as the book has rules.
   pub book-forest : decode (map node-of (numbers-of b)) ≡ forest-of (bodies-of b)
   book-forest =
@@ -206,8 +163,7 @@ module _ (b : List ℕ) (a : Accepted b) where
   pub loaded-shaped : Shaped (options-of b) (book-nodes b)
   unfolding book-nodes
   loaded-shaped =
-      shaped (options-of b) (rules-of b) (map node-of (numbers-of b)) book-trees
-      (ap (λ xs. all (plain (options-of b)) (map node-of xs)) (sym (bodies-flat b a)) ∙ bodies-plain (options-of b) (bodies-of b) (a .bodies))
+      shaped (options-of b) (rules-of b) (map node-of (numbers-of b)) book-trees (plain-nodes (options-of b) (numbers-of b) book-numbers)
 
   pub loaded-kids : loaded-shaped .kids ≡ decode (map node-of (numbers-of b))
   unfolding book-nodes

@@ -12,7 +12,7 @@ use Rattle.model.specs.Forest.{Conn, and, or, root, Forest, nil, lit, node, _�
 use Rattle.model.specs.Rules.{assigned, without-unit, shares, units, groups-without, groups}
 use Rattle.theory.specs.Logic.{true-false, and-split, or-split, or-left, or-right}
 use Rattle.theory.specs.Literals.{is-same, of-option}
-use Rattle.theory.specs.Fine.{assigned-lit}
+use Rattle.theory.specs.Forests.{assigned-lit}
 
 unfoldable pub mass : ℕ → Forest → ℕ
 mass u nil = 0

@@ -11,17 +11,11 @@ use Rattle.model.specs.Literal.{Literal, option}
 use Rattle.model.specs.Forest.{Conn, and, Forest, nil, lit, node, _⊕_, mentions}
 use Rattle.model.specs.Code.{Node, leaf, head, encode, literals, weight}
 use Rattle.model.specs.Rules.{assigned, step}
-use Rattle.theory.specs.Codes.{encode-⊕}
+use Rattle.theory.specs.Forests.{mentions-⊕}
+use Rattle.theory.specs.Codes.{encode-⊕, literals-append}
 use Rattle.theory.specs.Changes.{Change, absorbed, omitted, unwrapped, spreaded, lifted, merged, factored}
-use Rattle.theory.specs.Inversion.{mentions-⊕}
 use Rattle.theory.specs.Shape.{Changed, Shaped, shaped-trees, step-changed}
 use Rattle.theory.specs.Mass.{mass, mass-⊕, mass-size, mass-mentioned, mass-shared}
-
-pub literals-append : (ms ns : List Node) → literals (ms ++ ns) ≡ literals ms + literals ns
-unfolding literals
-literals-append [] ns = omega arith
-literals-append (leaf l ∷ ms) ns = let h = literals-append ms ns in omega arith
-literals-append (head c k ∷ ms) ns = literals-append ms ns
 
 -- Nodes plus u times the literals: for 1 the weight.
 abbrev pub bulk : ℕ → List Node → ℕ

@@ -1,8 +1,8 @@
 -- Nodes as numbers: the two forms carry the same, for numbers of kind 1 to 5 and for nodes whose value is below 4,096.
-use mathlib.Core.Bool.{Bool, true, false, _&&_, _||_}
-use mathlib.Core.List.{List, [], _∷_, map}
+use mathlib.Core.Bool.{Bool, true, false, _&&_, _||_, not}
+use mathlib.Core.List.{List, map}
 use mathlib.Core.Logic.{⊎-elim}
-use mathlib.Core.Path.{_≡_, refl, sym, ap, ap₂, _∙_}
+use mathlib.Core.Path.{_≡_, refl, sym, ap, _∙_}
 use Prim.Native.Nat.{ℕ, zero, suc, _≤_}
 use native.Mathlib.Nat.{div-add-mod', mod-lt}
 use native.Mathlib.Omega.{arith}
@@ -13,32 +13,8 @@ use Rattle.model.specs.Literal.{pos, neg, option}
 use Rattle.model.specs.Forest.{and, or, root, same-conn}
 use Rattle.model.specs.Code.{Node, leaf, head, kind, value, number, conn-kind, number-of, node-of}
 use Rattle.model.specs.Sheet.{body-node}
-use Rattle.theory.specs.Logic.{and-split, and-join, or-split, all-at, all-from}
-use Rattle.theory.specs.Shape.{plain}
-
--- General laws.
-
--- A test that follows from another holds of all where the other does.
-pub all-weaken : {A : Type 0} (p q : A → Bool) → ((x : A) → p x ≡ true → q x ≡ true) → (xs : List A) → all p xs ≡ true → all q xs ≡ true
-all-weaken p q h xs e = all-from q xs (λ x m. h x (all-at p xs e m))
-
-module _ {A B : Type 0} (f : A → B) where
-  pub all-map : (p : B → Bool) (xs : List A) → all p (map f xs) ≡ all (λ x. p (f x)) xs
-  unfolding all
-  all-map p [] = refl
-  all-map p (x ∷ xs) = ap (λ b. p (f x) && b) (all-map p xs)
-
-  -- A map that is undone on every element is undone on the list.
-  pub map-back : (g : B → A) (p : A → Bool) → ((x : A) → p x ≡ true → g (f x) ≡ x) → (xs : List A) → all p xs ≡ true → map g (map f xs) ≡ xs
-  unfolding all
-  map-back g p h [] e = refl
-  map-back g p h (x ∷ xs) e = let s = and-split (p x) _ e in ap₂ _∷_ (h x (s .0)) (map-back g p h xs (s .1))
-
--- What holds of both values holds of the one that a test picks.
-pub pick-keeps : {A : Type 0} (P : A → Type 0) (b : Bool) {x y : A} → P x → P y → P (pick b x y)
-unfolding pick
-pick-keeps P true h g = h
-pick-keeps P false h g = g
+use Rattle.theory.specs.Logic.{and-split, and-join, or-split, pick-keeps}
+use Rattle.theory.specs.Lists.{all-weaken, all-map}
 
 -- The value of a node: its option, or its number of children.
 unfoldable pub amount : Node → ℕ
@@ -48,6 +24,11 @@ amount (head c k) = k
 -- The node has a number.
 unfoldable pub fits : Node → Bool
 fits y = ltb (amount y) 4096
+
+-- A node that may stand below the root, among n options.
+unfoldable pub plain : ℕ → Node → Bool
+plain n (leaf l) = ltb (option l) n
+plain n (head c k) = not (same-conn root c)
 
 -- The number is one of a node.
 unfoldable pub known : ℕ → Bool

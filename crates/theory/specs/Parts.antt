@@ -8,6 +8,7 @@ use lib.ListN.{length, take, drop, length-append, length-drop, take-append-drop}
 use lib.Seq.{drop-at, drop-append-add, drop-drop, take-all, getD-drop}
 use Rattle.model.specs.Limits.{code-length}
 use Rattle.model.specs.Book.{word, words, bytes-of, options-of, rules-of, size-of, codes-end, contents-end, length-due, pieces, codes-of, Entry, contents-of, numbers-of}
+use Rattle.theory.specs.Lists.{part-and-rest}
 use Rattle.theory.specs.Bytes.{Below, Bytes, below-drop, length-words, length-bytes, words-bytes, bytes-words, length-entries, flat, length-flat, entries-bytes, bytes-entries, pieces-part}
 
 -- The bytes of a book of n options, with these bytes of codes, these contents and these numbers of bodies.
@@ -96,10 +97,6 @@ module _ (n : ℕ) (codes : List ℕ) (es : List Entry) (xs : List ℕ) (h : Fit
     contents = reads-contents;
     numbers = reads-numbers;
   }
-
--- A list from a place on is a part of it and the list from the part's end on.
-part-and-rest : (k j : ℕ) (b : List ℕ) → take k (drop j b) ++ drop (j + k) b ≡ drop j b
-part-and-rest k j b = ap (λ r. take k (drop j b) ++ r) (sym (drop-drop k j b)) ∙ take-append-drop k (drop j b)
 
 head-read : (b : List ℕ) → words 4 b ≡ options-of b ∷ rules-of b ∷ size-of b ∷ word b 6 ∷ []
 unfolding words word options-of rules-of size-of

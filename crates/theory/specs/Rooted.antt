@@ -1,43 +1,38 @@
 -- Lists of nodes that spell one tree whose root connective stands at its head and nowhere else.
-use mathlib.Core.Bool.{Bool, true, false, _&&_, not}
+use mathlib.Core.Bool.{Bool, true, false, _&&_, not, and-assoc}
 use mathlib.Core.List.{List, [], _∷_}
 use mathlib.Core.Path.{_≡_, refl, sym, ap, _∙_}
 use Prim.Native.Nat.{ℕ, zero, suc}
 use lib.ListN.{drop}
-use Rattle.model.specs.Forest.{root, same-conn, Forest, nil, lit, node, _⊕_, after, kids}
-use Rattle.model.specs.Code.{Node, leaf, head, push, decode}
-use Rattle.theory.specs.Logic.{and-split}
-use Rattle.theory.specs.Forests.{⊕-nil, first-after}
+use Rattle.model.specs.Forest.{root, same-conn, Forest, nil, lit, node, _⊕_, after, kids, Conn}
+use Rattle.model.specs.Code.{Node, push, decode}
+use Rattle.theory.specs.Logic.{not-and-split, and-join}
+use Rattle.theory.specs.Forests.{⊕-nil}
+use Rattle.theory.specs.Codes.{under}
 
 -- No connective of the trees, at any depth, is the root.
 unfoldable pub no-root : Forest → Bool
 no-root nil = true
 no-root (lit l f) = no-root f
-no-root (node c k f) = not (same-conn c root) && (no-root k && no-root f)
+no-root (node c k f) = not (same-conn root c) && no-root k && no-root f
 
 pub no-root-⊕ : (f g : Forest) → no-root (f ⊕ g) ≡ (no-root f && no-root g)
 unfolding no-root _⊕_
 no-root-⊕ nil g = refl
 no-root-⊕ (lit l f) g = no-root-⊕ f g
-no-root-⊕ (node c k f) g = rw (no-root-⊕ f g) (go (not (same-conn c root)) (no-root k) (no-root f) (no-root g))
-  where
-    go : (x y z w : Bool) → (x && (y && (z && w))) ≡ ((x && (y && z)) && w)
-    go true true z w = refl
-    go true false z w = refl
-    go false y z w = refl
+no-root-⊕ (node c k f) g =
+    rw (no-root-⊕ f g) (sym (and-assoc (not (same-conn root c) && no-root k) (no-root f) (no-root g)))
+
+pub no-root-node : (c : Conn) (k f : Forest) → no-root (node c k f) ≡ true → (same-conn root c ≡ false) × (no-root k ≡ true) × (no-root f ≡ true)
+unfolding no-root
+no-root-node c k f e = not-and-split (same-conn root c) (no-root k) (no-root f) e
 
 -- The children of the first tree and the trees after it have no root either.
 no-root-under : (f : Forest) → no-root f ≡ true → no-root (kids f ⊕ after 1 f) ≡ true
 unfolding no-root kids after _⊕_
 no-root-under nil e = refl
 no-root-under (lit l f) e = e
-no-root-under (node c k f) e = no-root-⊕ k f ∙ and-split (not (same-conn c root)) (no-root k && no-root f) e .1
-
--- They are what the node was read onto.
-pub under : (x : Node) (f : Forest) → kids (push x f) ⊕ after 1 (push x f) ≡ f
-unfolding push kids after _⊕_
-under (leaf l) f = refl
-under (head c n) f = first-after n f
+no-root-under (node c k f) e = let s = no-root-node c k f e in no-root-⊕ k f ∙ and-join (s .1) (s .2)
 
 pub no-root-drop : (place : ℕ) (ns : List Node) → no-root (decode ns) ≡ true → no-root (decode (drop place ns)) ≡ true
 unfolding decode

@@ -9,10 +9,10 @@ use native.Mathlib.Nat.{zero-add, suc-add, add-zero, add-suc}
 use native.Mathlib.Omega.{arith}
 use Rattle.model.specs.Base.{maybe}
 use Rattle.model.specs.Code.{Node}
-use Rattle.model.specs.Rules.{step}
+use Rattle.model.specs.Rules.{step, NoRule}
 use Rattle.model.specs.Strategy.{Redex, next, contract, next-step, Run, one-more, run}
 use Rattle.theory.specs.Logic.{true-false, none-some}
-use Rattle.theory.specs.Strategy.{NoRule, none-iff, next-step-some, next-step-none}
+use Rattle.theory.specs.Strategy.{none-iff, next-step-some, next-step-none}
 
 -- `Strategy-steps k ns ms`: exactly k steps of the strategy lead from ns to ms.
 pub data Strategy-steps : ℕ → List Node → List Node → Type 0 where

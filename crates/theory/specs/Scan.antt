@@ -1,15 +1,12 @@
 -- Numbers read from the right, one node at a time: what a program that checks a body computes.
-use mathlib.Core.Bool.{Bool, true, false, _&&_, _||_}
-use mathlib.Core.List.{List, [], _∷_, map}
+use mathlib.Core.Bool.{Bool, _||_}
+use mathlib.Core.List.{List, [], _∷_}
 use mathlib.Core.Option.{Option, none, some}
-use mathlib.Core.Path.{_≡_, refl, sym, ap, _∙_}
-use Prim.Native.Nat.{ℕ, zero, suc, _≤_}
+use Prim.Native.Nat.{ℕ, zero}
 use lib.Dec.{eqb}
-use lib.ListN.{length}
-use Rattle.model.specs.Base.{only-if, then, all}
-use Rattle.model.specs.Code.{kind, node-of, joined, trees, exactly-one, one-tree, literals}
+use Rattle.model.specs.Base.{only-if, then}
+use Rattle.model.specs.Code.{kind, node-of, joined}
 use Rattle.model.specs.Sheet.{body-node}
-use Rattle.model.specs.Book.{body-ok}
 
 -- Kinds 1 and 2 are literals.
 unfoldable pub is-literal : ℕ → Bool

@@ -1,43 +1,26 @@
 -- The form of a sheet's nodes, kept by every step.
-use mathlib.Core.Bool.{Bool, true, false, _&&_, not, and-assoc}
+use mathlib.Core.Bool.{true, _&&_, not, and-assoc}
 use mathlib.Core.List.{List, [], _∷_, _++_, append-nil}
 use mathlib.Core.Option.{some}
 use mathlib.Core.Path.{_≡_, refl, sym, ap, ap₂, _∙_}
-use Prim.Native.Nat.{ℕ, zero, suc, _≤_}
-use native.Mathlib.Nat.{add-zero}
+use Prim.Native.Nat.{ℕ, _≤_}
 use native.Mathlib.Omega.{arith}
 use lib.Dec.{ltb}
 use lib.ListN.{length, take, drop, take-append-drop}
-use Rattle.model.specs.Base.{all, then}
+use Rattle.model.specs.Base.{all}
 use Rattle.model.specs.Literal.{option}
-use Rattle.model.specs.Forest.{Conn, and, or, root, same-conn, Forest, nil, lit, node, _⊕_, size}
-use Rattle.model.specs.Code.{Node, leaf, head, encode, decode, joined, trees}
+use Rattle.model.specs.Forest.{Conn, root, same-conn, Forest, nil, lit, node, _⊕_, size}
+use Rattle.model.specs.Code.{Node, head, encode, decode, trees}
 use Rattle.model.specs.Rules.{step}
-use Rattle.theory.specs.Logic.{and-split, and-join, then-some, all-append}
+use Rattle.theory.specs.Logic.{and-split, and-join}
+use Rattle.theory.specs.Lists.{all-append}
 use Rattle.theory.specs.Forests.{⊕-nil, size-⊕}
-use Rattle.theory.specs.Codes.{decode-encode, trees-encode, encode-decode}
+use Rattle.theory.specs.Codes.{decode-encode, encode-decode, trees-code, trees-after, trees-drop}
+use Rattle.theory.specs.Numbers.{plain}
 use Rattle.theory.specs.Changes.{Change}
 use Rattle.theory.specs.Inversion.{stepped}
 use Rattle.theory.specs.Rooted.{no-root, Rooted}
 use Rattle.theory.specs.Fine.{fine, fine-⊕, fine-node, change-fine, change-root, change-size}
-
--- General laws of codes.
-
-pub trees-code : (f : Forest) → trees (encode f) ≡ some (size f)
-unfolding trees
-trees-code f = ap trees (sym (append-nil (encode f))) ∙ trees-encode f [] 0 refl ∙ ap some (add-zero (size f))
-
--- How many trees a list spells depends on its end only through how many trees the end spells; the end of a code is a code.
-pub trees-after : (ms xs ys : List Node) → trees xs ≡ trees ys → trees (ms ++ xs) ≡ trees (ms ++ ys)
-unfolding trees
-trees-after [] xs ys e = e
-trees-after (m ∷ ms) xs ys e = ap (λ o. then o (joined m)) (trees-after ms xs ys e)
-
-pub trees-drop : (p : ℕ) (ns : List Node) {t : ℕ} → trees ns ≡ some t → (u : ℕ) × (trees (drop p ns) ≡ some u)
-unfolding trees
-trees-drop zero ns {t} e = (t, e)
-trees-drop (suc p) [] {t} e = (t, e)
-trees-drop (suc p) (x ∷ ns) e = trees-drop p ns (then-some (trees ns) (joined x) e .1)
 
 -- A list of nodes in which one tree changed in its place.
 pub record Changed (ns ms : List Node) : Type 0 where
@@ -68,11 +51,7 @@ step-changed r p i j ns {ms} h e =
       done = w .done;
     }
 
--- A node that may stand below the root, among n options.
-unfoldable pub plain : ℕ → Node → Bool
-plain n (leaf l) = ltb (option l) n
-plain n (head c k) = not (same-conn root c)
-
+-- All nodes of a code may stand below the root exactly where its trees are fine.
 pub plain-encode : (n : ℕ) (f : Forest) → all (plain n) (encode f) ≡ fine n f
 unfolding all plain encode fine
 plain-encode n nil = refl
@@ -99,10 +78,22 @@ shaped n m xs t h =
       fine = sym (plain-encode n (decode xs)) ∙ ap (all (plain n)) (d .0) ∙ h;
     }
 
-pub shaped-nodes : {n : ℕ} {ns : List Node} (s : Shaped n ns) → (ns ≡ head root (size (s .kids)) ∷ encode (s .kids)) × (all (plain n) (encode (s .kids)) ≡ true)
+pub shaped-flat : {n : ℕ} {ns : List Node} (s : Shaped n ns) → ns ≡ head root (size (s .kids)) ∷ encode (s .kids)
 unfolding encode
-shaped-nodes {n} s =
-    (s .spelled ∙ ap (λ xs. head root (size (s .kids)) ∷ xs) (append-nil (encode (s .kids))), plain-encode n (s .kids) ∙ s .fine)
+shaped-flat s = s .spelled ∙ ap (λ xs. head root (size (s .kids)) ∷ xs) (append-nil (encode (s .kids)))
+
+pub shaped-plain : {n : ℕ} {ns : List Node} (s : Shaped n ns) → all (plain n) (encode (s .kids)) ≡ true
+shaped-plain {n} s = plain-encode n (s .kids) ∙ s .fine
+
+-- What its nodes are read as.
+pub shaped-decode : {n : ℕ} {ns : List Node} (s : Shaped n ns) → decode ns ≡ node root (s .kids) nil
+shaped-decode s = ap decode (s .spelled) ∙ decode-encode (node root (s .kids) nil)
+
+pub shaped-kids : {n k : ℕ} {ns : List Node} (s : Shaped n (head root k ∷ ns)) → s .kids ≡ decode ns
+shaped-kids {ns = ns} s =
+    let flat = shaped-flat s in
+    let below : encode (s .kids) ≡ ns = cc in
+    sym (decode-encode (s .kids)) ∙ ap decode below
 
 pub shaped-trees : {n : ℕ} {ns : List Node} → Shaped n ns → trees ns ≡ some 1
 unfolding size
@@ -143,7 +134,7 @@ changed-shaped {n} {ns} {ms} w s = go (w .before) (w .was) (w .became)
         let whole = sym (decode-encode _) ∙ ap decode (sym (s .spelled) ∙ e) ∙ decode-encode _ in
         rw f (root-shaped n (s .kids) (s .fine) whole (w .done))
     go (x ∷ b) e f =
-        let listed = shaped-nodes s .0 in
+        let flat = shaped-flat s in
         let first : head root (size (s .kids)) ≡ x = cc in
         let inside : encode (s .kids) ≡ b ++ encode (node (w .conn) (w .children) (w .rest)) = cc in
         rw (f, ← first) (inner-shaped n (s .kids) (w .rest) b (s .fine) inside (w .done))
@@ -153,23 +144,17 @@ pub step-shaped : (r p i j : ℕ) {n : ℕ} {ns ms : List Node} → Shaped n ns 
 step-shaped r p i j {n} {ns} s e = changed-shaped (step-changed r p i j ns (shaped-trees s) e) s
 
 -- The nodes of a sheet are rooted.
-not-root : (c : Conn) → same-conn root c ≡ false → same-conn c root ≡ false
-unfolding same-conn
-not-root and e = refl
-not-root or e = refl
-not-root root e = e
-
 pub fine-no-root : (n : ℕ) (f : Forest) → fine n f ≡ true → no-root f ≡ true
 unfolding no-root fine
 fine-no-root n nil h = refl
 fine-no-root n (lit l f) h = fine-no-root n f (and-split (ltb (option l) n) (fine n f) h .1)
 fine-no-root n (node c k f) h =
-    let s = fine-node n c k f h in rw (not-root c (s .0), fine-no-root n k (s .1), fine-no-root n f (s .2))
+    let s = fine-node n c k f h in rw (s .0, fine-no-root n k (s .1), fine-no-root n f (s .2))
 
 pub shaped-rooted : {n : ℕ} {ns : List Node} → Shaped n ns → Rooted ns
 shaped-rooted {n} s =
     record {
       body = s .kids;
-      whole = ap decode (s .spelled) ∙ decode-encode (node root (s .kids) nil);
+      whole = shaped-decode s;
       inside = fine-no-root n (s .kids) (s .fine);
     }

@@ -1,63 +1,25 @@
 -- Sheets: what a list that is a sheet holds, and that the sheet of well-formed nodes is one.
-use mathlib.Core.Bool.{Bool, true, _&&_}
-use mathlib.Core.List.{List, [], _∷_, _++_, map, append-nil}
-use mathlib.Core.Option.{Option, none, some}
+use mathlib.Core.Bool.{true, _&&_}
+use mathlib.Core.List.{List, [], _∷_, _++_, map}
 use mathlib.Core.Path.{_≡_, refl, sym, ap, ap₂, _∙_}
-use Prim.Native.Nat.{ℕ, zero, suc, _-_, _≤_, _<_}
+use Prim.Native.Nat.{ℕ, suc, _-_, _≤_, _<_}
 use native.Mathlib.Omega.{arith}
 use borrow.Author.Tests.{eqb-true, eq-eqb, leb-true, le-leb, ltb-true, lt-ltb}
 use lib.Dec.{eqb, leb, ltb}
 use lib.ListN.{length, getD, drop, replicate, length-append, length-drop, length-map, length-replicate, take-append-drop}
-use lib.Seq.{length-take-le, take-at, drop-at, drop-cons}
+use lib.Seq.{length-take-le, take-at, drop-at}
 use Rattle.model.specs.Base.{pick, all}
 use Rattle.model.specs.Literal.{option}
-use Rattle.model.specs.Forest.{Conn, root, Forest, nil, lit, node, size}
-use Rattle.model.specs.Code.{Node, head, encode, decode, joined, trees, exactly-one, one-tree, weight, kind, value, number, node-of, number-of, conn-kind}
+use Rattle.model.specs.Forest.{root, Forest, nil, lit, node, size}
+use Rattle.model.specs.Code.{Node, head, encode, trees, exactly-one, one-tree, weight, kind, value, node-of, number-of, conn-kind}
 use Rattle.model.specs.Limits.{sheet-length, sheet-room}
 use Rattle.model.specs.Sheet.{body-node, options-in, used-in, numbers-in, nodes-in, rest-in, rooted, is-sheet, sheet-of}
-use Rattle.theory.specs.Logic.{true-false, and-split, and-join, only-some, then-some, all-append, all-at, all-from}
-use Rattle.theory.specs.Codes.{decode-encode}
+use Rattle.theory.specs.Logic.{true-false, and-split, and-join}
+use Rattle.theory.specs.Lists.{all-append, all-at, all-from, all-weaken, all-map, map-back, all-replicate, two-first, all-zero}
+use Rattle.theory.specs.Codes.{size-length, one-tree-is, trees-below}
+use Rattle.theory.specs.Numbers.{fits, amount, known, kind-number, node-number, number-node, known-body, plain-nodes, body-number, plain}
 use Rattle.theory.specs.Fine.{fine, fine-node}
-use Rattle.theory.specs.Shape.{plain, plain-encode, Shaped, shaped, shaped-trees}
-use Rattle.theory.specs.Numbers.{all-weaken, all-map, map-back, fits, amount, known, kind-number, node-number, number-node, known-body, plain-nodes, body-number}
-
--- General laws.
-
-pub all-replicate : {A : Type 0} (p : A → Bool) (k : ℕ) (a : A) → p a ≡ true → all p (replicate k a) ≡ true
-unfolding all
-all-replicate p zero a h = refl
-all-replicate p (suc k) a h = and-join h (all-replicate p k a h)
-
-two-first : (xs : List ℕ) → 2 ≤ length xs → xs ≡ getD xs 0 0 ∷ getD xs 1 0 ∷ drop 2 xs
-two-first xs h = drop-cons xs 0 0 (omega arith) ∙ ap (λ r. getD xs 0 0 ∷ r) (drop-cons xs 1 0 (omega arith))
-
--- A list of which every number is zero.
-pub all-zero : (xs : List ℕ) → all (eqb 0) xs ≡ true → xs ≡ replicate (length xs) 0
-unfolding all
-all-zero [] e = refl
-all-zero (x ∷ xs) e = let s = and-split (eqb 0 x) _ e in ap₂ _∷_ (sym (eqb-true 0 x (s .0))) (all-zero xs (s .1))
-
-pub size-length : (f : Forest) → size f ≤ length (encode f)
-unfolding size encode
-size-length nil = omega arith
-size-length (lit l f) = omega (arith, size-length f)
-size-length (node c k f) = omega (arith, size-length f, length-append (encode k) (encode f))
-
--- One tree; below its head stand as many as the head says.
-pub one-tree-is : (ns : List Node) → one-tree ns ≡ true → trees ns ≡ some 1
-unfolding one-tree exactly-one
-one-tree-is ns h = go (trees ns) h
-  where
-    go : (o : Option ℕ) → exactly-one o ≡ true → o ≡ some 1
-    go none e = true-false (sym e)
-    go (some t) e = ap some (eqb-true t 1 e)
-
-pub trees-below : (c : Conn) (k : ℕ) (ns : List Node) → trees (head c k ∷ ns) ≡ some 1 → trees ns ≡ some k
-unfolding trees joined
-trees-below c k ns e =
-    let w = then-some (trees ns) (joined (head c k)) e in
-    let o = only-some (leb k (w .0)) _ (w .2) in
-    w .1 ∙ ap some (omega (arith, leb-true k (w .0) (o .0), o .1))
+use Rattle.theory.specs.Shape.{Shaped, shaped, shaped-trees, shaped-flat, shaped-plain}
 
 -- Numbers that begin with kind 5 and go on with nodes of bodies: each is one of a node, and as one tree they are shaped.
 rooted-known : (n : ℕ) (xs : List ℕ) → rooted n xs ≡ true → all known xs ≡ true
@@ -165,20 +127,6 @@ module _ (n : ℕ) (ns : List Node) where
   unfolding rest-in used-in sheet-of
   rest-made = drop-at (map number-of ns) _ (length ns) (length-map ns number-of)
 
--- Nodes of the form of a sheet: the head of the root, then the nodes of its children; and what they are read as.
-pub shaped-flat : {n : ℕ} {ns : List Node} (form : Shaped n ns) → ns ≡ head root (size (form .kids)) ∷ encode (form .kids)
-unfolding encode
-shaped-flat form = form .spelled ∙ ap (λ xs. head root (size (form .kids)) ∷ xs) (append-nil (encode (form .kids)))
-
-pub shaped-decode : {n : ℕ} {ns : List Node} (form : Shaped n ns) → decode ns ≡ node root (form .kids) nil
-shaped-decode form = ap decode (form .spelled) ∙ decode-encode (node root (form .kids) nil)
-
-pub shaped-kids : {n k : ℕ} {ns : List Node} (form : Shaped n (head root k ∷ ns)) → form .kids ≡ decode ns
-shaped-kids {ns = ns} form =
-    let flat = shaped-flat form in
-    let below : encode (form .kids) ≡ ns = cc in
-    sym (decode-encode (form .kids)) ∙ ap decode below
-
 module _ {n : ℕ} {ns : List Node} (few : n ≤ 512) (form : Shaped n ns) (light : weight ns ≤ 4096) where
   few-nodes : length ns ≤ 4096
   unfolding weight
@@ -202,8 +150,7 @@ module _ {n : ℕ} {ns : List Node} (few : n ≤ 512) (form : Shaped n ns) (ligh
       let below = encode (form .kids) in
       let small = and-split (fits (head root (size (form .kids)))) (all fits below) (rw (shaped-flat form) at nodes-fit) in
       let five = eq-eqb _ 5 (kind-number 5 (size (form .kids)) (small .0)) in
-      let inner = plain-encode n (form .kids) ∙ form .fine in
-      let bodies = all-from (λ y. body-node n (number-of y)) below (λ y m. body-number n y (all-at fits below (small .1) m) ∙ all-at (plain n) below inner m) in
+      let bodies = all-from (λ y. body-node n (number-of y)) below (λ y m. body-number n y (all-at fits below (small .1) m) ∙ all-at (plain n) below (shaped-plain form) m) in
       rw (shaped-flat form) (and-join five (all-map number-of (body-node n) below ∙ bodies))
 
   -- The sheet made of well-formed nodes is a sheet.

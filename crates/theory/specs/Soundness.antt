@@ -1,38 +1,33 @@
 -- Soundness of the rules: a change keeps the value of a tree, and a step keeps the models of a sheet.
-use mathlib.Core.Bool.{true, false, _||_, not}
+use mathlib.Core.Bool.{true}
 use mathlib.Core.List.{List, [], _∷_, _++_}
-use mathlib.Core.Logic.{_⊎_, inl, inr, _↔_}
+use mathlib.Core.Logic.{_↔_, ⊎-elim}
 use mathlib.Core.Option.{some}
 use mathlib.Core.Path.{_≡_, refl, sym, ap, _∙_}
-use Prim.Native.Nat.{ℕ, zero, suc, _+_}
+use Prim.Native.Nat.{ℕ, zero, suc}
 use native.Mathlib.Omega.{arith}
-use borrow.Author.Tests.{eqb-true, eq-eqb}
 use lib.ListN.{take, drop, take-append-drop}
-use Rattle.model.specs.Literal.{Literal, pos, neg, complement, same}
-use Rattle.model.specs.Forest.{Conn, and, or, root, same-conn, Forest, nil, lit, node, constant, _⊕_, kids, has-unit}
+use Rattle.model.specs.Literal.{Literal, complement, same}
+use Rattle.model.specs.Forest.{Conn, and, or, root, Forest, nil, lit, node, constant, _⊕_, kids, has-unit}
 use Rattle.model.specs.Code.{Node, encode, decode}
 use Rattle.model.specs.Rules.{neutral, deciding, assigned, step}
-use Rattle.theory.specs.Logic.{true-false, and-split, or-split, or-left, or-right, fails-if}
-use Rattle.theory.specs.Literals.{same-is, same-self, complement-other}
-use Rattle.theory.specs.Forests.{⊕-nil}
-use Rattle.theory.specs.Codes.{decode-encode}
+use Rattle.theory.specs.Logic.{or-left}
+use Rattle.theory.specs.Forests.{⊕-nil, not-conn, unit-here}
+use Rattle.theory.specs.Codes.{decode-encode, decode-onto, decode-++}
 use Rattle.theory.specs.Evaluation.{Set, fails-empty, fails-both, fails, values, Valuation, value-of, zeros, with-one, Holds}
-use Rattle.theory.specs.Values.{both-empty, fails-⊕, same-fails, values-⊕, decode-onto, decode-++, values-onto}
-use Rattle.theory.specs.Changes.{Change, absorbed, omitted, unwrapped, spreaded, lifted, merged, factored}
-use Rattle.theory.specs.Inversion.{Stepped, stepped, not-conn}
-use Rattle.theory.specs.Rooted.{Rooted, no-root, below-root}
+use Rattle.theory.specs.Clauses.{clauses-root, unit-derived}
+use Rattle.theory.specs.Totals.{value-complement, zeros-value}
+use Rattle.theory.specs.Valuations.{Consistent, zeros-consistent, with-one-consistent, model-holds, derived-two}
+use Rattle.theory.specs.Changes.{Change, absorbed, omitted, unwrapped, spreaded, lifted, merged, factored, change-node}
+use Rattle.theory.specs.Inversion.{Stepped, stepped}
+use Rattle.theory.specs.Values.{fails-⊕, same-fails, values-⊕, values-onto}
 use Rattle.theory.specs.Families.{Opposed, beside, absorbed-fails, omitted-fails, unwrapped-values, spread-fails, lifted-fails, factored-fails}
+use Rattle.theory.specs.Rooted.{Rooted, no-root, below-root, no-root-node}
 
 -- What a change asks of a set: that each literal which is a child both before and after it, as the literal of rules 9 and 10
 -- is, be opposed to its complement. A conjunction is asked nothing.
 abbrev pub Suits : Set → Conn → Forest → Forest → Type 0
 Suits s c k g = (l : Literal) → has-unit l k ≡ true → has-unit l (kids g) ≡ true → (c ≡ and → ⊥) → Opposed s c l
-
-unit-here : (l : Literal) (p q : Forest) → has-unit l (p ⊕ lit l q) ≡ true
-unfolding has-unit _⊕_
-unit-here l nil q = or-left (has-unit l q) (same-self l)
-unit-here l (lit x p) q = or-right (same l x) (unit-here l p q)
-unit-here l (node c k p) q = unit-here l p q
 
 kept : (s : Set) (c : Conn) (k m : Forest) {g : Forest} → g ≡ node c m nil → fails s c m ≡ fails s c k → values s g ≡ fails s c k ∷ []
 unfolding values
@@ -73,49 +68,20 @@ step-values s {place} {ns} t h =
     let now = ap decode (t .nodes) ∙ decode-++ (take place ns) (encode (t .result)) ∙ ap (decode-onto (take place ns)) (decode-encode (t .result)) in
     ap (values s) before ∙ values-onto s (take place ns) _ _ here ∙ ap (values s) (sym now)
 
--- A consistent set never holds a literal with its complement.
-abbrev pub Consistent : Set → Type 0
-Consistent s = (l : Literal) → s l ≡ true → s (complement l) ≡ false
-
-value-complement : (u : Valuation) (l : Literal) → value-of u l + value-of u (complement l) ≡ 2
-unfolding value-of complement
-value-complement u (pos v) = omega (arith, u .small v)
-value-complement u (neg v) = omega (arith, u .small v)
-
-zero-value : (u : Valuation) (l : Literal) → zeros u l ≡ true → value-of u l ≡ 0
-unfolding zeros
-zero-value u l e = eqb-true (value-of u l) 0 e
-
-pub zeros-consistent : (u : Valuation) → Consistent (zeros u)
-zeros-consistent u l h =
-    fails-if (zeros u (complement l)) (λ k. omega (arith, zero-value u l h, zero-value u (complement l) k, value-complement u l))
-
-pub with-one-consistent : (u : Valuation) (m : Literal) → value-of u m ≡ 1 → Consistent (with-one (zeros u) m)
-unfolding with-one
-with-one-consistent u m e l h =
-    fails-if (with-one (zeros u) m (complement l)) (λ k. go (or-split (zeros u l) (same l m) h) (or-split (zeros u (complement l)) (same (complement l) m) k))
-  where
-    go : (zeros u l ≡ true) ⊎ (same l m ≡ true) → (zeros u (complement l) ≡ true) ⊎ (same (complement l) m ≡ true) → ⊥
-    go (inl a) (inl b) = omega (arith, zero-value u l a, zero-value u (complement l) b, value-complement u l)
-    go (inl a) (inr b) = omega (arith, zero-value u l a, ap (value-of u) (same-is (complement l) m b), value-complement u l)
-    go (inr a) (inl b) = omega (arith, zero-value u (complement l) b, ap (value-of u) (same-is l m a), value-complement u l)
-    go (inr a) (inr b) = complement-other l (same-is (complement l) m b ∙ sym (same-is l m a))
-
 -- What the sets that a valuation asks about, `zeros u` and `with-one (zeros u) m`, have in common.
 pub record Asked (u : Valuation) (s : Set) : Type 0 where
   pub consistent : Consistent s
   pub zeros-in : (l : Literal) → value-of u l ≡ 0 → s l ≡ true
 
 zeros-asked : (u : Valuation) → Asked u (zeros u)
-unfolding zeros
-zeros-asked u = record { consistent = zeros-consistent u; zeros-in = λ l e. eq-eqb (value-of u l) 0 e }
+zeros-asked u = record { consistent = zeros-consistent u; zeros-in = λ l e. zeros-value u l .1 e }
 
 with-one-asked : (u : Valuation) (m : Literal) → value-of u m ≡ 1 → Asked u (with-one (zeros u) m)
-unfolding with-one zeros
+unfolding with-one
 with-one-asked u m e =
     record {
       consistent = with-one-consistent u m e;
-      zeros-in = λ l z. or-left (same l m) (eq-eqb (value-of u l) 0 z);
+      zeros-in = λ l z. or-left (same l m) (zeros-value u l .1 z);
     }
 
 -- Trees that evaluate alike under those sets have the same models.
@@ -123,24 +89,10 @@ pub holds-along : (u : Valuation) (c : Conn) (f g : Forest) → ((s : Set) → A
 holds-along u c f g e h =
     (sym (e (zeros u) (zeros-asked u)) ∙ h .0, λ m q. sym (e (with-one (zeros u) m) (with-one-asked u m q)) ∙ h .1 m q)
 
--- A model gives a unit the value 2, since the root fails where a unit does.
-unit-fails : (s : Set) (l : Literal) (k : Forest) → has-unit l k ≡ true → s l ≡ true → fails s root k ≡ true
-unfolding has-unit fails fails-both
-unit-fails s l nil e h = true-false (sym e)
-unit-fails s l (lit x f) e h = go (or-split (same l x) (has-unit l f) e) (unit-fails s l f)
-  where
-    go : (same l x ≡ true) ⊎ (has-unit l f ≡ true) → (has-unit l f ≡ true → s l ≡ true → fails s root f ≡ true) → (s x || fails s root f) ≡ true
-    go (inl q) r = or-left (fails s root f) (ap s (sym (same-is l x q)) ∙ h)
-    go (inr q) r = or-right (s x) (r q h)
-unit-fails s l (node c k f) e h = or-right (fails s c k) (unit-fails s l f e h)
-
+-- A model gives a unit the value 2, since the unit is derived.
 pub unit-value : (u : Valuation) (l : Literal) (k : Forest) → Holds u root (node root k nil) → has-unit l k ≡ true → value-of u l ≡ 2
-unfolding fails with-one zeros
 unit-value u l k h e =
-    let not-in : (s : Set) → fails s root (node root k nil) ≡ false → s l ≡ true → ⊥ = λ s f q. true-false (sym (unit-fails s l k e q) ∙ sym (both-empty root (fails s root k)) ∙ f) in
-    let not-zero : value-of u l ≡ 0 → ⊥ = λ z. not-in (zeros u) (h .0) (eq-eqb (value-of u l) 0 z) in
-    let not-one : value-of u l ≡ 1 → ⊥ = λ z. not-in (with-one (zeros u) l) (h .1 l z) (or-right (zeros u l) (same-self l)) in
-    omega (arith, value-complement u l)
+    derived-two u (rw (clauses-root k) at (model-holds u root (node root k nil) .1 h)) (unit-derived l k e)
 
 -- Rule 10: in a model, a unit of the root is opposed to its complement. Rule 9: below the root every consistent set suits.
 unit-opposed : (u : Valuation) (s : Set) → Asked u s → {c : Conn} → c ≡ root → (l : Literal) (k : Forest) → Holds u root (node root k nil) → has-unit l k ≡ true → Opposed s c l
@@ -155,18 +107,10 @@ inner-suits s h or k g n l before still m = h l
 inner-suits s h root k g n l before still m = absurd (n refl)
 
 -- A change of a root leaves a root.
-at-root : {c : Conn} {m g : Forest} → g ≡ node c m nil → c ≡ root → g ≡ node root (kids g) nil
-unfolding kids
-at-root {c} {m} {g} r h = r ∙ ap (λ d. node d m nil) h ∙ ap (λ f. node root f nil) (sym (ap kids r))
-
 root-stays : {c : Conn} {k g : Forest} → Change c k g → c ≡ root → g ≡ node root (kids g) nil
-root-stays (absorbed p q e n r) h = at-root r h
-root-stays (omitted p q e r) h = at-root r h
-root-stays (unwrapped n e r) h = absurd (n h)
-root-stays (spreaded p q l n e m r) h = at-root r h
-root-stays (lifted p a b q l n e r) h = at-root r h
-root-stays (merged p a q n e r) h = at-root r h
-root-stays (factored a n e m r) h = at-root r h
+unfolding kids
+root-stays x h =
+    ⊎-elim (λ w. rw (w .1, h)) (λ w. absurd (w .0 h)) (change-node x)
 
 suited-holds : (u : Valuation) {place : ℕ} {ns ms : List Node} (t : Stepped place ns ms) → ((s : Set) → Asked u s → Suits-step s t) → Holds u root (decode ns) ↔ Holds u root (decode ms)
 suited-holds u {ns} {ms} t h =
@@ -175,7 +119,6 @@ suited-holds u {ns} {ms} t h =
 
 -- Soundness of a step: the nodes before it and after it have the same models.
 pub stepped-holds : (u : Valuation) (place : ℕ) (ns : List Node) {ms : List Node} → Rooted ns → Stepped place ns ms → Holds u root (decode ns) ↔ Holds u root (decode ms)
-unfolding no-root
 stepped-holds u zero ns {ms} w t =
     let x = t .rewriting in
     let is-root : x .conn ≡ root = cc in
@@ -188,8 +131,8 @@ stepped-holds u zero ns {ms} w t =
 stepped-holds u (suc place) ns w t =
     let x = t .rewriting in
     let inside = ap no-root (sym (x .was)) ∙ below-root place ns w in
-    let inner = not-conn (and-split (not (same-conn (x .conn) root)) _ inside .0) in
-    suited-holds u t (λ s a. inner-suits s (a .consistent) (x .conn) (x .children) (x .new) inner)
+    let inner = not-conn (no-root-node (x .conn) (x .children) (x .rest) inside .0) in
+    suited-holds u t (λ s a. inner-suits s (a .consistent) (x .conn) (x .children) (x .new) (λ q. inner (sym q)))
 
 pub step-holds : (u : Valuation) (r place i j : ℕ) (ns : List Node) {ms : List Node} → Rooted ns → step r place i j ns ≡ some ms → Holds u root (decode ns) ↔ Holds u root (decode ms)
 step-holds u r place i j ns w e = stepped-holds u place ns w (stepped r place i j ns e)

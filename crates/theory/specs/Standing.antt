@@ -1,6 +1,6 @@
 -- Where literals and groups stand in a forest: at any depth, and at which index among the trees themselves.
 use mathlib.Core.Bool.{Bool, true, false, _||_, or-assoc}
-use mathlib.Core.Logic.{_⊎_, ⊎-elim}
+use mathlib.Core.Logic.{⊎-elim}
 use mathlib.Core.Option.{some}
 use mathlib.Core.Path.{_≡_, refl, sym, ap}
 use Prim.Native.Nat.{ℕ, suc, _≤_}
@@ -8,11 +8,10 @@ use native.Mathlib.Omega.{arith}
 use borrow.Author.Tests.{eq-eqb}
 use lib.Dec.{eqb}
 use Rattle.model.specs.Literal.{Literal, option, same}
-use Rattle.model.specs.Forest.{and, or, root, Forest, nil, lit, node, _⊕_, size, first, after, literal-at, conjunction-at, literals-only, has-unit, mentions}
+use Rattle.model.specs.Forest.{and, or, root, Forest, nil, lit, node, _⊕_, first, after, literal-at, conjunction-at, literals-only, has-unit, mentions}
 use Rattle.model.specs.Rules.{shares, groups}
 use Rattle.theory.specs.Logic.{true-false, and-split, or-split, or-left, or-right}
 use Rattle.theory.specs.Literals.{same-is}
-use Rattle.theory.specs.Forests.{size-after, size-zero}
 
 -- The literal itself, not only its option, stands in the trees, at any depth.
 unfoldable pub stands : Literal → Forest → Bool
@@ -71,18 +70,3 @@ group-index l (lit x f) e n = let w = group-index l f e n in (suc (w .0), w .1, 
 group-index l (node and k f) e n = (0, k, refl, refl, and-split (has-unit l k) (shares l f) e .0)
 group-index l (node or k f) e n = true-false (sym e)
 group-index l (node root k f) e n = true-false (sym e)
-
-pub groups-size : (f : Forest) → groups f ≤ size f
-unfolding groups size
-groups-size nil = omega arith
-groups-size (lit x f) = omega (arith, groups-size f)
-groups-size (node c k f) = omega (arith, groups-size f)
-
-pub mentions-some : (v : ℕ) (f : Forest) → mentions v f ≡ true → 1 ≤ size f
-unfolding mentions size
-mentions-some v nil e = true-false (sym e)
-mentions-some v (lit x f) e = omega arith
-mentions-some v (node c k f) e = omega arith
-
-pub past-end : (i : ℕ) (f : Forest) → size f ≤ i → after i f ≡ nil
-past-end i f n = size-zero (after i f) (omega (arith, size-after i f))

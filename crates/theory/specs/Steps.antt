@@ -9,6 +9,7 @@ use native.Mathlib.Omega.{arith}
 use lib.ListN.{length}
 use Rattle.model.specs.Code.{Node, leaf, head, literals, weight}
 use Rattle.model.specs.Rules.{step}
+use Rattle.model.specs.History.{cube}
 use Rattle.theory.specs.Shape.{Shaped, shaped-length, step-shaped}
 use Rattle.theory.specs.Measure.{bulk, pairs, Sooner, step-falls, step-weight}
 
@@ -62,9 +63,6 @@ steps-fall x h s done = omega arith
 steps-fall x h s (more r p i j e t) =
     let f = potential-falls x h (step-falls r p i j s e) in
     omega (arith, steps-fall x (omega arith) (step-shaped r p i j s e) t)
-
-abbrev pub cube : ℕ → ℕ
-cube x = x * x * x
 
 -- From a sheet there are at most as many steps as the cube of its nodes plus twice its literals, whatever their rules and places.
 pub steps-bound : {n k : ℕ} {ns ms : List Node} → Shaped n ns → Steps k ns ms → k ≤ cube (bulk 2 ns)

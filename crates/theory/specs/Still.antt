@@ -9,19 +9,13 @@ use borrow.Author.Tests.{leb-true, leb-false, le-leb, eqb-false}
 use lib.Dec.{eqb, leb}
 use Rattle.model.specs.Base.{only-if, then}
 use Rattle.model.specs.Literal.{Literal, complement, option, same}
-use Rattle.model.specs.Forest.{Conn, and, or, root, same-conn, Forest, nil, lit, node, _⊕_, size, first, after, literal-at, conjunction-at, constant-at, has-unit, mentions}
+use Rattle.model.specs.Forest.{Conn, and, or, root, same-conn, Forest, nil, lit, node, size, first, after, literal-at, conjunction-at, constant-at, has-unit, mentions}
 use Rattle.model.specs.Rules.{neutral, deciding, shares, groups, absorb, omit, unwrap, spread, lift, factor, absorbs, omits, unwraps, spreads, lifts, factors, change, Row, row, table, row-of, turn}
-use Rattle.theory.specs.Logic.{true-false, none-some, and-join, or-split, or-neither, either, fails-if}
+use Rattle.theory.specs.Logic.{true-false, none-some, and-join, or-split, or-neither, either, fails-if, only-none}
 use Rattle.theory.specs.Literals.{same-is, complement-other, option-complement}
-use Rattle.theory.specs.Forests.{size-⊕, cut-at, size-after, size-zero, literal-here, conjunction-here, constant-here, same-conn-self}
+use Rattle.theory.specs.Forests.{size-⊕, cut-at, size-after, size-zero, literal-here, conjunction-here, constant-here, same-conn-self, groups-size, mentions-some, past-end}
 use Rattle.theory.specs.Calm.{Still}
-use Rattle.theory.specs.Standing.{stands, stands-⊕, stands-mentions, unit-index, group-index, groups-size, mentions-some, past-end}
-
--- General law
-only-none : {A : Type 0} (b : Bool) (a : A) → only-if b a ≡ none → b ≡ false
-unfolding only-if
-only-none true a e = none-some (sym e)
-only-none false a e = refl
+use Rattle.theory.specs.Standing.{stands, stands-⊕, stands-mentions, unit-index, group-index}
 
 -- None of the trees is false.
 abbrev pub NoFalse : Forest → Type 0

@@ -3,30 +3,19 @@ use mathlib.Core.Bool.{true}
 use mathlib.Core.List.{List, _++_}
 use mathlib.Core.Logic.{_⊎_, inl, inr, _↔_}
 use mathlib.Core.Option.{Option, none, some}
-use mathlib.Core.Path.{_≡_, refl, sym, ap, _∙_}
+use mathlib.Core.Path.{_≡_, sym, ap, _∙_}
 use Prim.Native.Nat.{ℕ, zero, suc, _<_}
 use native.Mathlib.Omega.{arith}
 use lib.ListN.{length, take, drop}
 use Rattle.model.specs.Base.{only-if, is-some, then}
 use Rattle.model.specs.Forest.{Forest, size, after, kids}
 use Rattle.model.specs.Code.{Node, encode, decode}
-use Rattle.model.specs.Rules.{rewrite, step}
+use Rattle.model.specs.Rules.{rewrite, step, NoRule, Applies}
 use Rattle.model.specs.Strategy.{Redex, redex, least-j, least-i, least-place, next, contract, next-step}
-use Rattle.theory.specs.Logic.{none-some, only-some, then-some, is-some-of}
+use Rattle.theory.specs.Logic.{none-some, only-some, then-some, is-some-of, none-if, is-some-none}
+use Rattle.theory.specs.Inversion.{step-some, step-none}
 use Rattle.theory.specs.Least.{least-found, least-at, least-none-all}
-use Rattle.theory.specs.Bounds.{rewrite-within, step-within, step-some, step-none}
-
--- General laws.
-
--- An option that cannot hold anything is none.
-none-if : {A : Type 0} (o : Option A) → ((a : A) → o ≡ some a → ⊥) → o ≡ none
-none-if none h = refl
-none-if (some a) h = absurd (h a refl)
-
-is-some-none : {A : Type 0} (o : Option A) {B : Type 0} (b : B) → (only-if (is-some o) b ≡ none) ↔ (o ≡ none)
-unfolding only-if is-some
-is-some-none none b = ((λ e. refl), λ e. refl)
-is-some-none (some a) b = ((λ e. none-some (sym e)), λ e. none-some (sym e))
+use Rattle.theory.specs.Bounds.{rewrite-within, step-within}
 
 -- Each level of the search has no answer exactly where no number that is left open gives a step.
 none-j : (r p i : ℕ) (f : Forest) → (least-j r p i f ≡ none) ↔ ((j : ℕ) → rewrite r i j f ≡ none)
@@ -60,10 +49,6 @@ none-place r ns =
     ((λ e i j. step-none r p i j ns .1 (below .0 e i j)), λ h. below .1 (λ i j. step-none r p i j ns .0 (h i j))))
     (λ p l i j. none-if (step r p i j ns) (λ ms e. let h = step-within r p i j ns e in omega arith))
 
--- No rule applies at any place, child and inner child.
-abbrev pub NoRule : List Node → Type 0
-NoRule ns = (r p i j : ℕ) → step r p i j ns ≡ none
-
 rule-zero : (p i j : ℕ) (ns : List Node) → step zero p i j ns ≡ none
 rule-zero p i j ns = none-if (step zero p i j ns) (λ ms e. let h = step-within zero p i j ns e in omega arith)
 
@@ -84,10 +69,6 @@ none-iff ns = ((λ e. go (search .0 e)), λ h. search .1 (λ r. h (suc r)))
     go : ((r p i j : ℕ) → step (suc r) p i j ns ≡ none) → NoRule ns
     go h zero = λ p i j. rule-zero p i j ns
     go h (suc r) = h r
-
--- The rule applies at the place, child and inner child: the step gives some nodes.
-abbrev pub Applies : ℕ → ℕ → ℕ → ℕ → List Node → Type 0
-Applies r p i j ns = (ms : List Node) × (step r p i j ns ≡ some ms)
 
 -- The first number is the smaller one, or they are equal and the tie is broken.
 abbrev pub Earlier : ℕ → ℕ → Type 0 → Type 0

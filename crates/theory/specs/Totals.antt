@@ -10,10 +10,11 @@ use lib.Dec.{eqb}
 use Rattle.model.specs.Base.{pick, all}
 use Rattle.model.specs.Literal.{Literal, pos, neg, complement, same, has}
 use Rattle.model.specs.Clauses.{Clause}
-use Rattle.theory.specs.Logic.{true-false, either, fails-if, pick-true, pick-false, all-at, all-from}
+use Rattle.theory.specs.Logic.{true-false, either, fails-if, pick-true, pick-false}
+use Rattle.theory.specs.Lists.{all-at, all-from}
 use Rattle.theory.specs.Literals.{same-is, not-same, has-mem, not-has}
-use Rattle.theory.specs.Exact.{all-but-one}
 use Rattle.theory.specs.Evaluation.{Valuation, value-of, zeros, with-one}
+use Rattle.theory.specs.Clauses.{all-but-one}
 
 -- The sum of the values of a clause's literals, each counted once: "a clause is a set, so duplicates merge".
 unfoldable pub total : Valuation → Clause → ℕ

@@ -2,8 +2,8 @@
 -- same models have the same report.
 use mathlib.Core.Bool.{Bool, true, false}
 use mathlib.Core.List.{List, [], _∷_, _++_, List·Memᴰ, List·Memᴰ·head, List·Memᴰ·eq-of-singleton, Memᴰ·append-left, Memᴰ·append-right, List·Memᴰ·append-cases}
-use mathlib.Core.Logic.{_⊎_, inl, inr, ⊎-elim, _↔_}
-use mathlib.Core.Path.{_≡_, refl, sym, ap, _∙_}
+use mathlib.Core.Logic.{_⊎_, inl, inr, ⊎-elim, _↔_, Iff·rfl, Iff·trans, Iff·symm, Iff·and}
+use mathlib.Core.Path.{_≡_, refl, sym, ap, _∙_, subst}
 use Prim.Native.Nat.{ℕ, _-_, _≤_}
 use native.Mathlib.Omega.{arith}
 use Rattle.model.specs.Base.{pick, all, any}
@@ -11,20 +11,13 @@ use Rattle.model.specs.Literal.{Literal, pos, neg, complement, same, has}
 use Rattle.model.specs.Forest.{Conn, Forest}
 use Rattle.model.specs.Clauses.{Clause, clauses, Derived, derived, Contradictory}
 use Rattle.model.specs.Propagation.{facts-of, report}
-use Rattle.theory.specs.Logic.{true-false, fails-if, or-split, or-left, any-at, any-from}
+use Rattle.theory.specs.Logic.{fails-if, or-split}
+use Rattle.theory.specs.Lists.{any-none}
 use Rattle.theory.specs.Literals.{same-is, complement-other}
 use Rattle.theory.specs.Evaluation.{Set, some-inside, bridge, Valuation, value-of, zeros, with-one, Holds}
 use Rattle.theory.specs.Exact.{facts-derived, consistent, contradictory-or-not}
 use Rattle.theory.specs.ExactReports.{tells-same}
 use Rattle.theory.specs.Totals.{total, value-small, value-complement, zeros-value, total-zero, total-but-one, total-two, clause-satisfied}
-
--- General laws.
-
-any-none : {A : Type 0} (p : A → Bool) (xs : List A) → (any p xs ≡ false) ↔ ((x : A) → List·Memᴰ x xs → p x ≡ false)
-any-none p xs = (
-  λ e x m. fails-if (p x) (λ h. true-false (sym (any-from p xs m h) ∙ e)),
-  λ h. fails-if (any p xs) (λ e. let w = any-at p xs e in true-false (sym (w .2) ∙ h (w .0) (w .1))),
-)
 
 -- A set that never holds a literal together with its complement.
 abbrev pub Consistent : Set → Type 0
@@ -52,17 +45,6 @@ module _ (u : Valuation) where
       go (inl z) (inr q) = omega (arith, value-complement u l, ap (value-of u) q)
       go (inr p) (inl y) = omega (arith, value-complement u l, ap (value-of u) p)
       go (inr p) (inr q) = complement-other l (q ∙ sym p)
-
-  -- A literal of value 2 is in neither set, its complement in both.
-  pub two-zeros : (l : Literal) → value-of u l ≡ 2 → (zeros u l ≡ false) × (zeros u (complement l) ≡ true)
-  two-zeros l e = (zeros-fail l (λ z. omega arith), zeros-value u (complement l) .1 (omega (arith, value-complement u l)))
-
-  pub two-with-one : (m : Literal) → value-of u m ≡ 1 → (l : Literal) → value-of u l ≡ 2 → (with-one (zeros u) m l ≡ false) × (with-one (zeros u) m (complement l) ≡ true)
-  unfolding with-one
-  two-with-one m v l e = (
-    fails-if (with-one (zeros u) m l) (λ h. ⊎-elim (λ z. omega arith) (λ q. omega (arith, ap (value-of u) q)) (one-value m l h)),
-    or-left (same (complement l) m) (two-zeros l e .1),
-  )
 
 -- A valuation is a model of clauses that each total 2 at least.
 abbrev pub Model : Valuation → List Clause → Type 0
@@ -190,3 +172,27 @@ module _ {cs ds : List Clause} (e : SameModels cs ds) where
   -- Clauses with the same models have the same report.
   pub same-report : (n : ℕ) → report n cs ≡ report n ds
   same-report n = tells-same n same-contradictory same-derived
+
+-- Equal clauses have the same models, and the relation is transitive.
+pub same-of : {cs ds : List Clause} → cs ≡ ds → SameModels cs ds
+same-of {cs} e u = subst (λ xs. Model u cs ↔ Model u xs) e Iff·rfl
+
+pub same-trans : {cs ds es : List Clause} → SameModels cs ds → SameModels ds es → SameModels cs es
+same-trans p q u = Iff·trans (p u) (q u)
+
+-- Clauses with the same models, put together; the same clauses more; and two lists of clauses in another order.
+pub same-both : {bs cs ds es : List Clause} → SameModels bs cs → SameModels ds es → SameModels (bs ++ ds) (cs ++ es)
+same-both {bs} {cs} {ds} {es} p q u =
+    Iff·trans (model-append u bs ds) (Iff·trans (Iff·and (p u) (q u)) (Iff·symm (model-append u cs es)))
+
+pub same-append : {cs ds : List Clause} (es : List Clause) → SameModels cs ds → SameModels (cs ++ es) (ds ++ es)
+same-append es p = same-both p (same-of refl)
+
+pub same-swap : (bs cs ds : List Clause) → SameModels (bs ++ (cs ++ ds)) (cs ++ (bs ++ ds))
+same-swap bs cs ds u = (there bs cs, there cs bs)
+  where
+    there : (bs cs : List Clause) → Model u (bs ++ (cs ++ ds)) → Model u (cs ++ (bs ++ ds))
+    there bs cs m =
+        let first = model-append u bs (cs ++ ds) .0 m in
+        let second = model-append u cs ds .0 (first .1) in
+        model-append u cs (bs ++ ds) .1 (second .0, model-append u bs ds .1 (first .0, second .1))

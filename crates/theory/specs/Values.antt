@@ -1,12 +1,13 @@
 -- The value of a tree depends on what stands below and beside it through values alone: how `fails` and `values` go through
 -- forests side by side, through first trees and the rest, and through the prefix code.
-use mathlib.Core.Bool.{Bool, true, false, and-assoc, or-assoc}
+use mathlib.Core.Bool.{Bool, and-assoc, or-assoc, _||_, and-true, or-false}
 use mathlib.Core.List.{List, [], _∷_, _++_}
 use mathlib.Core.Path.{_≡_, refl, sym, ap, ap₂, _∙_}
 use Prim.Native.Nat.{ℕ, zero, suc}
 use lib.ListN.{take, drop}
 use Rattle.model.specs.Forest.{Conn, and, or, root, Forest, nil, lit, node, _⊕_, first, after}
-use Rattle.model.specs.Code.{Node, leaf, head, push, decode}
+use Rattle.model.specs.Code.{Node, leaf, head, push}
+use Rattle.theory.specs.Codes.{decode-onto}
 use Rattle.theory.specs.Evaluation.{Set, fails-empty, fails-both, fails, values}
 
 -- Each connective's `fails-both` is associative, and `fails-empty` is neutral for it on either side.
@@ -24,12 +25,16 @@ empty-both root x = refl
 
 pub both-empty : (c : Conn) (x : Bool) → fails-both c x (fails-empty c) ≡ x
 unfolding fails-both fails-empty
-both-empty and true = refl
-both-empty and false = refl
-both-empty or true = refl
-both-empty or false = refl
-both-empty root true = refl
-both-empty root false = refl
+both-empty and x = or-false x
+both-empty or x = and-true x
+both-empty root x = or-false x
+
+-- Where the node is no disjunction, it fails where either does.
+pub conjunctive : (c : Conn) → (c ≡ or → ⊥) → (x y : Bool) → fails-both c x y ≡ (x || y)
+unfolding fails-both
+conjunctive and h x y = refl
+conjunctive or h x y = absurd (h refl)
+conjunctive root h x y = refl
 
 pub fails-⊕ : (s : Set) (c : Conn) (f g : Forest) → fails s c (f ⊕ g) ≡ fails-both c (fails s c f) (fails s c g)
 unfolding fails _⊕_
@@ -70,16 +75,6 @@ values-after s zero f = refl
 values-after s (suc n) nil = refl
 values-after s (suc n) (lit l f) = values-after s n f
 values-after s (suc n) (node c k f) = values-after s n f
-
--- Nodes read onto a forest that already stands to their right.
-unfoldable pub decode-onto : List Node → Forest → Forest
-decode-onto [] f = f
-decode-onto (x ∷ ns) f = push x (decode-onto ns f)
-
-pub decode-++ : (ms ns : List Node) → decode (ms ++ ns) ≡ decode-onto ms (decode ns)
-unfolding decode decode-onto
-decode-++ [] ns = refl
-decode-++ (x ∷ ms) ns = ap (push x) (decode-++ ms ns)
 
 -- A change that keeps the values of the trees from a place on keeps the values of the trees from any earlier place on.
 pub values-onto : (s : Set) (ns : List Node) (f g : Forest) → values s f ≡ values s g → values s (decode-onto ns f) ≡ values s (decode-onto ns g)

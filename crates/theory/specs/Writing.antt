@@ -11,20 +11,22 @@ use lib.ListN.{length, take, drop, length-map, length-drop, take-append-drop}
 use lib.Seq.{length-take-le}
 use Rattle.model.specs.Base.{all}
 use Rattle.model.specs.Forest.{root, Forest, nil, node, size, kids}
-use Rattle.model.specs.Code.{number-of, one-tree, kind, head, encode, decode, weight, node-of}
+use Rattle.model.specs.Code.{number-of, kind, head, encode, decode, weight, node-of}
 use Rattle.model.specs.Limits.{code-length}
 use Rattle.model.specs.Sheet.{body-node, options-in, numbers-in, nodes-in, rooted, is-sheet, sheet-of}
-use Rattle.model.specs.Book.{cut, size-of, body-ok, bodies-of, pieces, codes-end, contents-end, length-due, options-of, codes-of, contents-of, numbers-of, book-nodes, counts, written-rules, written}
+use Rattle.model.specs.Book.{size-of, bodies-of, pieces, codes-end, contents-end, length-due, options-of, codes-of, contents-of, numbers-of, book-nodes, counts, written-rules, written}
 use Rattle.model.specs.Calls.{book-refusal}
-use Rattle.theory.specs.Codes.{decode-encode}
-use Rattle.theory.specs.Numbers.{map-back, number-node, all-weaken, known, known-body}
 use Rattle.theory.specs.Logic.{true-false, and-split, and-join}
-use Rattle.theory.specs.Sheets.{options-made, nodes-made, shaped-flat, size-length, sheet-facts, sheet-is}
+use Rattle.theory.specs.Lists.{map-back, map-drop}
+use Rattle.theory.specs.Codes.{decode-encode, size-length}
+use Rattle.theory.specs.Numbers.{number-node, known, known-body}
+use Rattle.theory.specs.Shape.{shaped-flat}
+use Rattle.theory.specs.Sheets.{options-made, nodes-made, sheet-facts, sheet-is}
 use Rattle.theory.specs.Bytes.{length-words, Bytes, below-all, pieces-part}
-use Rattle.theory.specs.Contents.{node-counts, total, places, flat-places, length-places, in-line-places, in-line-means, below-places}
-use Rattle.theory.specs.Counts.{map-drop, length-counts, total-counts, counts-some, bodies-ok, counts-bodies, lengths-cut}
+use Rattle.theory.specs.Contents.{node-counts, total, places, flat-places, length-places, in-line-places, in-line-means, below-places, lengths-cut}
+use Rattle.theory.specs.Loading.{Accepted, accepted-book, book-accepted, forest-of, book-forest, loaded-shaped, loaded-kids, loaded-sheet, book-numbers}
+use Rattle.theory.specs.Counts.{length-counts, total-counts, counts-some, bodies-ok, counts-bodies}
 use Rattle.theory.specs.Parts.{book-of, Fit, Reads, book-reads, book-parts}
-use Rattle.theory.specs.Loading.{Accepted, accepted-book, book-accepted, forest-of, bodies-flat, all-flatten, book-forest, loaded-shaped, loaded-kids, loaded-sheet}
 
 -- What is written of a sheet whose root has these children: a book of the sheet's options, the other book's codes, the
 -- contents that the node counts of the children give, and their numbers.
@@ -134,14 +136,11 @@ module _ (s b : List ℕ) (sheet : is-sheet s ≡ true) (book : book-refusal b �
   written-loads = ap₂ sheet-of (written-reads .options) written-nodes ∙ sym (sheet-is s sheet)
 
 module _ (b : List ℕ) (a : Accepted b) where
-  -- Every number of an accepted book's bodies passes the test of bodies, so it is the number of its node.
+  -- Every number of an accepted book's bodies is the number of its node.
   numbers-again : map number-of (map node-of (numbers-of b)) ≡ numbers-of b
-  unfolding body-ok
   numbers-again =
       let n : ℕ = options-of b in
-      let bodies = all-weaken (body-ok n) (all (body-node n)) (λ xs h. and-split (all (body-node n) xs) (one-tree (map node-of xs)) h .0) (bodies-of b) (a .bodies) in
-      let plain = ap (all (body-node n)) (sym (bodies-flat b a)) ∙ all-flatten (body-node n) (bodies-of b) ∙ bodies in
-      map-back node-of number-of (body-node n) (λ x h. number-node x (known-body n x h)) (numbers-of b) plain
+      map-back node-of number-of (body-node n) (λ x h. number-node x (known-body n x h)) (numbers-of b) (book-numbers b a)
 
   loaded-nodes : nodes-in (sheet-of (options-of b) (book-nodes b)) ≡ book-nodes b
   loaded-nodes = nodes-made (a .options) (loaded-shaped b a) (a .weight)
@@ -155,11 +154,9 @@ module _ (b : List ℕ) (a : Accepted b) where
   loaded-counts : counts (forest-of (bodies-of b)) ≡ node-counts (contents-of b)
   unfolding bodies-of numbers-of
   loaded-counts =
-      let line = in-line-means (size-of b) 0 (contents-of b) (a .contents) in
-      let ks : List ℕ = node-counts (contents-of b) in
+      let sum = in-line-means (size-of b) 0 (contents-of b) (a .contents) .2 in
       counts-bodies (options-of b) (bodies-of b) (a .bodies)
-      ∙ ap (λ es. map length (cut es (numbers-of b))) (line .0)
-      ∙ lengths-cut 0 ks (numbers-of b) (omega (arith, length-words (size-of b) (drop (contents-end b) b)))
+      ∙ lengths-cut (contents-of b) (numbers-of b) (omega (arith, length-words (size-of b) (drop (contents-end b) b)))
 
   loaded-contents : places 0 (counts (forest-of (bodies-of b))) ≡ contents-of b
   loaded-contents =
