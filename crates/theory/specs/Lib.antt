@@ -53,3 +53,8 @@ pub mod RoundTrips
 -- Calls, and lists of calls.
 pub mod Effects
 pub mod Settled
+-- What code computes: numbers read from either end; stretches of a sheet, their heads and children.
+pub mod Spans
+pub mod Flat
+pub mod Stretches
+pub mod Heads

@@ -1,12 +1,19 @@
 -- Numbers read from the right, one node at a time: what a program that checks a body computes.
-use mathlib.Core.Bool.{Bool, _||_}
-use mathlib.Core.List.{List, [], _∷_}
+use mathlib.Core.Bool.{Bool, true, false, _&&_, _||_}
+use mathlib.Core.List.{List, [], _∷_, map}
 use mathlib.Core.Option.{Option, none, some}
-use Prim.Native.Nat.{ℕ, zero}
-use lib.Dec.{eqb}
-use Rattle.model.specs.Base.{only-if, then}
-use Rattle.model.specs.Code.{kind, node-of, joined}
+use mathlib.Core.Path.{_≡_, refl, sym}
+use Prim.Native.Nat.{ℕ, zero, suc, _-_, _≤_}
+use native.Mathlib.Omega.{arith}
+use lib.Dec.{eqb, leb}
+use lib.ListN.{length}
+use Rattle.model.specs.Base.{pick, only-if, then, all}
+use Rattle.model.specs.Literal.{Literal, pos, neg}
+use Rattle.model.specs.Forest.{Conn, and, or, root}
+use Rattle.model.specs.Code.{Node, leaf, head, kind, value, node-of, joined, trees, exactly-one, one-tree, literals}
 use Rattle.model.specs.Sheet.{body-node}
+use Rattle.model.specs.Book.{body-ok}
+use Rattle.theory.specs.Logic.{true-false, or-neither, pick-keeps}
 
 -- Kinds 1 and 2 are literals.
 unfoldable pub is-literal : ℕ → Bool
@@ -24,3 +31,89 @@ scan n (x ∷ xs) = then (scan n xs) (joined-by n x)
 unfoldable pub counted : Option ℕ → ℕ
 counted none = zero
 counted (some t) = t
+
+-- The node of a number: a literal where the number is one, and else a connective with as many children as its value.
+pub literal-node : (x : ℕ) → is-literal x ≡ true → (l : Literal) × (node-of x ≡ leaf l)
+unfolding is-literal node-of pick
+literal-node x h = go (eqb (kind x) 1) refl (eqb (kind x) 2) refl h
+  where
+    go : (a : Bool) → eqb (kind x) 1 ≡ a → (b : Bool) → eqb (kind x) 2 ≡ b → (a || b) ≡ true → (l : Literal) × (node-of x ≡ leaf l)
+    go true p b q e = (pos (value x), rw p)
+    go false p true q e = (neg (value x), rw (p, q))
+    go false p false q e = true-false (sym e)
+
+pub inner-node : (x : ℕ) → is-literal x ≡ false → (c : Conn) × (node-of x ≡ head c (value x))
+unfolding is-literal node-of pick
+inner-node x h =
+    let s = or-neither (eqb (kind x) 1) (eqb (kind x) 2) h in
+    rw (s .0, s .1)
+    (pick-keeps Inner (eqb (kind x) 3) (and, refl) (pick-keeps Inner (eqb (kind x) 4) (or, refl) (root, refl)))
+  where
+    Inner : Node → Type 0
+    Inner y = (c : Conn) × (y ≡ head c (value x))
+
+-- Literals among nodes, by the first number.
+module _ (x : ℕ) (xs : List ℕ) where
+  pub literals-more : is-literal x ≡ true → literals (map node-of (x ∷ xs)) ≡ suc (literals (map node-of xs))
+  unfolding literals
+  literals-more h = rw (literal-node x h .1)
+
+  pub literals-same : is-literal x ≡ false → literals (map node-of (x ∷ xs)) ≡ literals (map node-of xs)
+  unfolding literals
+  literals-same h = rw (inner-node x h .1)
+
+-- The trees after one node more, by the node's kind.
+module _ (n x t : ℕ) where
+  pub joined-none : body-node n x ≡ false → joined-by n x t ≡ none
+  unfolding joined-by then only-if
+  joined-none h = rw h
+
+  pub joined-literal : body-node n x ≡ true → is-literal x ≡ true → joined-by n x t ≡ some (suc t)
+  unfolding joined-by then only-if joined
+  joined-literal h l = rw (h, literal-node x l .1)
+
+  pub joined-inner : body-node n x ≡ true → is-literal x ≡ false → joined-by n x t ≡ only-if (leb (value x) t) (suc (t - value x))
+  unfolding joined-by then only-if joined
+  joined-inner h l = rw (h, inner-node x l .1)
+
+-- The scan counts the trees, where every number is a node of a body.
+pub scan-trees : (n : ℕ) (xs : List ℕ) → scan n xs ≡ pick (all (body-node n) xs) (trees (map node-of xs)) none
+unfolding scan joined-by trees all pick then only-if
+scan-trees n [] = refl
+scan-trees n (x ∷ xs) = rw (scan-trees n xs) (go (body-node n x) (all (body-node n) xs) (trees (map node-of xs)))
+  where
+    go : (b a : Bool) (o : Option ℕ) → then (pick a o none) (λ t. then (only-if b t) (joined (node-of x))) ≡ pick (b && a) (then o (joined (node-of x))) none
+    go true true none = refl
+    go true true (some t) = refl
+    go true false o = refl
+    go false true none = refl
+    go false true (some t) = refl
+    go false false o = refl
+
+pub scan-ok : (n : ℕ) (xs : List ℕ) → body-ok n xs ≡ exactly-one (scan n xs)
+unfolding body-ok one-tree exactly-one pick
+scan-ok n xs = rw (scan-trees n xs) (go (all (body-node n) xs))
+  where
+    go : (a : Bool) → (a && exactly-one (trees (map node-of xs))) ≡ exactly-one (pick a (trees (map node-of xs)) none)
+    go true = refl
+    go false = refl
+
+-- A node adds at most one tree, so there are no more trees than numbers.
+joined-count : (y : Node) (t : ℕ) → counted (joined y t) ≤ suc t
+unfolding joined counted only-if
+joined-count (leaf l) t = omega arith
+joined-count (head c k) t = go (leb k t)
+  where
+    go : (b : Bool) → counted (only-if b (suc (t - k))) ≤ suc t
+    go true = omega arith
+    go false = omega arith
+
+pub scan-count : (n : ℕ) (xs : List ℕ) → counted (scan n xs) ≤ length xs
+unfolding scan joined-by counted then only-if
+scan-count n [] = omega arith
+scan-count n (x ∷ xs) = go (scan n xs) (body-node n x) (scan-count n xs)
+  where
+    go : (o : Option ℕ) (b : Bool) → counted o ≤ length xs → counted (then o (λ t. then (only-if b t) (joined (node-of x)))) ≤ suc (length xs)
+    go none b h = omega arith
+    go (some t) true h = omega (arith, joined-count (node-of x) t)
+    go (some t) false h = omega arith

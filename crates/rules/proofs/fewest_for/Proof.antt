@@ -1,0 +1,25 @@
+-- `rules::fewest_for` meets its contract: the array is the table's column.
+use mathlib.Core.Path.{refl}
+use borrow.Author.Needs.{needs}
+use Rattle.model.specs.Code.{conn-kind}
+use Rattle.model.specs.Rules.{table}
+use Rattle.rules.specs.Columns.{fewestFor}
+use Rattle.rules.proofs.Laws.{column}
+use Rattle.rules.proofs.fewest_for.Statement.{statement}
+use Rattle.rules.proofs.fewest_for.Tie as tie
+
+sub-row : tie.Need-sub-row
+sub-row c = search needs
+
+mul-result : tie.Need-mul-result
+mul-result c = search needs
+
+array-read-result : tie.Need-array-read-result
+array-read-result c = search needs
+
+returns : tie.Need-returns
+unfolding fewestFor table conn-kind
+returns c = column (λ w. w .fewest) _ refl (c .args .rule) (c .pre .0)
+
+pub fewest-for-spec : {M : Type 1} → statement M
+fewest-for-spec = tie.close (tie.spec sub-row mul-result array-read-result returns)

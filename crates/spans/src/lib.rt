@@ -1,0 +1,29 @@
+// Trees on a run of numbers, read from the left.
+ghost use mathlib.Core.Path.{_≡_};
+ghost use Prim.Native.Nat.{_≤_};
+ghost use lib.ListN.{length};
+ghost use Rattle.theory.specs.Spans.{arity, span};
+
+// The number of children that a node announces.
+pub fn arity_of(x: usize) -> usize
+    ensures { λ r. ⌜ (r ≡ arity x) × (r ≤ 4095) ⌝ }
+{
+    if nodes::is_literal(x) {
+        return 0;
+    }
+    nodes::value_of(x)
+}
+
+// The number of nodes of the first so many trees: each node settles one tree that was pending and announces its children.
+pub fn span_of(s: &[u16], trees: usize) -> usize
+    requires { ⌜ (length (now s) ≤ 4096) × (trees ≤ 4096) ⌝ }
+    ensures { λ r. ⌜ (r ≡ span trees (now (s .entry))) × (r ≤ length (now (s .entry))) ⌝ }
+{
+    let mut pending = trees;
+    let mut i = 0;
+    while 0 < pending && i < s.len() {
+        pending = pending - 1 + arity_of(numbers::wide16(s[i]));
+        i += 1;
+    }
+    i
+}

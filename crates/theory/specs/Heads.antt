@@ -1,0 +1,173 @@
+-- The head of a stretch, and where its children stand: what a step tests before it rewrites.
+use mathlib.Core.Bool.{Bool, true, false, _&&_, and-false}
+use mathlib.Core.List.{List, [], _∷_, _++_, map}
+use mathlib.Core.Logic.{_⊎_, inl, inr, ⊎-elim}
+use mathlib.Core.Option.{Option, none, some}
+use mathlib.Core.Path.{_≡_, refl, sym, ap, subst, _∙_}
+use Prim.Native.Nat.{ℕ, zero, suc, _+_, _-_, _≤_, _<_}
+use native.Mathlib.Omega.{arith}
+use borrow.Author.Tests.{lt-leb, le-leb}
+use lib.Dec.{leb}
+use lib.ListN.{length, getD, take, drop}
+use Rattle.model.specs.Base.{all, maybe, is-some, then, only-if}
+use Rattle.model.specs.Literal.{Literal, pos, neg, option}
+use Rattle.model.specs.Forest.{Conn, and, or, root, Forest, nil, lit, node, _⊕_, size, first, after, same-conn}
+use Rattle.model.specs.Code.{kind, value, number, conn-kind, head, leaf, encode, number-of}
+use Rattle.model.specs.Rules.{Row, row-of, turn, change, rewrite}
+use Rattle.theory.specs.Logic.{and-split, fails-if}
+use Rattle.theory.specs.Forests.{same-conn-is, same-conn-self, size-⊕}
+use Rattle.theory.specs.Codes.{encode-⊕}
+use Rattle.theory.specs.Numbers.{fits, amount, kind-number, value-number}
+use Rattle.theory.specs.Spans.{span}
+use Rattle.theory.specs.Flat.{spell, spell-node, Fits, start-at, drop-trees, take-trees}
+use Rattle.theory.specs.Stretches.{Stretch, forest-in, spell-to}
+
+-- What becomes of a stretch where the rule applies to its first tree.
+unfoldable pub rewritten-to : ℕ → ℕ → ℕ → List ℕ → List ℕ
+rewritten-to r i j l = maybe l (spell-to (length l)) (rewrite r i j (forest-in l))
+
+-- The first tree is a node of the rule's kind with enough children.
+pub record Headed (r : ℕ) (l : List ℕ) : Type 0 where
+  pub row : Row
+  pub its-row : row-of r ≡ some row
+  pub children : Forest
+  pub rest : Forest
+  pub zeros : ℕ
+  pub forest : forest-in l ≡ node (row .conn) children rest
+  pub spelled : l ≡ spell (node (row .conn) children rest) zeros
+  pub enough : row .fewest ≤ size children
+
+-- What the first number of a stretch says, by the first tree.
+first-nil : (z : ℕ) → getD (spell nil z) 0 0 ≡ 0
+unfolding spell encode
+first-nil zero = refl
+first-nil (suc z) = refl
+
+first-literal : (x : Literal) (f : Forest) (z : ℕ) → Fits (lit x f) → kind (getD (spell (lit x f) z) 0 0) ≤ 2
+unfolding spell encode all number-of fits amount option
+first-literal (pos v) f z h = omega (arith, kind-number 1 v (and-split (fits (leaf (pos v))) (all fits (encode f)) h .0))
+first-literal (neg v) f z h = omega (arith, kind-number 2 v (and-split (fits (leaf (neg v))) (all fits (encode f)) h .0))
+
+pub first-node : (c : Conn) (k f : Forest) (z : ℕ) → Fits (node c k f) → (kind (getD (spell (node c k f) z) 0 0) ≡ conn-kind c) × (value (getD (spell (node c k f) z) 0 0) ≡ size k)
+unfolding spell encode all number-of fits amount
+first-node c k f z h =
+    let small = and-split (fits (head c (size k))) (all fits (encode k ++ encode f)) h .0 in
+    (kind-number (conn-kind c) (size k) small, value-number (conn-kind c) (size k) small)
+
+conn-of-kind : (c d : Conn) → conn-kind c ≡ conn-kind d → c ≡ d
+unfolding conn-kind
+conn-of-kind and and e = refl
+conn-of-kind and or e = absurd (omega arith)
+conn-of-kind and root e = absurd (omega arith)
+conn-of-kind or and e = absurd (omega arith)
+conn-of-kind or or e = refl
+conn-of-kind or root e = absurd (omega arith)
+conn-of-kind root and e = absurd (omega arith)
+conn-of-kind root or e = absurd (omega arith)
+conn-of-kind root root e = refl
+
+kind-zero : kind 0 ≡ 0
+unfolding kind
+kind-zero = refl
+
+conn-kind-high : (c : Conn) → 3 ≤ conn-kind c
+unfolding conn-kind
+conn-kind-high and = omega arith
+conn-kind-high or = omega arith
+conn-kind-high root = omega arith
+
+-- A rule's test of the head: where the first number is of its kind and has enough children, so is the first tree.
+pub head-test : (r : ℕ) (w : Row) → row-of r ≡ some w → (l : List ℕ) → Stretch l → kind (getD l 0 0) ≡ conn-kind (w .conn) → w .fewest ≤ value (getD l 0 0) → Headed r l
+unfolding spell-to
+head-test r w e l s k n = go (forest-in l) refl (s .fitting) (s .spelled)
+  where
+    go : (f : Forest) → forest-in l ≡ f → Fits f → l ≡ spell f (length l - length (encode f)) → Headed r l
+    go nil q a b = absurd (low (ap (λ xs. kind (getD xs 0 0)) b ∙ ap kind (first-nil _)))
+      where
+        low : kind (getD l 0 0) ≡ kind 0 → ⊥
+        low x = omega (arith, conn-kind-high (w .conn), x ∙ kind-zero)
+    go (lit x f) q a b = absurd (omega (arith, conn-kind-high (w .conn), first-literal x f (length l - length (encode (lit x f))) a, ap (λ xs. kind (getD xs 0 0)) b))
+    go (node c m f) q a b =
+        let z = length l - length (encode (node c m f)) in
+        let t = first-node c m f z a in
+        let same : w .conn ≡ c = conn-of-kind (w .conn) c (sym k ∙ ap (λ xs. kind (getD xs 0 0)) b ∙ t .0) in
+        record {
+          row = w;
+          its-row = e;
+          children = m;
+          rest = f;
+          zeros = z;
+          forest = rw same q;
+          spelled = rw same b;
+          enough = omega (arith, ap (λ xs. value (getD xs 0 0)) b, t .1);
+        }
+
+-- Otherwise the rule does not apply.
+pub head-fails : (r : ℕ) (w : Row) → row-of r ≡ some w → (l : List ℕ) → Stretch l → ((kind (getD l 0 0) ≡ conn-kind (w .conn) → ⊥) ⊎ (value (getD l 0 0) < w .fewest)) → (i j : ℕ) → rewrite r i j (forest-in l) ≡ none
+unfolding spell-to rewrite turn then only-if
+head-fails r w e l s bad i j = go (forest-in l) (s .fitting) (s .spelled)
+  where
+    turned : (c : Conn) (m : Forest) → ((conn-kind c ≡ conn-kind (w .conn) → ⊥) ⊎ (size m < w .fewest)) → turn w c i j m ≡ none
+    turned c m (inl x) = ap (λ b. then (only-if (b && leb (w .fewest) (size m)) m) (change (w .family) c i j)) (fails-if (same-conn (w .conn) c) (λ q. x (ap conn-kind (sym (same-conn-is (w .conn) c q)))))
+    turned c m (inr x) = ap (λ b. then (only-if b m) (change (w .family) c i j)) (ap (λ b. same-conn (w .conn) c && b) (lt-leb (w .fewest) (size m) x) ∙ and-false (same-conn (w .conn) c))
+
+    go : (f : Forest) → Fits f → l ≡ spell f (length l - length (encode f)) → rewrite r i j f ≡ none
+    go nil a b = refl
+    go (lit x f) a b = refl
+    go (node c m f) a b =
+        let z = length l - length (encode (node c m f)) in
+        let t = first-node c m f z a in
+        let known = ap (λ xs. kind (getD xs 0 0)) b ∙ t .0 in
+        let counted = ap (λ xs. value (getD xs 0 0)) b ∙ t .1 in
+        rw (e, turned c m (⊎-elim (λ x. inl (λ q. x (known ∙ q))) (λ x. inr (omega arith)) bad))
+
+-- Where the head is right, the rule does what its family does to the children.
+pub headed-rewrite : (r : ℕ) {l : List ℕ} (h : Headed r l) (i j : ℕ) → rewrite r i j (forest-in l) ≡ then (change (h .row .family) (h .row .conn) i j (h .children)) (λ g. some (g ⊕ h .rest))
+unfolding rewrite turn then only-if
+headed-rewrite r h i j =
+    rw (h .forest, h .its-row, same-conn-self (h .row .conn), le-leb (h .row .fewest) (size (h .children)) (h .enough))
+
+-- The first i trees of two forests side by side, and what is left, where the first forest has so many.
+pub first-left : (i : ℕ) (k f : Forest) → i ≤ size k → first i (k ⊕ f) ≡ first i k
+unfolding first size _⊕_
+first-left zero k f h = refl
+first-left (suc i) nil f h = absurd (omega arith)
+first-left (suc i) (lit x k) f h = ap (lit x) (first-left i k f (omega arith))
+first-left (suc i) (node c m k) f h = ap (node c m) (first-left i k f (omega arith))
+
+pub after-left : (i : ℕ) (k f : Forest) → i ≤ size k → after i (k ⊕ f) ≡ after i k ⊕ f
+unfolding after size _⊕_
+after-left zero k f h = refl
+after-left (suc i) nil f h = absurd (omega arith)
+after-left (suc i) (lit x k) f h = after-left i k f (omega arith)
+after-left (suc i) (node c m k) f h = after-left i k f (omega arith)
+
+-- Where the children of the first tree begin: child i after the head and the children before it.
+module _ (c : Conn) (k f : Forest) (z i : ℕ) (fit : Fits (node c k f)) (h : i ≤ size k) where
+  under : Fits (k ⊕ f)
+  unfolding encode all
+  under = ap (all fits) (encode-⊕ k f) ∙ and-split (fits (head c (size k))) (all fits (encode k ++ encode f)) fit .1
+
+  wide : i ≤ size (k ⊕ f)
+  wide = omega (arith, size-⊕ k f)
+
+  tail-is : drop 1 (spell (node c k f) z) ≡ spell (k ⊕ f) z
+  tail-is = ap (drop 1) (spell-node c k f z)
+
+  -- The place of child i, by counting the numbers of those before it.
+  pub child-start : span i (drop 1 (spell (node c k f) z)) ≡ length (encode (first i k))
+  child-start = ap (span i) tail-is ∙ start-at i (k ⊕ f) z wide under ∙ ap (λ g. length (encode g)) (first-left i k f h)
+
+  -- What stands from there on.
+  pub child-there : drop (span i (drop 1 (spell (node c k f) z))) (drop 1 (spell (node c k f) z)) ≡ spell (after i k ⊕ f) z
+  child-there =
+      ap (λ xs. drop (span i xs) xs) tail-is
+      ∙ drop-trees i (k ⊕ f) z wide under
+      ∙ ap (λ g. spell g z) (after-left i k f h)
+
+  -- What stands before it, after the head.
+  pub children-before : take (span i (drop 1 (spell (node c k f) z))) (drop 1 (spell (node c k f) z)) ≡ map number-of (encode (first i k))
+  children-before =
+      ap (λ xs. take (span i xs) xs) tail-is
+      ∙ take-trees i (k ⊕ f) z wide under
+      ∙ ap (λ g. map number-of (encode g)) (first-left i k f h)
