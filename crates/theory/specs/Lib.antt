@@ -53,8 +53,9 @@ pub mod RoundTrips
 -- Calls, and lists of calls.
 pub mod Effects
 pub mod Settled
--- What code computes: numbers read from either end; stretches of a sheet, their heads and children.
+-- What code computes: numbers read from the left; stretches of a sheet, their heads and children; refusals test by test.
 pub mod Spans
 pub mod Flat
 pub mod Stretches
 pub mod Heads
+pub mod Refusals

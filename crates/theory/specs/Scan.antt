@@ -3,17 +3,19 @@ use mathlib.Core.Bool.{Bool, true, false, _&&_, _||_}
 use mathlib.Core.List.{List, [], _∷_, map}
 use mathlib.Core.Option.{Option, none, some}
 use mathlib.Core.Path.{_≡_, refl, sym}
-use Prim.Native.Nat.{ℕ, zero, suc, _-_, _≤_}
+use Prim.Native.Nat.{ℕ, zero, suc, _-_, _≤_, _<_}
 use native.Mathlib.Omega.{arith}
+use borrow.Author.Tests.{leb-true, leb-false, eqb-true, eq-eqb, ne-eqb}
 use lib.Dec.{eqb, leb}
-use lib.ListN.{length}
-use Rattle.model.specs.Base.{pick, only-if, then, all}
+use lib.ListN.{length, getD}
+use lib.Seq.{slice, slice-cons}
+use Rattle.model.specs.Base.{pick, only-if, maybe, then, all}
 use Rattle.model.specs.Literal.{Literal, pos, neg}
 use Rattle.model.specs.Forest.{Conn, and, or, root}
 use Rattle.model.specs.Code.{Node, leaf, head, kind, value, node-of, joined, trees, exactly-one, one-tree, literals}
-use Rattle.model.specs.Sheet.{body-node}
+use Rattle.model.specs.Sheet.{body-node, rooted}
 use Rattle.model.specs.Book.{body-ok}
-use Rattle.theory.specs.Logic.{true-false, or-neither, pick-keeps}
+use Rattle.theory.specs.Logic.{true-false, or-neither, same-test, pick-keeps}
 
 -- Kinds 1 and 2 are literals.
 unfoldable pub is-literal : ℕ → Bool
@@ -61,6 +63,12 @@ module _ (x : ℕ) (xs : List ℕ) where
   pub literals-same : is-literal x ≡ false → literals (map node-of (x ∷ xs)) ≡ literals (map node-of xs)
   unfolding literals
   literals-same h = rw (inner-node x h .1)
+
+pub literals-within : (ns : List Node) → literals ns ≤ length ns
+unfolding literals
+literals-within [] = omega arith
+literals-within (leaf l ∷ ns) = omega (arith, literals-within ns)
+literals-within (head c k ∷ ns) = omega (arith, literals-within ns)
 
 -- The trees after one node more, by the node's kind.
 module _ (n x t : ℕ) where
@@ -117,3 +125,40 @@ scan-count n (x ∷ xs) = go (scan n xs) (body-node n x) (scan-count n xs)
     go none b h = omega arith
     go (some t) true h = omega (arith, joined-count (node-of x) t)
     go (some t) false h = omega arith
+
+-- One number more, before a part of a list.
+pub scan-before : (n i end : ℕ) (s : List ℕ) → 0 < i → i ≤ end → end ≤ length s → scan n (slice (i - 1) end s) ≡ then (scan n (slice i end s)) (joined-by n (getD s (i - 1) 0))
+unfolding scan
+scan-before n zero end s h k l = absurd (omega arith)
+scan-before n (suc j) end s h k l = let e : suc j - 1 ≡ j = omega arith in rw (e, slice-cons j end s 0)
+
+-- A node takes all trees where they are as many as its children.
+takes-all : (v t : ℕ) → exactly-one (only-if (leb v t) (suc (t - v))) ≡ eqb t v
+unfolding exactly-one only-if
+takes-all v t = go (leb v t) refl
+  where
+    go : (b : Bool) → leb v t ≡ b → exactly-one (only-if b (suc (t - v))) ≡ eqb t v
+    go true e =
+        let enough : v ≤ t = leb-true v t e in
+        same-test (eqb (suc (t - v)) 1) (eqb t v)
+        (λ h. let one = eqb-true (suc (t - v)) 1 h in eq-eqb t v (omega arith))
+        (λ h. let same = eqb-true t v h in eq-eqb (suc (t - v)) 1 (omega arith))
+    go false e = let few : t < v = leb-false v t e in sym (ne-eqb t v (λ same. omega arith))
+
+pub root-node : (x : ℕ) → eqb (kind x) 5 ≡ true → node-of x ≡ head root (value x)
+unfolding node-of pick
+root-node x h = rw (eqb-true (kind x) 5 h)
+
+-- A tree with the root at its head and nowhere else: the head is of kind 5, and the rest are as many trees as its value.
+pub rooted-scan : (n x : ℕ) (xs : List ℕ) → (rooted n (x ∷ xs) && one-tree (map node-of (x ∷ xs))) ≡ (eqb (kind x) 5 && maybe false (λ t. eqb t (value x)) (scan n xs))
+unfolding rooted one-tree exactly-one trees then joined maybe pick
+rooted-scan n x xs = rw (scan-trees n xs) (go (eqb (kind x) 5) refl)
+  where
+    rest : (a : Bool) (o : Option ℕ) → (a && exactly-one (then o (joined (head root (value x))))) ≡ maybe false (λ t. eqb t (value x)) (pick a o none)
+    rest true none = refl
+    rest true (some t) = takes-all (value x) t
+    rest false o = refl
+
+    go : (b : Bool) → eqb (kind x) 5 ≡ b → ((b && all (body-node n) xs) && one-tree (node-of x ∷ map node-of xs)) ≡ (b && maybe false (λ t. eqb t (value x)) (pick (all (body-node n) xs) (trees (map node-of xs)) none))
+    go true e = rw (root-node x e) (rest (all (body-node n) xs) (trees (map node-of xs)))
+    go false e = refl

@@ -137,7 +137,7 @@ module _ (s b : List ℕ) (sheet : is-sheet s ≡ true) (book : book-refusal b �
 
 module _ (b : List ℕ) (a : Accepted b) where
   -- Every number of an accepted book's bodies is the number of its node.
-  numbers-again : map number-of (map node-of (numbers-of b)) ≡ numbers-of b
+  pub numbers-again : map number-of (map node-of (numbers-of b)) ≡ numbers-of b
   numbers-again =
       let n : ℕ = options-of b in
       map-back node-of number-of (body-node n) (λ x h. number-node x (known-body n x h)) (numbers-of b) (book-numbers b a)

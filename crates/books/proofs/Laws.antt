@@ -1,0 +1,153 @@
+-- What the book check computes, test by test.
+use mathlib.Core.Bool.{Bool, true, false, not, _&&_}
+use mathlib.Core.List.{List, map}
+use mathlib.Core.Option.{Option, none, some}
+use mathlib.Core.Path.{_≡_, refl, sym, ap, _∙_}
+use Prim.Native.Nat.{ℕ, _+_, _-_, _*_, _≤_, _<_}
+use native.Mathlib.Omega.{arith}
+use borrow.Author.Tests.{leb-true, le-leb, lt-leb, eqb-true, eq-eqb, ne-eqb, lt-ltb, le-ltb}
+use lib.Dec.{eqb, leb}
+use lib.ListN.{length, take, drop, length-map}
+use borrow.Rule.Slice.PartAt.{part-to-end}
+use Rattle.model.specs.Base.{all, only-if, first-of, is-some, maybe}
+use Rattle.model.specs.Code.{literals, weight, node-of, head}
+use Rattle.model.specs.Book.{word, words, entries, pieces, cut, codes-ok, option-of-code, in-line, body-ok, options-of, rules-of, size-of, head-in-limits, codes-end, contents-end, length-due, codes-of, contents-of, numbers-of, bodies-of, book-nodes}
+use Rattle.model.specs.Calls.{Refusal, code-refused, contents-refused, body-refused, weight-refused, option-refused, Answer, refused, accepted, answer, book-refusal, checkOf, lookupOf}
+use Rattle.answers.specs.declared.Refusal.{Refusal as Why}
+use Rattle.answers.specs.declared.Done.{Done}
+use Rattle.answers.specs.declared.Done.the-variants.{Accepted, Refused}
+use Rattle.answers.specs.Meaning.{refusalOf, dueOf, doneOf}
+use Rattle.theory.specs.Logic.{and-split}
+use Rattle.theory.specs.Refusals.{Sized, part-refusal}
+use Rattle.theory.specs.Bytes.{length-words}
+use Rattle.theory.specs.Scan.{literals-within}
+use Rattle.theory.specs.Loading.{accepted-book}
+
+-- The head: the first number over its limit makes it bad.
+module _ (b : List ℕ) (n m t : ℕ) (pn : n ≡ word b 0) (pm : m ≡ word b 2) (pt : t ≡ word b 4) where
+  pub head-tests : head-in-limits b ≡ (leb n 512 && leb m 4095 && leb t 4095 && eqb (word b 6) 0)
+  unfolding head-in-limits options-of rules-of size-of
+  head-tests = rw (pn, pm, pt)
+
+  pub length-is : length-due b ≡ 8 + 13 * n + 4 * m + 2 * t
+  unfolding length-due contents-end codes-end options-of rules-of size-of
+  length-is = rw (pn, pm, pt)
+
+  pub codes-are : codes-of b ≡ pieces 13 n (drop 8 b)
+  unfolding codes-of options-of
+  codes-are = rw pn
+
+  pub contents-are : contents-of b ≡ entries m (drop (8 + 13 * n) b)
+  unfolding contents-of codes-end options-of rules-of
+  contents-are = rw (pn, pm)
+
+  pub numbers-are : numbers-of b ≡ words t (drop (8 + 13 * n + 4 * m) b)
+  unfolding numbers-of contents-end codes-end options-of rules-of size-of
+  numbers-are = rw (pn, pm, pt)
+
+  pub bodies-are : bodies-of b ≡ cut (entries m (drop (8 + 13 * n) b)) (words t (drop (8 + 13 * n + 4 * m) b))
+  unfolding bodies-of
+  bodies-are = rw (contents-are, numbers-are)
+
+  pub weight-is : weight (book-nodes b) ≡ 1 + t + literals (map node-of (words t (drop (8 + 13 * n + 4 * m) b)))
+  unfolding weight book-nodes literals
+  weight-is = rw numbers-are (omega (arith, length-map (words t (drop (8 + 13 * n + 4 * m) b)) node-of, length-words t (drop (8 + 13 * n + 4 * m) b)))
+
+  -- A head within its limits.
+  pub head-limits : head-in-limits b ≡ true → (n ≤ 512) × (m ≤ 4095) × (t ≤ 4095)
+  head-limits h =
+      let three = and-split (leb n 512 && leb m 4095 && leb t 4095) (eqb (word b 6) 0) (sym head-tests ∙ h) .0 in
+      let two = and-split (leb n 512 && leb m 4095) (leb t 4095) three in
+      let one = and-split (leb n 512) (leb m 4095) (two .0) in
+      (leb-true n 512 (one .0), leb-true m 4095 (one .1), leb-true t 4095 (two .1))
+
+-- A part of a book from a place on, as it is lent.
+abbrev pub rest : List ℕ → ℕ → List ℕ
+rest b a = take (length b - a) (drop a b)
+
+-- The refusal by the answers to the four tests: the codes, the contents, the bodies, the weight.
+unfoldable pub by-tests : Bool → Bool → Bool → ℕ → Option Refusal
+by-tests codes contents bodies w =
+    first-of
+    (only-if (not codes) code-refused)
+    (first-of
+    (only-if (not contents) contents-refused)
+    (first-of (only-if (not bodies) body-refused) (only-if (not (leb w 4096)) weight-refused)))
+
+module _ {b : List ℕ} {n m t : ℕ} (s : Sized b n m t) where
+  pub tests-are : {x y z : Bool} {q : ℕ} → x ≡ codes-ok (pieces 13 n (rest b 8)) → y ≡ in-line t 0 (entries m (rest b (8 + 13 * n))) → z ≡ all (body-ok n) (cut (entries m (rest b (8 + 13 * n))) (words t (rest b (8 + 13 * n + 4 * m)))) → q ≡ literals (map node-of (words t (rest b (8 + 13 * n + 4 * m)))) → by-tests x y z (1 + t + q) ≡ part-refusal b
+  unfolding part-refusal by-tests options-of size-of
+  tests-are p q r w =
+      rw (p, q, r, w, part-to-end b 8, part-to-end b (8 + 13 * n), part-to-end b (8 + 13 * n + 4 * m), codes-are b n m t (s .options) (s .rules) (s .nodes), contents-are b n m t (s .options) (s .rules) (s .nodes), bodies-are b n m t (s .options) (s .rules) (s .nodes), weight-is b n m t (s .options) (s .rules) (s .nodes), ← s .options, ← s .nodes)
+
+pub codes-bad : (y z : Bool) (w : ℕ) → some code-refused ≡ by-tests false y z w
+unfolding by-tests first-of only-if
+codes-bad y z w = refl
+
+pub contents-bad : (z : Bool) (w : ℕ) → some contents-refused ≡ by-tests true false z w
+unfolding by-tests first-of only-if
+contents-bad z w = refl
+
+pub bodies-bad : (w : ℕ) → some body-refused ≡ by-tests true true false w
+unfolding by-tests first-of only-if
+bodies-bad w = refl
+
+pub weight-bad : (w : ℕ) → 4096 < w → some weight-refused ≡ by-tests true true true w
+unfolding by-tests first-of only-if
+weight-bad w h = rw (lt-leb w 4096 h)
+
+pub all-good : (w : ℕ) → w ≤ 4096 → none ≡ by-tests true true true w
+unfolding by-tests first-of only-if
+all-good w h = rw (le-leb w 4096 h)
+
+-- There are no more literals than nodes.
+pub few-literals : (t : ℕ) (l : List ℕ) {q : ℕ} → q ≡ literals (map node-of (words t l)) → q ≤ t
+few-literals t l e =
+    omega (arith, e, literals-within (map node-of (words t l)), length-map (words t l) node-of, length-words t l)
+
+-- The book check's answer, by the refusal that is due.
+pub refused-by : (b : List ℕ) (r : Refusal) → book-refusal b ≡ some r → refused r ≡ checkOf b
+unfolding checkOf answer
+refused-by b r e = rw e
+
+pub done-by : (b : List ℕ) (d : Done) → dueOf d ≡ book-refusal b → doneOf d ≡ checkOf b
+unfolding checkOf answer
+done-by b Accepted e = rw (← e)
+done-by b (Refused r) e = rw (← e)
+
+-- And back: what the check's answer says of the refusal.
+pub due-of-check : (b : List ℕ) (d : Done) → doneOf d ≡ checkOf b → dueOf d ≡ book-refusal b
+unfolding checkOf answer
+due-of-check b d e = go d (book-refusal b) e
+  where
+    go : (d : Done) (o : Option Refusal) → doneOf d ≡ answer o tt → dueOf d ≡ o
+    go Accepted none e = refl
+    go Accepted (some r) e = let z : _≡_ {A = ℕ} 0 1 = cc in absurd (omega arith)
+    go (Refused x) none e = let z : _≡_ {A = ℕ} 0 1 = cc in absurd (omega arith)
+    go (Refused x) (some r) e = cc
+
+-- An accepted check, and the room that the codes have.
+pub good-book : (b : List ℕ) (d : Done) → doneOf d ≡ checkOf b → d ≡ Accepted → book-refusal b ≡ none
+good-book b d e q = sym (due-of-check b d e) ∙ ap dueOf q
+
+pub codes-room : (b : List ℕ) (n : ℕ) → book-refusal b ≡ none → n ≡ word b 0 → 8 + 13 * n ≤ length b
+unfolding length-due contents-end codes-end options-of
+codes-room b n e p = let a = accepted-book b e in rw p (omega (arith, a .long))
+
+-- The lookup's answer: the book's refusal, the option, or that there is none.
+pub lookup-refused : (b code : List ℕ) (d : Done) (r : Why) → doneOf d ≡ checkOf b → d ≡ Refused r → refused (refusalOf r) ≡ lookupOf b code
+unfolding lookupOf answer first-of
+lookup-refused b code d r e q = rw (← due-of-check b d e, q)
+
+module _ (b code : List ℕ) (good : book-refusal b ≡ none) where
+  pub lookup-found : (v : ℕ) → option-of-code code 0 (codes-of b) ≡ some v → accepted v ≡ lookupOf b code
+  unfolding lookupOf answer first-of only-if is-some maybe
+  lookup-found v e = rw (good, e)
+
+  pub lookup-missing : option-of-code code 0 (codes-of b) ≡ none → refused option-refused ≡ lookupOf b code
+  unfolding lookupOf answer first-of only-if is-some maybe
+  lookup-missing e = rw (good, e)
+
+-- What was found among the codes, as they are lent.
+pub found-code : (b code : List ℕ) (n : ℕ) {o : Option ℕ} → n ≡ word b 0 → o ≡ option-of-code code 0 (pieces 13 n (rest b 8)) → option-of-code code 0 (codes-of b) ≡ o
+found-code b code n p e = rw (codes-are b n (word b 2) (word b 4) p refl refl, ← part-to-end b 8) (sym e)

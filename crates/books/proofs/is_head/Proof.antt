@@ -1,0 +1,67 @@
+-- `books::is_head` meets its contract: the first number over its limit decides.
+use mathlib.Core.Path.{_≡_, refl, sym, ap, _∙_}
+use mathlib.Core.Bool.{Bool, true, false}
+use mathlib.Core.List.{List}
+use Prim.Native.Nat.{ℕ, _≤_, _<_}
+use borrow.Author.Needs.{needs}
+use borrow.Author.Tests.{le-leb, lt-leb}
+use lib.Dec.{eqb}
+use Rattle.model.specs.Book.{word, head-in-limits}
+use Rattle.books.proofs.Laws.{head-tests}
+use Rattle.books.proofs.is_head.Statement.{statement}
+use Rattle.books.proofs.is_head.Tie as tie
+
+module _ (b : List ℕ) (n m t : ℕ) (pn : n ≡ word b 0) (pm : m ≡ word b 2) (pt : t ≡ word b 4) where
+  options-over : 512 < n → false ≡ head-in-limits b
+  options-over h = sym (head-tests b n m t pn pm pt ∙ rw (lt-leb n 512 h))
+
+  rules-over : n ≤ 512 → 4095 < m → false ≡ head-in-limits b
+  rules-over hn h = sym (head-tests b n m t pn pm pt ∙ rw (le-leb n 512 hn, lt-leb m 4095 h))
+
+  nodes-over : n ≤ 512 → m ≤ 4095 → 4095 < t → false ≡ head-in-limits b
+  nodes-over hn hm h = sym (head-tests b n m t pn pm pt ∙ rw (le-leb n 512 hn, le-leb m 4095 hm, lt-leb t 4095 h))
+
+  within : n ≤ 512 → m ≤ 4095 → t ≤ 4095 → eqb (word b 6) 0 ≡ head-in-limits b
+  within hn hm ht = sym (head-tests b n m t pn pm pt ∙ rw (le-leb n 512 hn, le-leb m 4095 hm, le-leb t 4095 ht))
+
+word-at-requires : tie.Need-word-at-requires
+word-at-requires c κs = search needs
+
+returns : tie.Need-returns
+returns c = options-over _ _ _ _ (c .before .word-at .ensures) refl refl (c .if1 .taken)
+
+word-at-requires-2 : tie.Need-word-at-requires-2
+word-at-requires-2 c κs = search needs
+
+returns-2 : tie.Need-returns-2
+returns-2 c = rules-over _ _ _ _ (c .before .before .before .word-at .ensures) (c .before .word-at2 .ensures) refl (c .before .before .if1 .left) (c .if2 .taken)
+
+word-at-requires-3 : tie.Need-word-at-requires-3
+word-at-requires-3 c κs = search needs
+
+returns-3 : tie.Need-returns-3
+returns-3 c =
+    let d = c .before .before .before .before in
+    nodes-over _ _ _ _ (d .before .word-at .ensures) (c .before .before .before .word-at2 .ensures) (c .before .word-at3 .ensures) (d .if1 .left) (c .before .before .if2 .left) (c .if3 .taken)
+
+word-at-requires-4 : tie.Need-word-at-requires-4
+word-at-requires-4 c κs = search needs
+
+returns-4 : tie.Need-returns-4
+returns-4 c =
+    let d = c .before .before .before in
+    ap (λ x. eqb x 0) (c .word-at4 .ensures)
+    ∙ within _ _ _ _ (d .before .before .before .word-at .ensures) (d .before .word-at2 .ensures) (c .before .before .word-at3 .ensures) (d .before .before .if1 .left) (d .if2 .left) (c .before .if3 .left)
+
+pub is-head-spec : {M : Type 1} → statement M
+is-head-spec =
+    tie.close
+    (tie.spec
+    word-at-requires
+    returns
+    word-at-requires-2
+    returns-2
+    word-at-requires-3
+    returns-3
+    word-at-requires-4
+    returns-4)

@@ -1,0 +1,86 @@
+// The book check and the code lookup.
+ghost use mathlib.Core.Path.{_≡_};
+ghost use Prim.Native.Nat.{_≤_};
+ghost use lib.ListN.{length};
+ghost use Rattle.model.specs.Book.{«head-in-limits»};
+ghost use Rattle.model.specs.Calls.{checkOf, lookupOf};
+ghost use Rattle.theory.specs.Refusals.{Sized, «part-refusal»};
+ghost use Rattle.answers.specs.Meaning.{doneOf, dueOf, foundOf};
+use answers::Done;
+use answers::Found;
+use answers::Refusal;
+use codes::Place;
+
+// The numbers of the head are within their limits, and the fourth is zero.
+fn is_head(book: &[u8]) -> bool
+    requires { ⌜ 8 ≤ length (now book) ⌝ }
+    ensures { λ r. ⌜ r ≡ «head-in-limits» (now (book .entry)) ⌝ }
+{
+    if 512 < numbers::word_at(book, 0) {
+        return false;
+    }
+    if 4095 < numbers::word_at(book, 2) {
+        return false;
+    }
+    if 4095 < numbers::word_at(book, 4) {
+        return false;
+    }
+    numbers::word_at(book, 6) == 0
+}
+
+// What a book with a good head and the length due is refused for: its codes, its contents, its bodies, its weight.
+fn check_parts(book: &[u8], n: usize, m: usize, t: usize) -> Done
+    requires { ⌜ Sized (now book) n m t ⌝ }
+    ensures { λ r. ⌜ dueOf r ≡ «part-refusal» (now (book .entry)) ⌝ }
+{
+    let contents = 8 + 13 * n;
+    let bodies = contents + 4 * m;
+    if !codes::are_codes(&book[8..], n) {
+        return Done::Refused(Refusal::Code);
+    }
+    if !bodies::are_in_line(&book[contents..], m, t) {
+        return Done::Refused(Refusal::Contents);
+    }
+    if !bodies::are_bodies(&book[contents..], m, &book[bodies..], t, n) {
+        return Done::Refused(Refusal::Body);
+    }
+    if 4096 < 1 + t + bodies::count_literals(&book[bodies..], t) {
+        return Done::Refused(Refusal::Weight);
+    }
+    Done::Accepted
+}
+
+// The book check.
+pub fn check(book: &[u8]) -> Done
+    ensures { λ r. ⌜ doneOf r ≡ checkOf (now (book .entry)) ⌝ }
+{
+    if book.len() < 8 {
+        return Done::Refused(Refusal::Length);
+    }
+    if !is_head(book) {
+        return Done::Refused(Refusal::Head);
+    }
+    let n = numbers::word_at(book, 0);
+    let m = numbers::word_at(book, 2);
+    let t = numbers::word_at(book, 4);
+    if book.len() != 8 + 13 * n + 4 * m + 2 * t {
+        return Done::Refused(Refusal::Length);
+    }
+    check_parts(book, n, m, t)
+}
+
+// The code lookup: the option whose code has these characters.
+pub fn lookup(book: &[u8], code: &[u8]) -> Found
+    ensures { λ r. ⌜ foundOf r ≡ lookupOf (now (book .entry)) (now (code .entry)) ⌝ }
+{
+    let checked = check(book);
+    if let Done::Refused(r) = checked {
+        return Found::Refused(r);
+    }
+    let n = numbers::word_at(book, 0);
+    let place = codes::find(&book[8..], n, code);
+    if let Place::Index(v) = place {
+        return Found::Value(v);
+    }
+    Found::Refused(Refusal::Unknown)
+}

@@ -1,0 +1,88 @@
+// The bytes of a book, written at the start of a lent slice; what stands after them stays.
+ghost use mathlib.Core.Path.{_≡_};
+ghost use mathlib.Core.List.{_++_, _∷_, []};
+ghost use Prim.Native.Nat.{_+_, _*_, _/_, _%_, _≤_, _<_};
+ghost use lib.ListN.{length, take, drop, set};
+ghost use Rattle.model.specs.Book.{«bytes-of», «lined-up»};
+ghost use Rattle.theory.specs.Spans.{spans};
+
+// A number as two bytes at a place, the low one first.
+fn put_word(out: &mut [u8], k: usize, x: usize)
+    requires { ⌜ k + 1 < length (now out) ⌝ }
+    ensures { λ r. ⌜ now (out .exit) ≡ set (set (now (out .entry)) k (x % 256)) (k + 1) (x / 256 % 256) ⌝ }
+{
+    out[k] = (x % 256) as u8;
+    out[k + 1] = (x / 256 % 256) as u8;
+}
+
+// The four numbers of the head.
+pub fn put_head(out: &mut [u8], n: usize, m: usize, t: usize)
+    requires { ⌜ 8 ≤ length (now out) ⌝ }
+    ensures { λ r. ⌜ now (out .exit) ≡ «bytes-of» (n ∷ m ∷ t ∷ 0 ∷ []) ++ drop 8 (now (out .entry)) ⌝ }
+{
+    put_word(out, 0, n);
+    put_word(out, 2, m);
+    put_word(out, 4, t);
+    put_word(out, 6, 0);
+}
+
+// The first bytes of one slice, at the start of another.
+fn copy(s: &[u8], count: usize, out: &mut [u8])
+    requires { ⌜ (count ≤ length (now s)) × (count ≤ length (now out)) ⌝ }
+    ensures { λ r. ⌜ now (out .exit) ≡ take count (now (s .entry)) ++ drop count (now (out .entry)) ⌝ }
+{
+    let mut i = 0;
+    while i < count {
+        out[i] = s[i];
+        i += 1;
+    }
+}
+
+// Numbers as bytes, at the start of a slice.
+fn put_bytes(s: &[u16], count: usize, out: &mut [u8])
+    requires { ⌜ (count ≤ length (now s)) × (2 * count ≤ length (now out)) ⌝ }
+    ensures { λ r. ⌜ now (out .exit) ≡ «bytes-of» (take count (now (s .entry))) ++ drop (2 * count) (now (out .entry)) ⌝ }
+{
+    let mut i = 0;
+    while i < count {
+        put_word(out, 2 * i, numbers::wide16(s[i]));
+        i += 1;
+    }
+}
+
+// Where each of so many trees begins, and its node count.
+fn put_contents(s: &[u16], m: usize, out: &mut [u8])
+    requires { ⌜ (length (now s) ≤ 4096) × (4 * m ≤ length (now out)) ⌝ }
+    ensures { λ r. ⌜ now (out .exit) ≡ «bytes-of» («lined-up» 0 (spans m (now (s .entry)))) ++ drop (4 * m) (now (out .entry)) ⌝ }
+{
+    let mut at = 0;
+    let mut k = 0;
+    while k < m {
+        let count = spans::span_of(&s[at..], 1);
+        put_word(out, 4 * k, at);
+        put_word(out, 4 * k + 2, count);
+        at += count;
+        k += 1;
+    }
+}
+
+// The contents of so many trees, and the numbers of their nodes.
+fn put_trees(s: &[u16], m: usize, out: &mut [u8])
+    requires { ⌜ (length (now s) ≤ 4096) × (4 * m + 2 * length (now s) ≤ length (now out)) ⌝ }
+    ensures { λ r. ⌜ now (out .exit) ≡ («bytes-of» («lined-up» 0 (spans m (now (s .entry)))) ++ «bytes-of» (now (s .entry))) ++ drop (4 * m + 2 * length (now (s .entry))) (now (out .entry)) ⌝ }
+{
+    put_contents(s, m, out);
+    let bodies = 4 * m;
+    put_bytes(s, s.len(), &mut out[bodies..]);
+}
+
+// Codes, and the trees after them.
+pub fn put_parts(codes: &[u8], s: &[u16], m: usize, out: &mut [u8])
+    requires { ⌜ (length (now s) ≤ 4096) × (length (now codes) + (4 * m + 2 * length (now s)) ≤ length (now out)) ⌝ }
+    ensures { λ r. ⌜ now (out .exit) ≡ (now (codes .entry) ++ («bytes-of» («lined-up» 0 (spans m (now (s .entry)))) ++ «bytes-of» (now (s .entry)))) ++ drop (length (now (codes .entry)) + (4 * m + 2 * length (now (s .entry)))) (now (out .entry)) ⌝ }
+{
+    let contents = codes.len();
+    copy(codes, contents, out);
+    put_trees(s, m, &mut out[contents..]);
+}
+// x

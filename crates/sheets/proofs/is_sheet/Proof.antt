@@ -1,0 +1,195 @@
+-- `sheets::is_sheet` meets its contract: the tests of the definition in turn, where the two of a rooted tree are one.
+use mathlib.Core.Bool.{Bool, _&&_, and-false, and-assoc}
+use mathlib.Core.List.{List, map}
+use mathlib.Core.Path.{_≡_, sym, _∙_}
+use Prim.Native.Nat.{ℕ, _+_, _-_, _≤_}
+use native.Mathlib.Omega.{arith}
+use borrow.Author.Needs.{needs}
+use borrow.Author.Tests.{eq-eqb, ne-eqb, le-leb, lt-leb, not-true, not-false}
+use borrow.Rule.Slice.PartAt.{part-to-end}
+use lib.Dec.{eqb, leb}
+use lib.ListN.{length, getD, take, drop, length-map, length-take, length-drop}
+use lib.Seq.{length-take-le, drop-drop}
+use Rattle.model.specs.Base.{all}
+use Rattle.model.specs.Code.{literals, weight, node-of, one-tree}
+use Rattle.model.specs.Sheet.{options-in, used-in, numbers-in, nodes-in, rest-in, rooted, is-sheet}
+use Rattle.theory.specs.Scan.{literals-within}
+use Rattle.sheets.proofs.is_sheet.Statement.{statement}
+use Rattle.sheets.proofs.is_sheet.Tie as tie
+
+-- The nodes are one rooted tree.
+abbrev tree-in : List ℕ → Bool
+tree-in s = rooted (options-in s) (numbers-in s) && one-tree (nodes-in s)
+
+module _ (s : List ℕ) where
+  -- A list is a sheet by six tests, in the order of the code.
+  sheet-is : is-sheet s ≡ (eqb (length s) 4098 && leb (getD s 0 0) 512 && leb (getD s 1 0) 4096 && tree-in s && all (eqb 0) (rest-in s) && leb (weight (nodes-in s)) 4096)
+  unfolding is-sheet options-in used-in
+  sheet-is = rw (and-assoc (eqb (length s) 4098 && leb (getD s 0 0) 512 && leb (getD s 1 0) 4096) (rooted (getD s 0 0) (numbers-in s)) (one-tree (nodes-in s)))
+
+  -- What the parts of the sheet that are lent tell.
+  tree-is : {n used : ℕ} {r : Bool} → let part = take (length s - 2) (drop 2 s) in n ≡ getD s 0 0 → used ≡ getD s 1 0 → r ≡ (rooted n (take used part) && one-tree (map node-of (take used part))) → tree-in s ≡ r
+  unfolding options-in used-in numbers-in nodes-in
+  tree-is f g e = rw (← f, ← g) (sym (rw (part-to-end s 2) at e))
+
+  clear-is : {used : ℕ} {r : Bool} → used ≡ getD s 1 0 → r ≡ all (eqb 0) (take (length s - (2 + used)) (drop (2 + used) s)) → all (eqb 0) (rest-in s) ≡ r
+  unfolding rest-in used-in
+  clear-is {used} f e = rw (← f, drop-drop used 2 s) (sym (rw (part-to-end s (2 + used)) at e))
+
+  weight-is : {used r : ℕ} → used ≡ getD s 1 0 → 2 + used ≤ length s → r ≡ literals (map node-of (take used (take (length s - 2) (drop 2 s)))) → weight (nodes-in s) ≡ used + r
+  unfolding weight nodes-in numbers-in used-in
+  weight-is {used} f h e =
+      let long : length (take used (drop 2 s)) ≡ used = length-take-le used (drop 2 s) (omega (arith, length-drop 2 s)) in
+      rw (← f, e, part-to-end s 2, length-map, long)
+
+-- Among so many nodes there are at most so many literals.
+few : (used : ℕ) (xs : List ℕ) → literals (map node-of (take used xs)) ≤ used
+few used xs = omega (arith, literals-within (map node-of (take used xs)), length-map (take used xs) node-of, length-take used xs)
+
+-- The sheet, from where its two first numbers were read on; and what the calls told of it.
+abbrev sheet : tie.After-wide162 → List ℕ
+sheet k = k .before .before .before .before .before .before .args .s .now
+
+told-tree : (c : tie.After-is-rooted-tree) → tree-in (sheet (c .before .before .before .before .before)) ≡ c .is-rooted-tree .result
+told-tree c =
+    let k = c .before .before .before .before .before in
+    tree-is (sheet k) (k .before .before .wide16 .ensures .0) (k .wide162 .ensures .0) (c .is-rooted-tree .ensures)
+
+told-clear : (c : tie.After-is-clear) → all (eqb 0) (rest-in (sheet (c .before .before .before .before .before .before .before .before))) ≡ c .is-clear .result
+told-clear c =
+    let k = c .before .before .before .before .before .before .before .before in
+    clear-is (sheet k) (k .wide162 .ensures .0) (c .is-clear .ensures)
+
+returns : tie.Need-returns
+returns c =
+    let s = c .before .before .args .s .now in
+    rw (sheet-is s, ne-eqb (length s) 4098 (c .if1 .taken))
+
+shared-slice-read-wide16 : tie.Need-shared-slice-read-wide16
+shared-slice-read-wide16 c = search needs
+
+wide16-requires : tie.Need-wide16-requires
+wide16-requires c κs = search needs
+
+shared-slice-read-wide16-2 : tie.Need-shared-slice-read-wide16-2
+shared-slice-read-wide16-2 c = search needs
+
+wide16-requires-2 : tie.Need-wide16-requires-2
+wide16-requires-2 c κs = search needs
+
+returns-2 : tie.Need-returns-2
+returns-2 c =
+    let s = sheet (c .before) in
+    rw (sheet-is s, lt-leb (getD s 0 0) 512 (omega arith), and-false)
+
+returns-3 : tie.Need-returns-3
+unfolding options-in used-in numbers-in rooted
+returns-3 c =
+    let s = sheet (c .before .before) in
+    let none-used : getD s 1 0 ≡ 0 = omega arith in
+    rw (sheet-is s, none-used, and-false)
+
+returns-4 : tie.Need-returns-4
+returns-4 c =
+    let s = sheet (c .before .before .before) in
+    rw (sheet-is s, lt-leb (getD s 1 0) 4096 (omega arith), and-false)
+
+sub-is-rooted-tree : tie.Need-sub-is-rooted-tree
+sub-is-rooted-tree c = search needs
+
+part-is-rooted-tree-start : tie.Need-part-is-rooted-tree-start
+part-is-rooted-tree-start c = search needs
+
+part-is-rooted-tree-end : tie.Need-part-is-rooted-tree-end
+part-is-rooted-tree-end c = search needs
+
+is-rooted-tree-requires : tie.Need-is-rooted-tree-requires
+is-rooted-tree-requires c κs = search needs
+
+returns-5 : tie.Need-returns-5
+returns-5 c =
+    let s = sheet (c .before .before .before .before .before .before) in
+    rw (sheet-is s, told-tree (c .before), not-true (c .before .is-rooted-tree .result) (c .if5 .taken), and-false)
+
+add-end : tie.Need-add-end
+add-end c = search needs
+
+mul-is-clear : tie.Need-mul-is-clear
+mul-is-clear c = search needs
+
+sub-is-clear : tie.Need-sub-is-clear
+sub-is-clear c = search needs
+
+part-is-clear-start : tie.Need-part-is-clear-start
+part-is-clear-start c = search needs
+
+part-is-clear-end : tie.Need-part-is-clear-end
+part-is-clear-end c = search needs
+
+is-clear-requires : tie.Need-is-clear-requires
+is-clear-requires c κs = search needs
+
+returns-6 : tie.Need-returns-6
+returns-6 c =
+    let s = sheet (c .before .before .before .before .before .before .before .before .before) in
+    rw (sheet-is s, told-clear (c .before), not-true (c .before .is-clear .result) (c .if6 .taken), and-false)
+
+sub-count-literals : tie.Need-sub-count-literals
+sub-count-literals c = search needs
+
+part-count-literals-start : tie.Need-part-count-literals-start
+part-count-literals-start c = search needs
+
+part-count-literals-end : tie.Need-part-count-literals-end
+part-count-literals-end c = search needs
+
+count-literals-requires : tie.Need-count-literals-requires
+count-literals-requires c κs = search needs
+
+add-result : tie.Need-add-result
+add-result c =
+    let k = c .before .before .before .before .before .before .before .before .before .before .before in
+    let part : List ℕ = take (length (sheet k) - 2) (drop 2 (sheet k)) in
+    omega (arith, c .count-literals .ensures, few (k .wide162 .result) part)
+
+returns-7 : tie.Need-returns-7
+returns-7 c =
+    let k = c .before .before .before .before .before .before .before .before .before .before .before in
+    let s = sheet k in
+    let whole = eq-eqb (length s) 4098 (omega arith) in
+    let few-options = le-leb (getD s 0 0) 512 (omega arith) in
+    let room = le-leb (getD s 1 0) 4096 (omega arith) in
+    let tree = told-tree (c .before .before .before .before .before .before) ∙ not-false _ (c .before .before .before .before .before .if5 .left) in
+    let clear = told-clear (c .before .before .before) ∙ not-false _ (c .before .before .if6 .left) in
+    rw (sheet-is s, whole, few-options, room, tree, clear, weight-is s (k .wide162 .ensures .0) (omega arith) (c .count-literals .ensures))
+
+pub is-sheet-spec : {M : Type 1} → statement M
+is-sheet-spec =
+    tie.close
+    (tie.spec
+    returns
+    shared-slice-read-wide16
+    wide16-requires
+    shared-slice-read-wide16-2
+    wide16-requires-2
+    returns-2
+    returns-3
+    returns-4
+    sub-is-rooted-tree
+    part-is-rooted-tree-start
+    part-is-rooted-tree-end
+    is-rooted-tree-requires
+    returns-5
+    add-end
+    mul-is-clear
+    sub-is-clear
+    part-is-clear-start
+    part-is-clear-end
+    is-clear-requires
+    returns-6
+    sub-count-literals
+    part-count-literals-start
+    part-count-literals-end
+    count-literals-requires
+    add-result
+    returns-7)

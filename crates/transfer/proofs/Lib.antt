@@ -1,0 +1,3 @@
+pub mod Loaded
+pub mod Written
+pub mod Calls

@@ -1,0 +1,146 @@
+//! The book check and the code lookup, written from document 01 alone.
+//!
+//! Every step follows the paper's wording, in the order in which the refusals are
+//! tested.  Nothing is shared with the library under test.
+
+use std::collections::HashSet;
+
+/// The refusals that the two calls can give.
+#[derive(Clone, Copy, Debug, PartialEq, Eq)]
+pub enum Refusal {
+    Length = 1,
+    Head = 2,
+    Code = 3,
+    Contents = 4,
+    Body = 5,
+    Weight = 6,
+    NoSuchCode = 7,
+}
+
+/// The book check's answer as one number.
+pub fn book_check(book: &[u8]) -> u64 {
+    answer(accepted_codes(book).map(|_| 0))
+}
+
+/// The code lookup's answer as one number.
+pub fn code_lookup(book: &[u8], code: &[u8]) -> u64 {
+    answer(option_number(book, code))
+}
+
+/// The refusal in the low 8 bits (0: accepted), the value above them.
+fn answer(result: Result<usize, Refusal>) -> u64 {
+    match result {
+        Ok(value) => (value as u64) << 8,
+        Err(refusal) => refusal as u64,
+    }
+}
+
+/// The number of the option whose code is these characters.
+fn option_number(book: &[u8], code: &[u8]) -> Result<usize, Refusal> {
+    accepted_codes(book)?
+        .iter()
+        .position(|stored| characters(stored) == code)
+        .ok_or(Refusal::NoSuchCode)
+}
+
+/// The codes of a book, 13 bytes each, where the whole book is accepted.
+fn accepted_codes(book: &[u8]) -> Result<Vec<&[u8]>, Refusal> {
+    // Head.
+    if book.len() < 8 {
+        return Err(Refusal::Length);
+    }
+    let head = numbers(&book[..8]);
+    let [n, m, t, zero] = [0, 1, 2, 3].map(|i| usize::from(head[i]));
+    if n > 512 || m > 4095 || t > 4095 || zero != 0 {
+        return Err(Refusal::Head);
+    }
+    if book.len() != 8 + 13 * n + 4 * m + 2 * t {
+        return Err(Refusal::Length);
+    }
+    let (codes, rest) = book[8..].split_at(13 * n);
+    let (pairs, nodes) = rest.split_at(4 * m);
+    let codes: Vec<&[u8]> = codes.chunks_exact(13).collect();
+    let pairs = numbers(pairs);
+    let nodes = numbers(nodes);
+
+    // Codes: each well formed, none equal to an earlier one in all 13 bytes.
+    let mut earlier = HashSet::new();
+    for code in &codes {
+        if !well_formed(code) || !earlier.insert(*code) {
+            return Err(Refusal::Code);
+        }
+    }
+
+    // Contents: no gap, no empty body, T nodes together.
+    let mut sum = 0;
+    for pair in pairs.chunks_exact(2) {
+        let (first, count) = (usize::from(pair[0]), usize::from(pair[1]));
+        if first != sum || count == 0 {
+            return Err(Refusal::Contents);
+        }
+        sum += count;
+    }
+    if sum != t {
+        return Err(Refusal::Contents);
+    }
+
+    // Bodies: each is one tree and nothing after it.
+    for pair in pairs.chunks_exact(2) {
+        let (first, count) = (usize::from(pair[0]), usize::from(pair[1]));
+        match after_tree(&nodes[first..first + count], n) {
+            Some([]) => {}
+            _ => return Err(Refusal::Body),
+        }
+    }
+
+    // Weight: nodes plus marks, the root counted.
+    let marks = nodes.iter().filter(|&&node| is_mark(node)).count();
+    if 1 + t + marks > 4096 {
+        return Err(Refusal::Weight);
+    }
+    Ok(codes)
+}
+
+/// 16-bit numbers, low byte first.
+fn numbers(bytes: &[u8]) -> Vec<u16> {
+    let pairs = bytes.chunks_exact(2);
+    pairs
+        .map(|two| u16::from_le_bytes([two[0], two[1]]))
+        .collect()
+}
+
+/// What stands before the first zero byte of a stored code.
+fn characters(stored: &[u8]) -> &[u8] {
+    let end = stored.iter().position(|&byte| byte == 0);
+    &stored[..end.unwrap_or(stored.len())]
+}
+
+/// 1 to 13 characters from A-Z, a-z, 0-9 and hyphen, then zero bytes.
+fn well_formed(stored: &[u8]) -> bool {
+    let (name, filling) = stored.split_at(characters(stored).len());
+    !name.is_empty()
+        && name
+            .iter()
+            .all(|byte| matches!(byte, b'A'..=b'Z' | b'a'..=b'z' | b'0'..=b'9' | b'-'))
+        && filling.iter().all(|&byte| byte == 0)
+}
+
+fn is_mark(node: u16) -> bool {
+    matches!(node / 4096, 1 | 2)
+}
+
+/// The nodes after the tree that these begin with; none where they begin with no tree.
+fn after_tree(nodes: &[u16], options: usize) -> Option<&[u16]> {
+    let (&node, mut rest) = nodes.split_first()?;
+    let value = usize::from(node % 4096);
+    match node / 4096 {
+        1 | 2 if value < options => Some(rest),
+        3 | 4 => {
+            for _ in 0..value {
+                rest = after_tree(rest, options)?;
+            }
+            Some(rest)
+        }
+        _ => None,
+    }
+}
