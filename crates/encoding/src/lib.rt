@@ -85,4 +85,3 @@ pub fn put_parts(codes: &[u8], s: &[u16], m: usize, out: &mut [u8])
     copy(codes, contents, out);
     put_trees(s, m, &mut out[contents..]);
 }
-// x

@@ -59,3 +59,4 @@ pub mod Flat
 pub mod Stretches
 pub mod Heads
 pub mod Refusals
+pub mod Tables

@@ -1,0 +1,104 @@
+// Evaluation: whether a sheet's rules fail under a set of failed literals, in one pass from the right; 64 sets at a time.
+ghost use mathlib.Core.Path.{_≡_};
+ghost use mathlib.Core.Bool.{true, false};
+ghost use mathlib.Core.List.{map};
+ghost use Prim.Native.Nat.{ℕ, _+_, _*_, _≤_, _<_};
+ghost use lib.Dec.{eqb};
+ghost use lib.ListN.{length, getD, set, drop};
+ghost use Rattle.model.specs.Base.{pick};
+ghost use Rattle.model.specs.Forest.{or, root};
+ghost use Rattle.model.specs.Code.{value, decode};
+ghost use Rattle.model.specs.Sheet.{«is-sheet», «nodes-in»};
+ghost use Rattle.theory.specs.Scan.{«is-literal»};
+ghost use Rattle.theory.specs.Evaluation.{fails};
+ghost use Rattle.theory.specs.Values.{«fails-all»};
+ghost use Rattle.theory.specs.Tables.{«set-of»};
+ghost use Rattle.evaluation.specs.Reading.{bit, «place-at», «with-node»};
+
+// The place in a table of the literal that a number of kind 1 or 2 is.
+fn place_of(x: usize) -> usize
+    requires { ⌜ «is-literal» x ≡ true ⌝ }
+    ensures { λ r. ⌜ r ≡ «place-at» x ⌝ }
+{
+    2 * nodes::value_of(x) + nodes::kind_of(x) - 1
+}
+
+// Whether the literal at a place fails, in 64 trials: in trial j the literal at place 64 * block + j fails too.
+fn literal_bits(place: usize, failed: &[u8], block: usize) -> u64
+    requires { ⌜ place < length (now failed) ⌝ }
+    ensures { λ r. ⌜ ((j : ℕ) → j < 64 → bit j r ≡ eqb (getD (set (now (failed .entry)) (64 * block + j) 1) place 0) 1) ⌝ }
+{
+    if failed[place] == 1 {
+        return 0xffff_ffff_ffff_ffff;
+    }
+    if place / 64 == block {
+        return 1 << (place % 64);
+    }
+    0
+}
+
+// Whether a node fails whose children have these bits: where all of them fail under a disjunction, where any does else.
+fn combine(values: &[u64], disjunction: bool) -> u64
+    ensures { λ r. ⌜ ((j : ℕ) → j < 64 → bit j r ≡ «fails-all» (pick disjunction or root) (map (bit j) (now (values .entry)))) ⌝ }
+{
+    let mut sum = if disjunction {
+        0xffff_ffff_ffff_ffff
+    } else {
+        0
+    };
+    let mut i = values.len();
+    while 0 < i {
+        i -= 1;
+        sum = if disjunction {
+            values[i] & sum
+        } else {
+            values[i] | sum
+        };
+    }
+    sum
+}
+
+// One node more, before the trees whose bits stand on the stack from its top on, the first tree's first: its own take the place
+// of its children's. The new top.
+fn read_node(x: usize, failed: &[u8], block: usize, stack: &mut [u64], top: usize) -> usize
+    requires { ⌜ (1 ≤ top) × (top ≤ length (now stack)) ⌝ }
+    requires { ⌜ («is-literal» x ≡ true → «place-at» x < length (now failed)) ⌝ }
+    requires { ⌜ («is-literal» x ≡ false → top + value x ≤ length (now stack)) ⌝ }
+    ensures { λ r. ⌜ r < length (now (stack .entry)) ⌝ }
+    ensures { λ r. ⌜ ((j : ℕ) → j < 64 → map (bit j) (drop r (now (stack .exit))) ≡ «with-node» (set (now (failed .entry)) (64 * block + j) 1) x (map (bit j) (drop top (now (stack .entry))))) ⌝ }
+{
+    if nodes::is_literal(x) {
+        let new = top - 1;
+        stack[new] = literal_bits(place_of(x), failed, block);
+        return new;
+    }
+    let end = top + nodes::value_of(x);
+    let bits = combine(&stack[top..end], nodes::kind_of(x) == 4);
+    let new = end - 1;
+    stack[new] = bits;
+    new
+}
+
+// Whether the sheet's root fails, in 64 trials: in trial j the literal at place 64 * block + j fails too.
+pub fn root_fails_with(sheet: &[u16], failed: &[u8], block: usize) -> u64
+    requires { ⌜ («is-sheet» (now sheet) ≡ true) × (length (now failed) ≡ 1024) ⌝ }
+    ensures { λ r. ⌜ ((j : ℕ) → j < 64 → bit j r ≡ fails («set-of» (set (now (failed .entry)) (64 * block + j) 1)) root (decode («nodes-in» (now (sheet .entry))))) ⌝ }
+{
+    let mut stack = [0u64; 4096];
+    let mut top = 4096;
+    let mut i = numbers::wide16(sheet[1]);
+    while 0 < i {
+        i -= 1;
+        let x = numbers::wide16(sheet[2 + i]);
+        top = read_node(x, failed, block, &mut stack, top);
+    }
+    stack[top]
+}
+
+// Whether the sheet's root fails.
+pub fn root_fails(sheet: &[u16], failed: &[u8]) -> bool
+    requires { ⌜ («is-sheet» (now sheet) ≡ true) × (length (now failed) ≡ 1024) ⌝ }
+    ensures { λ r. ⌜ r ≡ fails («set-of» (now (failed .entry))) root (decode («nodes-in» (now (sheet .entry)))) ⌝ }
+{
+    root_fails_with(sheet, failed, 16) % 2 == 1
+}

@@ -1,0 +1,188 @@
+// The report, and the "complete" question.
+ghost use mathlib.Core.Path.{_≡_};
+ghost use mathlib.Core.Bool.{true, not, _&&_};
+ghost use Prim.Native.Nat.{_+_, _*_, _≤_, _<_};
+ghost use lib.Dec.{eqb};
+ghost use lib.ListN.{length, getD, set, replicate};
+ghost use Rattle.model.specs.Base.{pick, all};
+ghost use Rattle.model.specs.Code.{decode};
+ghost use Rattle.model.specs.Propagation.{«count-from», complete};
+ghost use Rattle.model.specs.Sheet.{«is-sheet», «options-in», «nodes-in»};
+ghost use Rattle.model.specs.Calls.{«report-in», reportOf, completeOf};
+ghost use Rattle.theory.specs.Tables.{«Has-report», «mark-in», «marks-in», «is-marked»};
+ghost use Rattle.answers.specs.Meaning.{afterCall};
+ghost use Rattle.reports.specs.Meaning.{reportedOf, completedOf};
+ghost use Rattle.reports.specs.Sweeps.{opposite, Swept};
+use answers::Refusal;
+
+// What a report says beside its bytes.
+pub enum Reported {
+    Consistent,
+    Contradictory,
+    Refused(Refusal),
+}
+
+// What the "complete" question answers.
+pub enum Completed {
+    Complete,
+    Incomplete,
+    Refused(Refusal),
+}
+
+// The place of the complement of the literal at a place.
+fn opposite_of(k: usize) -> usize
+    requires { ⌜ k < 1024 ⌝ }
+    ensures { λ r. ⌜ r ≡ opposite k ⌝ }
+{
+    if k % 2 == 0 { k + 1 } else { k - 1 }
+}
+
+// The literal at a place, where it was found to be forced, becomes a fact: its complement fails. Says whether it is a new one.
+fn learn(found: bool, k: usize, failed: &mut [u8]) -> bool
+    requires { ⌜ (k < 1024) × (length (now failed) ≡ 1024) ⌝ }
+    ensures { λ r. ⌜ r ≡ (not (eqb (getD (now (failed .entry)) (opposite k) 0) 1) && found) ⌝ }
+    ensures { λ r. ⌜ now (failed .exit) ≡ pick r (set (now (failed .entry)) (opposite k) 1) (now (failed .entry)) ⌝ }
+{
+    let other = opposite_of(k);
+    if failed[other] == 1 {
+        return false;
+    }
+    if found {
+        failed[other] = 1;
+    }
+    found
+}
+
+// Each literal of a block of 64 places that is forced by what is known so far becomes known. Says whether there was one.
+fn sweep_block(sheet: &[u16], block: usize, failed: &mut [u8]) -> bool
+    requires { ⌜ («is-sheet» (now sheet) ≡ true) × (length (now failed) ≡ 1024) × (block < 16) ⌝ }
+    ensures { λ r. ⌜ Swept (decode («nodes-in» (now (sheet .entry)))) (64 * block) (64 * block + 64) (now (failed .entry)) (now (failed .exit)) r ⌝ }
+{
+    let mut grown = false;
+    let mut rest = evaluation::root_fails_with(sheet, failed, block);
+    let mut k = 64 * block;
+    let end = k + 64;
+    while k < end {
+        grown = grown | learn(rest % 2 == 1, k, failed);
+        rest = rest / 2;
+        k += 1;
+    }
+    grown
+}
+
+// The same for the literals of the first n options.
+fn sweep(sheet: &[u16], n: usize, failed: &mut [u8]) -> bool
+    requires { ⌜ («is-sheet» (now sheet) ≡ true) × (length (now failed) ≡ 1024) × (n ≤ 512) ⌝ }
+    ensures { λ r. ⌜ Swept (decode («nodes-in» (now (sheet .entry)))) 0 (2 * n) (now (failed .entry)) (now (failed .exit)) r ⌝ }
+{
+    let mut grown = false;
+    let mut block = 0;
+    while 64 * block < 2 * n {
+        grown = grown | sweep_block(sheet, block, failed);
+        block += 1;
+    }
+    grown
+}
+
+// All that is forced becomes known.
+fn propagate(sheet: &[u16], failed: &mut [u8])
+    requires { ⌜ («is-sheet» (now sheet) ≡ true) × (now failed ≡ replicate 1024 0) ⌝ }
+    ensures { λ r. ⌜ «Has-report» (now (sheet .entry)) (now (failed .exit)) ⌝ }
+{
+    let n = numbers::wide16(sheet[0]);
+    while sweep(sheet, n, failed) {}
+}
+
+// The mark of an option.
+fn mark_of(failed: &[u8], v: usize) -> u8
+    requires { ⌜ 2 * v + 1 < length (now failed) ⌝ }
+    ensures { λ r. ⌜ r ≡ «mark-in» (now (failed .entry)) v ⌝ }
+{
+    if failed[2 * v + 1] == 1 {
+        return 1;
+    }
+    if failed[2 * v] == 1 {
+        return 2;
+    }
+    0
+}
+
+// The mark of each option, or all 3.
+fn put_marks(failed: &[u8], contradictory: bool, out: &mut [u8])
+    requires { ⌜ 2 * length (now out) ≤ length (now failed) ⌝ }
+    ensures { λ r. ⌜ now (out .exit) ≡ «marks-in» contradictory (now (failed .entry)) (length (now (out .entry))) ⌝ }
+{
+    let mut v = 0;
+    while v < out.len() {
+        out[v] = if contradictory { 3 } else { mark_of(failed, v) };
+        v += 1;
+    }
+}
+
+// Each of the first n options is in or out.
+fn all_marked(failed: &[u8], n: usize) -> bool
+    requires { ⌜ 2 * n ≤ length (now failed) ⌝ }
+    ensures { λ r. ⌜ r ≡ all («is-marked» (now (failed .entry))) («count-from» 0 n) ⌝ }
+{
+    let mut v = 0;
+    while v < n {
+        if mark_of(failed, v) == 0 {
+            return false;
+        }
+        v += 1;
+    }
+    true
+}
+
+// What a report of a sheet says, whether it is contradictory, and what it writes.
+fn put_report(sheet: &[u16], out: &mut [u8]) -> bool
+    requires { ⌜ («is-sheet» (now sheet) ≡ true) × (length (now out) ≡ «options-in» (now sheet)) ⌝ }
+    ensures { λ r. ⌜ (r ≡ «report-in» (now (sheet .entry)) .contradictory) × (now (out .exit) ≡ «report-in» (now (sheet .entry)) .marks) ⌝ }
+{
+    let mut failed = [0u8; 1024];
+    propagate(sheet, &mut failed);
+    let contradictory = evaluation::root_fails(sheet, &failed);
+    put_marks(&failed, contradictory, out);
+    contradictory
+}
+
+// Whether a sheet is not contradictory and each of its options is in or out.
+fn is_complete(sheet: &[u16]) -> bool
+    requires { ⌜ «is-sheet» (now sheet) ≡ true ⌝ }
+    ensures { λ r. ⌜ r ≡ complete («report-in» (now (sheet .entry))) ⌝ }
+{
+    let mut failed = [0u8; 1024];
+    propagate(sheet, &mut failed);
+    !evaluation::root_fails(sheet, &failed) && all_marked(&failed, numbers::wide16(sheet[0]))
+}
+
+// The report: a byte for each option.
+pub fn report(sheet: &[u16], out: &mut [u8]) -> Reported
+    ensures { λ r. ⌜ afterCall (reportedOf r) (now (out .exit)) ≡ reportOf (now (sheet .entry)) (now (out .entry)) ⌝ }
+{
+    if !sheets::is_sheet(sheet) {
+        return Reported::Refused(Refusal::Sheet);
+    }
+    if out.len() != numbers::wide16(sheet[0]) {
+        return Reported::Refused(Refusal::Output);
+    }
+    if put_report(sheet, out) {
+        Reported::Contradictory
+    } else {
+        Reported::Consistent
+    }
+}
+
+// The "complete" question.
+pub fn complete(sheet: &[u16]) -> Completed
+    ensures { λ r. ⌜ completedOf r ≡ completeOf (now (sheet .entry)) ⌝ }
+{
+    if !sheets::is_sheet(sheet) {
+        return Completed::Refused(Refusal::Sheet);
+    }
+    if is_complete(sheet) {
+        Completed::Complete
+    } else {
+        Completed::Incomplete
+    }
+}

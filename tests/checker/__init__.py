@@ -1,0 +1,19 @@
+"""A clause-building reference checker for the option book and the order sheet.
+
+Written from document 01 alone, a second and independent rendering of its definitions. It keeps to
+the wording and not to speed: clauses are really multiplied out, so it is for toy books. The paper's
+words and the field's terms: mark = literal (barred = negative), all-of = conjunction, any-of =
+disjunction; where a rule applies is a redex, what it leaves there the contractum.
+
+trees: node numbers to trees and back. books: the book file. sheets: the order sheet. meaning:
+clauses and facts. rules: the fourteen rules. calls: every call in one form. desk: the desk program.
+selftest: all of it against the paper.
+"""
+
+
+class Refused(Exception):
+    """One refusal, `number` as in document 01."""
+
+    def __init__(self, number):
+        super().__init__(number)
+        self.number = number

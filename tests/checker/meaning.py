@@ -1,0 +1,81 @@
+"""Meaning: the rules really multiplied out into clauses, then unit propagation."""
+from . import Refused
+from .sheets import read
+from .trees import DISJUNCTION, Literal, fold
+
+LIMIT = 50_000  # most unions that one more child of a disjunction may make
+
+
+class TooManyClauses(Exception):
+    """The book is no toy: its clauses would pass the limit."""
+
+
+def clauses(tree):
+    """The set of clauses, each a frozenset of literals.
+
+    "The clauses of a mark are one clause holding it; of an all-of or root, those of all children;
+    of an any-of, every union that takes one clause from each child. A clause is a set, so
+    duplicates merge. So true has no clause and false has the empty one." """
+    def multiplied_out(node, parts):
+        if node.literal:
+            return {frozenset((node.literal,))}
+        if node.kind != DISJUNCTION:
+            return set().union(*parts)
+        unions = {frozenset()}
+        for part in parts:
+            if len(unions) * len(part) > LIMIT:
+                raise TooManyClauses
+            unions = {union | clause for union in unions for clause in part}
+        return unions
+    return fold(tree, multiplied_out)
+
+
+def facts(all_clauses):
+    """ "Facts are the least set such that a mark of a clause is a fact when the opposite of every
+    other mark in that clause is a fact." """
+    known, grown = set(), True
+    while grown:
+        grown = False
+        for clause in all_clauses:
+            for literal in clause - known:
+                if all(other.opposite() in known for other in clause if other != literal):
+                    known.add(literal)
+                    grown = True
+    return known
+
+
+def contradictory(all_clauses, known):
+    """ "The sheet is contradictory when some clause has the opposite of every mark among the
+    facts." """
+    return any(all(literal.opposite() in known for literal in clause) for clause in all_clauses)
+
+
+def meaning(tree):
+    """The set of facts, or None when contradictory."""
+    all_clauses = clauses(tree)
+    known = facts(all_clauses)
+    return None if contradictory(all_clauses, known) else known
+
+
+def marks(options, tree):
+    """N bytes: "0 open, 1 in, 2 out"; None when contradictory."""
+    known = meaning(tree)
+    return None if known is None else [1 if Literal(option, True) in known else
+                                       2 if Literal(option, False) in known else 0
+                                       for option in range(options)]
+
+
+def report(sheet, output):
+    """(contradictory, output after). "All 3 when contradictory, which its result says too". "12
+    ... for a report, not exactly N long" """
+    options, root = read(sheet)
+    if len(output) != options:
+        raise Refused(12)
+    found = marks(options, root)
+    return (True, [3] * options) if found is None else (False, found)
+
+
+def complete(sheet):
+    """ "A sheet is complete if it is not contradictory and every option is 1 or 2." """
+    found = marks(*read(sheet))
+    return found is not None and all(mark in (1, 2) for mark in found)
