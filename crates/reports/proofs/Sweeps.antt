@@ -130,8 +130,8 @@ module _ (f : Forest) where
       fewer false j m n = omega arith
 
 -- Where a last sweep found nothing, the table has the report.
-pub last-sweep : (s : List ℕ) → is-sheet s ≡ true → {old new : List ℕ} → Swept (decode (nodes-in s)) 0 (2 * options-in s) old new false → 2 * options-in s ≤ length old → Right (clauses root (decode (nodes-in s))) old → Has-report s new
-last-sweep s h {old} w room right =
-    let e = w .still refl in
-    let n = options-in s in
-    rw (e .0) (sheet-report s h old room right (λ l few. sym (forced-place (decode (nodes-in s)) old l) ∙ e .1 (place-of l) (omega arith) (place-below n l few)))
+pub last-sweep : (s : List ℕ) → is-sheet s ≡ true → (n : ℕ) → n ≡ options-in s → {old new : List ℕ} {g : Bool} → Swept (decode (nodes-in s)) 0 (2 * n) old new g → g ≡ false → 2 * n ≤ length old → Right (clauses root (decode (nodes-in s))) old → Has-report s new
+last-sweep s h n p {old} w q room right =
+    let e = w .still q in
+    rw (e .0)
+    (sheet-report s h old (omega arith) right (λ l few. sym (forced-place (decode (nodes-in s)) old l) ∙ e .1 (place-of l) (omega arith) (place-below n l (omega arith))))

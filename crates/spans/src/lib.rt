@@ -2,7 +2,7 @@
 ghost use mathlib.Core.Path.{_≡_};
 ghost use Prim.Native.Nat.{_≤_};
 ghost use lib.ListN.{length};
-ghost use Rattle.theory.specs.Spans.{arity, span};
+ghost use Rattle.theory.specs.Spans.{arity, span, «child-at»};
 
 // The number of children that a node announces.
 pub fn arity_of(x: usize) -> usize
@@ -26,4 +26,12 @@ pub fn span_of(s: &[u16], trees: usize) -> usize
         i += 1;
     }
     i
+}
+
+// The place of child i of the group that a stretch begins with.
+pub fn child_at(s: &[u16], i: usize) -> usize
+    requires { ⌜ (1 ≤ length (now s)) × (length (now s) ≤ 4096) × (i ≤ 4096) ⌝ }
+    ensures { λ r. ⌜ (r ≡ «child-at» i (now (s .entry))) × (r ≤ length (now (s .entry))) ⌝ }
+{
+    1 + span_of(&s[1..], i)
 }

@@ -54,7 +54,7 @@ first-node c k f z h =
     let small = and-split (fits (head c (size k))) (all fits (encode k ++ encode f)) h .0 in
     (kind-number (conn-kind c) (size k) small, value-number (conn-kind c) (size k) small)
 
-conn-of-kind : (c d : Conn) → conn-kind c ≡ conn-kind d → c ≡ d
+pub conn-of-kind : (c d : Conn) → conn-kind c ≡ conn-kind d → c ≡ d
 unfolding conn-kind
 conn-of-kind and and e = refl
 conn-of-kind and or e = absurd (omega arith)
@@ -70,11 +70,11 @@ kind-zero : kind 0 ≡ 0
 unfolding kind
 kind-zero = refl
 
-conn-kind-high : (c : Conn) → 3 ≤ conn-kind c
+pub conn-kind-bounds : (c : Conn) → (3 ≤ conn-kind c) × (conn-kind c ≤ 5)
 unfolding conn-kind
-conn-kind-high and = omega arith
-conn-kind-high or = omega arith
-conn-kind-high root = omega arith
+conn-kind-bounds and = omega arith
+conn-kind-bounds or = omega arith
+conn-kind-bounds root = omega arith
 
 -- A rule's test of the head: where the first number is of its kind and has enough children, so is the first tree.
 pub head-test : (r : ℕ) (w : Row) → row-of r ≡ some w → (l : List ℕ) → Stretch l → kind (getD l 0 0) ≡ conn-kind (w .conn) → w .fewest ≤ value (getD l 0 0) → Headed r l
@@ -85,8 +85,8 @@ head-test r w e l s k n = go (forest-in l) refl (s .fitting) (s .spelled)
     go nil q a b = absurd (low (ap (λ xs. kind (getD xs 0 0)) b ∙ ap kind (first-nil _)))
       where
         low : kind (getD l 0 0) ≡ kind 0 → ⊥
-        low x = omega (arith, conn-kind-high (w .conn), x ∙ kind-zero)
-    go (lit x f) q a b = absurd (omega (arith, conn-kind-high (w .conn), first-literal x f (length l - length (encode (lit x f))) a, ap (λ xs. kind (getD xs 0 0)) b))
+        low x = omega (arith, conn-kind-bounds (w .conn), x ∙ kind-zero)
+    go (lit x f) q a b = absurd (omega (arith, conn-kind-bounds (w .conn), first-literal x f (length l - length (encode (lit x f))) a, ap (λ xs. kind (getD xs 0 0)) b))
     go (node c m f) q a b =
         let z = length l - length (encode (node c m f)) in
         let t = first-node c m f z a in

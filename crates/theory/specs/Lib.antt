@@ -58,5 +58,7 @@ pub mod Spans
 pub mod Flat
 pub mod Stretches
 pub mod Heads
+pub mod Children
+pub mod Turns
 pub mod Refusals
 pub mod Tables

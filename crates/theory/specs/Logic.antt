@@ -114,6 +114,21 @@ unfolding only-if
 only-none true a e = none-some (sym e)
 only-none false a e = refl
 
+pub is-some-only : {A : Type 0} (b : Bool) (a : A) → is-some (only-if b a) ≡ b
+unfolding only-if is-some
+is-some-only true a = refl
+is-some-only false a = refl
+
+pub is-some-then : {A B : Type 0} (o : Option A) (f : A → B) → is-some (then o (λ a. some (f a))) ≡ is-some o
+unfolding then is-some
+is-some-then none f = refl
+is-some-then (some a) f = refl
+
+pub is-some-first : {A B : Type 0} (o : Option A) (f : A → Option B) → is-some (then o f) ≡ true → is-some o ≡ true
+unfolding then is-some
+is-some-first none f e = e
+is-some-first (some a) f e = refl
+
 pub is-some-none : {A : Type 0} (o : Option A) {B : Type 0} (b : B) → (only-if (is-some o) b ≡ none) ↔ (o ≡ none)
 unfolding only-if is-some
 is-some-none none b = ((λ e. refl), λ e. refl)

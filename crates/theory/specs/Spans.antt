@@ -36,6 +36,10 @@ unfoldable pub spans : ℕ → List ℕ → List ℕ
 spans zero xs = []
 spans (suc m) xs = span 1 xs ∷ spans m (drop (span 1 xs) xs)
 
+-- The place of child i of the group that a list begins with: after the head and the children before it.
+abbrev pub child-at : ℕ → List ℕ → ℕ
+child-at i l = 1 + span i (drop 1 l)
+
 -- No child for a literal, and as many as its value for any other node: in either case fewer than 4,096.
 module _ (x : ℕ) where
   pub arity-literal : is-literal x ≡ true → arity x ≡ 0

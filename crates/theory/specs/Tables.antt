@@ -242,7 +242,7 @@ marks-in b t n = map (λ v. pick b 3 (mark-in t v)) (count-from 0 n)
 
 -- The option is 1 or 2.
 unfoldable pub is-marked : List ℕ → ℕ → Bool
-is-marked t v = set-of t (neg v) || set-of t (pos v)
+is-marked t v = eqb (mark-in t v) 1 || eqb (mark-in t v) 2
 
 abbrev pub Has-report : List ℕ → List ℕ → Type 0
 Has-report s t = report-by (options-in s) (clauses-in s) (facts-in t) ≡ report-in s
@@ -283,29 +283,20 @@ unfolding marks-in pick
 picked-marks true t n = three-marks 0 n
 picked-marks false t n = ap (λ g. map g (count-from 0 n)) (λ i v. mark-fact t v i)
 
--- A mark is 1 or 2 exactly where the option is marked.
-two-marks : (t : List ℕ) (v : ℕ) → (eqb (mark-in t v) 1 || eqb (mark-in t v) 2) ≡ is-marked t v
-unfolding mark-in is-marked pick
-two-marks t v = go (set-of t (neg v)) (set-of t (pos v))
-  where
-    go : (a b : Bool) → (eqb (pick a 1 (pick b 2 0)) 1 || eqb (pick a 1 (pick b 2 0)) 2) ≡ (a || b)
-    go true b = refl
-    go false true = refl
-    go false false = refl
-
+-- A mark that is neither 1 nor 2 is 0.
 pub open-mark : (t : List ℕ) (v : ℕ) → eqb (mark-in t v) 0 ≡ not (is-marked t v)
 unfolding mark-in is-marked pick
 open-mark t v = go (set-of t (neg v)) (set-of t (pos v))
   where
-    go : (a b : Bool) → eqb (pick a 1 (pick b 2 0)) 0 ≡ not (a || b)
+    go : (a b : Bool) → let m : ℕ = pick a 1 (pick b 2 0) in eqb m 0 ≡ not (eqb m 1 || eqb m 2)
     go true b = refl
     go false true = refl
     go false false = refl
 
 complete-marks : (b : Bool) (t : List ℕ) (n : ℕ) → (not b && all (λ m. eqb m 1 || eqb m 2) (marks-in b t n)) ≡ (not b && all (is-marked t) (count-from 0 n))
-unfolding marks-in pick
+unfolding marks-in is-marked pick
 complete-marks true t n = refl
-complete-marks false t n = all-map (mark-in t) (λ m. eqb m 1 || eqb m 2) (count-from 0 n) ∙ ap (λ p. all p (count-from 0 n)) (λ i v. two-marks t v i)
+complete-marks false t n = all-map (mark-in t) (λ m. eqb m 1 || eqb m 2) (count-from 0 n)
 
 module _ (s t : List ℕ) (e : Has-report s t) where
   pub report-conflict : report-in s .contradictory ≡ fails (set-of t) root (decode (nodes-in s))

@@ -71,7 +71,7 @@ returns c =
     let w = n .loop .inv in
     let p = n .before .before .before .before .before .pre .0 in
     let k = sheet-facts _ p in
-    last-sweep _ p (rw (c .if1 .left, w .1) at (c .before .before .before .sweep .ensures)) (omega arith) (w .2)
+    last-sweep _ p (n .before .wide16 .result) (w .1) (c .before .before .before .sweep .ensures) (c .if1 .left) (omega arith) (w .2)
 
 pub propagate-spec : {M : Type 1} → statement M
 propagate-spec =
