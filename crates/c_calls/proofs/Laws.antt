@@ -11,6 +11,7 @@ use Rattle.model.specs.Book.{same-code, characters, option-of-code, pieces, cod
 use Rattle.model.specs.Calls.{Refusal, option-refused, Answer, refused, accepted, answer, book-refusal, lookupOf}
 use Rattle.theory.specs.Logic.{none-some, some-inj, first-none}
 use Rattle.theory.specs.Loading.{accepted-book}
+use Rattle.c_calls.specs.Packed.{Fits}
 
 option-below : (given : List ℕ) (k : ℕ) (cs : List (List ℕ)) {v : ℕ} → option-of-code given k cs ≡ some v → v < k + length cs
 unfolding option-of-code pick
@@ -26,7 +27,7 @@ unfolding pieces
 count-pieces k zero b = refl
 count-pieces k (suc n) b = ap suc (count-pieces k n (drop k b))
 
-pub found-small : (b code : List ℕ) (v : ℕ) → accepted v ≡ lookupOf b code → v ≤ 512
+found-small : (b code : List ℕ) (v : ℕ) → accepted v ≡ lookupOf b code → v ≤ 512
 unfolding lookupOf answer maybe codes-of
 found-small b code v e = go _ (option-of-code code 0 (codes-of b)) refl refl e
   where
@@ -37,3 +38,6 @@ found-small b code v e = go _ (option-of-code code 0 (codes-of b)) refl refl e
         let same : v ≡ w = cc in
         let good = accepted-book b (first-none (book-refusal b) _ p .0) in
         omega (arith, option-below code 0 (codes-of b) q, count-pieces 13 (options-of b) (drop 8 b), good .options)
+
+pub lookup-fits : (b code : List ℕ) → Fits (lookupOf b code)
+lookup-fits b code v e = omega (arith, found-small b code v e)

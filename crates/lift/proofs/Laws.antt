@@ -11,16 +11,16 @@ use lib.Dec.{eqb, leb, ltb}
 use lib.ListN.{length, getD, take, drop, set, replicate}
 use lib.Seq.{slice, slice-empty, slice-cons, take-add, drop-at, length-take-le, set-at}
 use Rattle.model.specs.Base.{pick, all, is-some, then}
-use Rattle.model.specs.Literal.{Literal, pos, neg, option}
-use Rattle.model.specs.Forest.{Conn, and, or, root, Forest, nil, lit, node, _⊕_, size, first, after, literal-at, conjunction-at, literals-only}
-use Rattle.model.specs.Code.{leaf, head, encode, value, number, conn-kind, number-of}
+use Rattle.model.specs.Literal.{Literal}
+use Rattle.model.specs.Forest.{Conn, and, Forest, nil, lit, node, _⊕_, size, first, after, literal-at, conjunction-at, literals-only}
+use Rattle.model.specs.Code.{leaf, encode, value, number, conn-kind, number-of}
 use Rattle.model.specs.Rules.{lift, merge, lifts, merges, change, rewrite}
-use Rattle.theory.specs.Logic.{true-false, some-inj, fails-if, and-split, pick-keeps, is-some-of, is-some-only, is-some-then, is-some-first, only-some, then-some}
+use Rattle.theory.specs.Logic.{true-false, some-inj, fails-if, pick-keeps, is-some-of, is-some-only, is-some-then, is-some-first, only-some, then-some}
 use Rattle.theory.specs.Forests.{size-⊕, size-first, size-after, past-end, conjunction-here, literal-here}
-use Rattle.theory.specs.Numbers.{fits, amount, kind-number}
 use Rattle.theory.specs.Scan.{is-literal}
+use Rattle.theory.specs.Leaves.{leaf-literal, head-inner}
 use Rattle.theory.specs.Spans.{child-at}
-use Rattle.theory.specs.Flat.{spell, spell-⊕, Fits, fits-⊕}
+use Rattle.theory.specs.Flat.{spell, spell-⊕, Fits, fits-⊕, fits-lit, fits-tree}
 use Rattle.theory.specs.Stretches.{Stretch, forest-in}
 use Rattle.theory.specs.Heads.{Headed, rewritten-to}
 use Rattle.theory.specs.Children.{moved-at, first-left, code, spell-parts, Group, group-head, group-value, group-bounds, opening, child-opened, child-within, child-place, headed-group, child-stands, child-room, child-fits, child-split, child-group, child-literal}
@@ -28,24 +28,13 @@ use Rattle.theory.specs.Turns.{family-at, family-asks, family-turn}
 use Rattle.lift.specs.Asked.{literalChild, othersLiteral}
 
 -- Trees that are literals, counted by their numbers.
-leaf-literal : (x : Literal) → fits (leaf x) ≡ true → is-literal (number-of (leaf x)) ≡ true
-unfolding is-literal number-of fits amount option
-leaf-literal (pos v) h = rw (kind-number 1 v h)
-leaf-literal (neg v) h = rw (kind-number 2 v h)
-
-head-inner : (c : Conn) (n : ℕ) → fits (head c n) ≡ true → is-literal (number-of (head c n)) ≡ false
-unfolding is-literal number-of conn-kind fits amount
-head-inner and n h = rw (kind-number 3 n h)
-head-inner or n h = rw (kind-number 4 n h)
-head-inner root n h = rw (kind-number 5 n h)
-
 literals-code : (g : Forest) (r : List ℕ) → Fits g → all is-literal (take (size g) (code g ++ r)) ≡ literals-only g
 unfolding all literals-only encode size
 literals-code nil r h = refl
 literals-code (lit x g) r h =
-    let s = and-split (fits (leaf x)) (all fits (encode g)) h in
+    let s = fits-lit x g h in
     ap₂ _&&_ (leaf-literal x (s .0)) (literals-code g r (s .1))
-literals-code (node c k g) r h = rw (head-inner c (size k) (and-split (fits (head c (size k))) _ h .0))
+literals-code (node c k g) r h = rw (head-inner c (size k) (fits-tree c k g h .0))
 
 -- One number more that the loop has passed.
 pub literals-next : (k to : ℕ) (l : List ℕ) → k < to → to ≤ length l → is-literal (getD l k 0) ≡ true → all is-literal (slice (k + 1) to l) ≡ all is-literal (slice k to l)
@@ -114,10 +103,6 @@ module _ {r : ℕ} {l : List ℕ} (s : Stretch l) (h : Headed r l) (i j : ℕ) w
   pub asks-nothing : 11 ≤ r → r ≤ 13 → is-some (conjunction-at (after i (h .children))) ≡ false → false ≡ is-some (rewrite r i j (forest-in l))
   asks-nothing a b e =
       sym (fails-if (is-some (rewrite r i j (forest-in l))) (λ t. true-false (sym (conjunction-asked r (h .row .conn) i j (h .children) a b (sym (family-asks h i j) ∙ t)) ∙ e)))
-
-  pub asks-past : 11 ≤ r → r ≤ 13 → size (h .children) ≤ i → false ≡ is-some (rewrite r i j (forest-in l))
-  unfolding conjunction-at is-some
-  asks-past a b n = asks-nothing a b (ap (λ g. is-some (conjunction-at g)) (past-end i (h .children) n))
 
   -- Child i is a conjunction.
   module _ {m : Forest} (e : conjunction-at (after i (h .children)) ≡ some m) where

@@ -54,22 +54,19 @@ fn are_others_literals(part: &[u16], i: usize, k: usize) -> bool
     are_literals(part, next, next + (k - 1 - i))
 }
 
-// Whether the rule applies to the first tree of the stretch, whose head is right for it.
-pub fn asks(part: &[u16], rule: usize, i: usize, j: usize) -> bool
+// Whether the rule applies to the first tree of the stretch, whose head is right for it, at the child i that begins at a place.
+pub fn asks(part: &[u16], rule: usize, i: usize, j: usize, at: usize) -> bool
     requires { ⌜ (11 ≤ rule) × (rule ≤ 13) ⌝ }
     requires { ⌜ Stretch (now part) ⌝ }
     requires { ⌜ Headed rule (now part) ⌝ }
+    requires { ⌜ (i < value (getD (now part) 0 0)) × (at ≡ «child-at» i (now part)) ⌝ }
     ensures { λ r. ⌜ r ≡ «is-some» (rewrite rule i j («forest-in» (now (part .entry)))) ⌝ }
 {
-    let k = nodes::value_of(numbers::wide16(part[0]));
-    if k <= i {
-        return false;
-    }
-    let at = spans::child_at(part, i);
     if nodes::kind_of(numbers::wide16(part[at])) != 3 {
         return false;
     }
     if rule == 13 {
+        let k = nodes::value_of(numbers::wide16(part[0]));
         return j == 0 && are_others_literals(part, i, k);
     }
     is_literal_child(&part[at..], j)

@@ -11,4 +11,5 @@ pub mod Sheet
 pub mod Book
 pub mod Calls
 pub mod History
+pub mod Desk
 pub mod Cases

@@ -75,8 +75,8 @@ module _ {r : ℕ} {l : List ℕ} (s : Stretch l) (h : Headed r l) (i j : ℕ) w
   pub applied-here : r ≤ 8 → is-some (rewrite r i j (forest-in l)) ≡ true → (j ≡ 0) × (i < size (h .children))
   applied-here b t = asked-here r (h .row .conn) i j (h .children) b (sym (family-asks h i j) ∙ t)
 
-  pub asks-nothing : r ≤ 8 → ((j ≡ 0) × (i < size (h .children)) → ⊥) → false ≡ is-some (rewrite r i j (forest-in l))
-  asks-nothing b n = sym (fails-if (is-some (rewrite r i j (forest-in l))) (λ t. n (applied-here b t)))
+  pub asks-nothing : r ≤ 8 → (j ≡ 0 → ⊥) → false ≡ is-some (rewrite r i j (forest-in l))
+  asks-nothing b n = sym (fails-if (is-some (rewrite r i j (forest-in l))) (λ t. n (applied-here b t .0)))
 
   pub asks-single : 7 ≤ r → r ≤ 8 → j ≡ 0 → i < size (h .children) → eqb (size (h .children)) 1 ≡ is-some (rewrite r i j (forest-in l))
   asks-single a b e n =

@@ -1,9 +1,12 @@
 // Rules 1 to 8: a constant among the children, and a single child.
 ghost use mathlib.Core.Path.{_≡_};
 ghost use mathlib.Core.Bool.{true};
-ghost use Prim.Native.Nat.{_≤_};
+ghost use Prim.Native.Nat.{_≤_, _<_};
+ghost use lib.ListN.{getD};
 ghost use Rattle.model.specs.Base.{«is-some»};
+ghost use Rattle.model.specs.Code.{value};
 ghost use Rattle.model.specs.Rules.{rewrite};
+ghost use Rattle.theory.specs.Spans.{«child-at»};
 ghost use Rattle.theory.specs.Stretches.{Stretch, «forest-in»};
 ghost use Rattle.theory.specs.Heads.{Headed, «rewritten-to»};
 ghost use Rattle.simplify.specs.Constants.{constantFor};
@@ -19,24 +22,20 @@ fn constant_for(rule: usize) -> u16
     }
 }
 
-// Whether the rule applies to the first tree of the stretch, whose head is right for it.
-pub fn asks(part: &[u16], rule: usize, i: usize, j: usize) -> bool
+// Whether the rule applies to the first tree of the stretch, whose head is right for it, at the child i that begins at a place.
+pub fn asks(part: &[u16], rule: usize, i: usize, j: usize, at: usize) -> bool
     requires { ⌜ (1 ≤ rule) × (rule ≤ 8) ⌝ }
     requires { ⌜ Stretch (now part) ⌝ }
     requires { ⌜ Headed rule (now part) ⌝ }
+    requires { ⌜ (i < value (getD (now part) 0 0)) × (at ≡ «child-at» i (now part)) ⌝ }
     ensures { λ r. ⌜ r ≡ «is-some» (rewrite rule i j («forest-in» (now (part .entry)))) ⌝ }
 {
-    let k = nodes::value_of(numbers::wide16(part[0]));
     if j != 0 {
         return false;
     }
-    if k <= i {
-        return false;
-    }
     if 7 <= rule {
-        return k == 1;
+        return nodes::value_of(numbers::wide16(part[0])) == 1;
     }
-    let at = spans::child_at(part, i);
     part[at] == constant_for(rule)
 }
 

@@ -14,15 +14,15 @@ use lib.Seq.{take-at, drop-at, getD-at, getD-drop, drop-drop}
 use Rattle.model.specs.Base.{all, maybe, is-some, then}
 use Rattle.model.specs.Literal.{pos, neg, option}
 use Rattle.model.specs.Forest.{Conn, and, or, root, same-conn, Forest, nil, lit, node, _⊕_, size, first, after, literal-at, conjunction-at, constant-at}
-use Rattle.model.specs.Code.{Node, head, encode, kind, value, number, conn-kind, number-of}
+use Rattle.model.specs.Code.{Node, encode, kind, value, number, conn-kind, number-of}
 use Rattle.model.specs.Rules.{change, rewrite}
 use Rattle.theory.specs.Logic.{is-some-then, and-split, and-join, same-test}
 use Rattle.theory.specs.Forests.{same-conn-is, same-conn-self, ⊕-assoc, node-⊕, first-after, size-first, size-after, size-⊕}
-use Rattle.theory.specs.Codes.{encode-⊕, size-length}
+use Rattle.theory.specs.Codes.{size-length}
 use Rattle.theory.specs.Numbers.{fits, amount, kind-number}
 use Rattle.theory.specs.Scan.{is-literal}
 use Rattle.theory.specs.Spans.{span, child-at}
-use Rattle.theory.specs.Flat.{spell, spell-⊕, spell-node, Fits, fits-⊕}
+use Rattle.theory.specs.Flat.{spell, spell-⊕, spell-node, Fits, fits-⊕, fits-tree}
 use Rattle.theory.specs.Stretches.{Stretch, forest-in, spell-to}
 use Rattle.theory.specs.Heads.{Headed, headed-rewrite, rewritten-to, conn-of-kind, conn-kind-bounds, first-node, child-start}
 
@@ -131,8 +131,8 @@ module _ {l : List ℕ} {c : Conn} {k f : Forest} {z : ℕ} (g : Group l c k f z
   group-head = ap (λ t. getD t 0 0) (g .spelled ∙ spell-node c k f z)
 
   pub group-few : size k < 4096
-  unfolding encode all fits amount
-  group-few = ltb-true (size k) 4096 (and-split (fits (head c (size k))) (all fits (encode k ++ encode f)) (g .fitting) .0)
+  unfolding fits amount
+  group-few = ltb-true (size k) 4096 (fits-tree c k f (g .fitting) .0)
 
   pub group-bounds : (12288 ≤ getD l 0 0) × (getD l 0 0 < 24576)
   unfolding number
@@ -155,11 +155,9 @@ module _ {l : List ℕ} {c : Conn} {k f : Forest} {z : ℕ} (g : Group l c k f z
         ∙ drop-at (opening c k i) (spell (after i k ⊕ f) z) (child-at i l) child-place
 
     pub child-fits : Fits (first i k) × Fits (after i k ⊕ f)
-    unfolding encode all
     child-fits =
-        let below : Fits (k ⊕ f) = ap (all fits) (encode-⊕ k f) ∙ and-split (fits (head c (size k))) (all fits (encode k ++ encode f)) (g .fitting) .1 in
         let parts : k ⊕ f ≡ first i k ⊕ (after i k ⊕ f) = ap (λ m. m ⊕ f) (sym (first-after i k)) ∙ ⊕-assoc (first i k) (after i k) f in
-        fits-⊕ (first i k) (after i k ⊕ f) (rw parts at below)
+        fits-⊕ (first i k) (after i k ⊕ f) (rw parts at (fits-tree c k f (g .fitting) .1))
 
     -- Each child takes a number at least.
     pub child-later : i ≤ span i (drop 1 l)
@@ -168,6 +166,9 @@ module _ {l : List ℕ} {c : Conn} {k f : Forest} {z : ℕ} (g : Group l c k f z
     pub child-room : child-at i l + (size k - i) ≤ length l
     child-room =
         omega (arith, ap length child-split, length-append (opening c k i) (spell (after i k ⊕ f) z), child-place, spell-length (after i k ⊕ f) z, size-length (after i k ⊕ f), size-⊕ (after i k) f, size-after i k)
+
+  pub group-long : 1 ≤ length l
+  group-long = omega (arith, child-room 0 (omega arith))
 
   -- Which child that is.
   module _ (i : ℕ) (h : i < size k) where
@@ -214,6 +215,13 @@ module _ {l : List ℕ} {c : Conn} {k f : Forest} {z : ℕ} (g : Group l c k f z
         removed-at (v ∷ code p) (y ∷ []) inner (set l 0 v) (child-at i l) 1 split (child-place i h) refl
         ∙ ap₂ (λ x t. x ∷ (code p ++ t)) new left
         ∙ sym (spell-parts c p (m ⊕ q) f (z + 1))
+
+-- A child that the head of a stretch counts is one of its group's children, and begins within the stretch.
+pub counted-child : {r : ℕ} {l : List ℕ} → Stretch l → (h : Headed r l) → {i a : ℕ} → (i < value (getD l 0 0)) × (a ≡ child-at i l) → (i < size (h .children)) × (a < length l) × (length l ≤ 4096)
+counted-child s h {i} p =
+    let g = headed-group s h in
+    let n : i < size (h .children) = omega (arith, group-value g, p .0) in
+    (n, omega (arith, p .1, child-room g i (omega arith)), s .short)
 
 -- What a rule does to a stretch, from what its family does to the group's children.
 module _ {r : ℕ} {l : List ℕ} (h : Headed r l) (i j : ℕ) where

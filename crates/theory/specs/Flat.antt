@@ -1,19 +1,18 @@
 -- A stretch of a sheet from a place on: the numbers of a forest, then zeros. Where its trees begin, and what stands there.
-use mathlib.Core.Bool.{Bool, true, false, _&&_}
-use mathlib.Core.List.{List, [], _∷_, _++_, map, map-append, append-assoc}
-use mathlib.Core.Path.{_≡_, refl, sym, ap, ap₂, _∙_}
-use Prim.Native.Nat.{ℕ, zero, suc, _+_, _-_, _≤_, _<_}
-use native.Mathlib.Nat.{zero-add}
-use native.Mathlib.Omega.{arith}
-use lib.ListN.{length, getD, take, drop, replicate, length-append, length-map}
+use mathlib.Core.Bool.{true}
+use mathlib.Core.List.{List, _∷_, _++_, map, map-append, append-assoc}
+use mathlib.Core.Path.{_≡_, sym, ap, _∙_}
+use Prim.Native.Nat.{ℕ, _≤_}
+use lib.ListN.{length, take, drop, replicate, length-map}
 use lib.Seq.{take-at, drop-at}
 use Rattle.model.specs.Base.{all}
-use Rattle.model.specs.Forest.{Conn, Forest, nil, lit, node, _⊕_, size, first, after}
-use Rattle.model.specs.Code.{Node, leaf, head, encode, decode, number-of, node-of}
+use Rattle.model.specs.Literal.{Literal}
+use Rattle.model.specs.Forest.{Conn, Forest, lit, node, _⊕_, size, first, after}
+use Rattle.model.specs.Code.{leaf, head, encode, number-of}
 use Rattle.theory.specs.Logic.{and-split}
 use Rattle.theory.specs.Lists.{all-append}
-use Rattle.theory.specs.Forests.{first-after, size-⊕}
-use Rattle.theory.specs.Codes.{encode-⊕, decode-encode}
+use Rattle.theory.specs.Forests.{first-after}
+use Rattle.theory.specs.Codes.{encode-⊕}
 use Rattle.theory.specs.Numbers.{fits}
 use Rattle.theory.specs.Spans.{span, span-first}
 
@@ -27,6 +26,16 @@ Fits f = all fits (encode f) ≡ true
 
 pub fits-⊕ : (f g : Forest) → Fits (f ⊕ g) → Fits f × Fits g
 fits-⊕ f g h = and-split (all fits (encode f)) (all fits (encode g)) (sym (all-append fits (encode f) (encode g)) ∙ ap (all fits) (sym (encode-⊕ f g)) ∙ h)
+
+pub fits-lit : (x : Literal) (f : Forest) → Fits (lit x f) → (fits (leaf x) ≡ true) × Fits f
+unfolding encode all
+fits-lit x f h = and-split (fits (leaf x)) (all fits (encode f)) h
+
+pub fits-tree : (c : Conn) (k f : Forest) → Fits (node c k f) → (fits (head c (size k)) ≡ true) × Fits (k ⊕ f)
+unfolding encode all
+fits-tree c k f h =
+    let s = and-split (fits (head c (size k))) (all fits (encode k ++ encode f)) h in
+    (s .0, ap (all fits) (encode-⊕ k f) ∙ s .1)
 
 -- Two forests side by side are spelled one after the other.
 pub spell-⊕ : (f g : Forest) (z : ℕ) → spell (f ⊕ g) z ≡ map number-of (encode f) ++ spell g z

@@ -1,25 +1,24 @@
 -- The head of a stretch, and where its children stand: what a step tests before it rewrites.
-use mathlib.Core.Bool.{Bool, true, false, _&&_, and-false}
-use mathlib.Core.List.{List, [], _∷_, _++_, map}
+use mathlib.Core.Bool.{_&&_, and-false}
+use mathlib.Core.List.{List, map}
 use mathlib.Core.Logic.{_⊎_, inl, inr, ⊎-elim}
-use mathlib.Core.Option.{Option, none, some}
-use mathlib.Core.Path.{_≡_, refl, sym, ap, subst, _∙_}
-use Prim.Native.Nat.{ℕ, zero, suc, _+_, _-_, _≤_, _<_}
+use mathlib.Core.Option.{none, some}
+use mathlib.Core.Path.{_≡_, refl, sym, ap, _∙_}
+use Prim.Native.Nat.{ℕ, zero, suc, _-_, _≤_, _<_}
 use native.Mathlib.Omega.{arith}
 use borrow.Author.Tests.{lt-leb, le-leb}
 use lib.Dec.{leb}
 use lib.ListN.{length, getD, take, drop}
-use Rattle.model.specs.Base.{all, maybe, is-some, then, only-if}
+use Rattle.model.specs.Base.{maybe, then, only-if}
 use Rattle.model.specs.Literal.{Literal, pos, neg, option}
 use Rattle.model.specs.Forest.{Conn, and, or, root, Forest, nil, lit, node, _⊕_, size, first, after, same-conn}
-use Rattle.model.specs.Code.{kind, value, number, conn-kind, head, leaf, encode, number-of}
+use Rattle.model.specs.Code.{kind, value, conn-kind, encode, number-of}
 use Rattle.model.specs.Rules.{Row, row-of, turn, change, rewrite}
-use Rattle.theory.specs.Logic.{and-split, fails-if}
+use Rattle.theory.specs.Logic.{fails-if}
 use Rattle.theory.specs.Forests.{same-conn-is, same-conn-self, size-⊕}
-use Rattle.theory.specs.Codes.{encode-⊕}
 use Rattle.theory.specs.Numbers.{fits, amount, kind-number, value-number}
 use Rattle.theory.specs.Spans.{span}
-use Rattle.theory.specs.Flat.{spell, spell-node, Fits, start-at, drop-trees, take-trees}
+use Rattle.theory.specs.Flat.{spell, spell-node, Fits, fits-lit, fits-tree, start-at, drop-trees, take-trees}
 use Rattle.theory.specs.Stretches.{Stretch, forest-in, spell-to}
 
 -- What becomes of a stretch where the rule applies to its first tree.
@@ -44,14 +43,14 @@ first-nil zero = refl
 first-nil (suc z) = refl
 
 first-literal : (x : Literal) (f : Forest) (z : ℕ) → Fits (lit x f) → kind (getD (spell (lit x f) z) 0 0) ≤ 2
-unfolding spell encode all number-of fits amount option
-first-literal (pos v) f z h = omega (arith, kind-number 1 v (and-split (fits (leaf (pos v))) (all fits (encode f)) h .0))
-first-literal (neg v) f z h = omega (arith, kind-number 2 v (and-split (fits (leaf (neg v))) (all fits (encode f)) h .0))
+unfolding spell encode number-of fits amount option
+first-literal (pos v) f z h = omega (arith, kind-number 1 v (fits-lit (pos v) f h .0))
+first-literal (neg v) f z h = omega (arith, kind-number 2 v (fits-lit (neg v) f h .0))
 
 pub first-node : (c : Conn) (k f : Forest) (z : ℕ) → Fits (node c k f) → (kind (getD (spell (node c k f) z) 0 0) ≡ conn-kind c) × (value (getD (spell (node c k f) z) 0 0) ≡ size k)
-unfolding spell encode all number-of fits amount
+unfolding spell encode number-of fits amount
 first-node c k f z h =
-    let small = and-split (fits (head c (size k))) (all fits (encode k ++ encode f)) h .0 in
+    let small = fits-tree c k f h .0 in
     (kind-number (conn-kind c) (size k) small, value-number (conn-kind c) (size k) small)
 
 pub conn-of-kind : (c d : Conn) → conn-kind c ≡ conn-kind d → c ≡ d
@@ -145,8 +144,7 @@ after-left (suc i) (node c m k) f h = after-left i k f (omega arith)
 -- Where the children of the first tree begin: child i after the head and the children before it.
 module _ (c : Conn) (k f : Forest) (z i : ℕ) (fit : Fits (node c k f)) (h : i ≤ size k) where
   under : Fits (k ⊕ f)
-  unfolding encode all
-  under = ap (all fits) (encode-⊕ k f) ∙ and-split (fits (head c (size k))) (all fits (encode k ++ encode f)) fit .1
+  under = fits-tree c k f fit .1
 
   wide : i ≤ size (k ⊕ f)
   wide = omega (arith, size-⊕ k f)

@@ -39,6 +39,7 @@ pub mod Least
 pub mod Bounds
 pub mod Strategy
 pub mod Runs
+pub mod Reached
 -- Sheets, and choices on them.
 pub mod Sheets
 pub mod Choice
@@ -53,10 +54,12 @@ pub mod RoundTrips
 -- Calls, and lists of calls.
 pub mod Effects
 pub mod Settled
--- What code computes: numbers read from the left; stretches of a sheet, their heads and children; refusals test by test.
+-- What code computes: numbers of literals told from others; numbers read from the left; stretches of a sheet, their heads and children; refusals test by test.
+pub mod Leaves
 pub mod Spans
 pub mod Flat
 pub mod Stretches
+pub mod Places
 pub mod Heads
 pub mod Children
 pub mod Turns

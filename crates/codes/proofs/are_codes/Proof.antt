@@ -1,31 +1,15 @@
 -- `codes::are_codes` meets its contract. Invariant: the codes passed are well-formed and none comes again, so that those left decide.
-use Prim.Native.Nat.{ℕ, _+_, _-_, _≤_, _<_}
-use mathlib.Core.Bool.{Bool, true, _&&_, not}
-use mathlib.Core.List.{List}
+use Prim.Native.Nat.{_+_, _-_, _≤_}
+use mathlib.Core.Bool.{_&&_, not}
 use mathlib.Core.Path.{_≡_, sym, _∙_}
 use native.Mathlib.Omega.{arith}
 use borrow.Author.Needs.{needs}
 use borrow.Author.Tests.{not-true, not-false}
-use Rattle.model.specs.Base.{any}
-use Rattle.model.specs.Book.{same-code, code-ok, codes-ok, pieces}
-use Rattle.codes.proofs.Laws.{code-at, codes-after, codes-from, from-first, from-cons, from-next, from-end}
+use Rattle.model.specs.Book.{code-ok, codes-ok, pieces}
+use Rattle.codes.specs.Chains.{code-at, comes-after}
+use Rattle.codes.proofs.Laws.{ok-from, from-first, ok-more}
 use Rattle.codes.proofs.are_codes.Statement.{statement}
 use Rattle.codes.proofs.are_codes.Tie as tie
-
--- The codes from code i on are well-formed and different; the same, told by code i and those after it.
-abbrev ok-from : ℕ → List ℕ → ℕ → Bool
-ok-from n s i = codes-ok (codes-from n s i)
-
-abbrev ok-by : ℕ → List ℕ → ℕ → Bool
-ok-by n s i = code-ok (code-at s i) && not (any (same-code (code-at s i)) (codes-after n s i)) && ok-from n s (i + 1)
-
-more : (n : ℕ) (s : List ℕ) (i : ℕ) → i < n → ok-from n s i ≡ ok-by n s i
-unfolding codes-ok
-more n s i h = rw (from-cons n s i h, from-next n s i)
-
-none : (n : ℕ) (s : List ℕ) → ok-from n s n ≡ true
-unfolding codes-ok
-none n s = rw (from-end n s)
 
 abbrev Inv-loop : tie.InvT-loop
 Inv-loop s n i₀ i = (i ≤ n) × (codes-ok (pieces 13 n s) ≡ ok-from n s i)
@@ -33,25 +17,26 @@ Inv-loop s n i₀ i = (i ≤ n) × (codes-ok (pieces 13 n s) ≡ ok-from n s i)
 abbrev μ-loop : tie.MeasureT-loop
 μ-loop s n i₀ i = n - i
 
-turn : (c : tie.In-loop Inv-loop μ-loop) → let n = c .before in let a = n .before .before .args in codes-ok (pieces 13 (a .n) (a .s .now)) ≡ ok-by (a .n) (a .s .now) (n .loop .i)
-turn c = let n = c .before in let a = n .before .before .args in n .loop .inv .1 ∙ more (a .n) (a .s .now) (n .loop .i) (omega arith)
+turn : (c : tie.In-loop Inv-loop μ-loop) → let n = c .before in let a = n .before .before .args in codes-ok (pieces 13 (a .n) (a .s .now)) ≡ code-ok (code-at (a .s .now) (n .loop .i)) && not (comes-after (a .n) (a .s .now) (n .loop .i)) && ok-from (a .n) (a .s .now) (n .loop .i + 1)
+turn c = let n = c .before in let a = n .before .before .args in n .loop .inv .1 ∙ ok-more (a .n) (a .s .now) (n .loop .i) (omega arith)
 
 loop-holds : tie.Need-loop-holds Inv-loop μ-loop
-loop-holds c =
-    let a = c .before .args in
-    (omega arith, rw (from-first (a .n) (a .s .now)))
+loop-holds c = let a = c .before .args in (omega arith, rw (from-first (a .n) (a .s .now)))
+
+sub-loop : tie.Need-sub-loop Inv-loop μ-loop
+sub-loop c = search needs
 
 mul-at : tie.Need-mul-at Inv-loop μ-loop
-mul-at c = omega arith
+mul-at c = search needs
 
 sub-is-code : tie.Need-sub-is-code Inv-loop μ-loop
-sub-is-code c = omega arith
+sub-is-code c = search needs
 
 part-is-code-start : tie.Need-part-is-code-start Inv-loop μ-loop
-part-is-code-start c = omega arith
+part-is-code-start c = search needs
 
 part-is-code-end : tie.Need-part-is-code-end Inv-loop μ-loop
-part-is-code-end c = omega arith
+part-is-code-end c = search needs
 
 is-code-requires : tie.Need-is-code-requires Inv-loop μ-loop
 is-code-requires c κs = search needs
@@ -62,16 +47,16 @@ returns c =
     sym (turn (m .before .before) ∙ rw (← m .is-code .ensures, not-true (m .is-code .result) (c .if1 .taken)))
 
 sub-is-repeated : tie.Need-sub-is-repeated Inv-loop μ-loop
-sub-is-repeated c = omega arith
+sub-is-repeated c = search needs
 
 part-is-repeated-start : tie.Need-part-is-repeated-start Inv-loop μ-loop
-part-is-repeated-start c = omega arith
+part-is-repeated-start c = search needs
 
 part-is-repeated-end : tie.Need-part-is-repeated-end Inv-loop μ-loop
-part-is-repeated-end c = omega arith
+part-is-repeated-end c = search needs
 
 sub-is-repeated-2 : tie.Need-sub-is-repeated-2 Inv-loop μ-loop
-sub-is-repeated-2 c = omega arith
+sub-is-repeated-2 c = search needs
 
 is-repeated-requires : tie.Need-is-repeated-requires Inv-loop μ-loop
 is-repeated-requires c κs = search needs
@@ -84,10 +69,10 @@ returns-2 c =
     sym (turn (m .before .before) ∙ rw (← m .is-code .ensures, not-false (m .is-code .result) (l .if1 .left), ← r .is-repeated .ensures, c .if2 .taken))
 
 add-i : tie.Need-add-i Inv-loop μ-loop
-add-i c = omega arith
+add-i c = search needs
 
 loop-less : tie.Need-loop-less Inv-loop μ-loop
-loop-less c = omega arith
+loop-less c = search needs
 
 loop-again : tie.Need-loop-again Inv-loop μ-loop
 loop-again c =
@@ -96,12 +81,26 @@ loop-again c =
     let m = l .before in
     (omega arith, turn (m .before .before) ∙ rw (← m .is-code .ensures, not-false (m .is-code .result) (l .if1 .left), ← r .is-repeated .ensures, c .if2 .left))
 
+mul-rest : tie.Need-mul-rest Inv-loop μ-loop
+mul-rest c = search needs
+
+sub-are-few-codes : tie.Need-sub-are-few-codes Inv-loop μ-loop
+sub-are-few-codes c = search needs
+
+part-are-few-codes-start : tie.Need-part-are-few-codes-start Inv-loop μ-loop
+part-are-few-codes-start c = search needs
+
+part-are-few-codes-end : tie.Need-part-are-few-codes-end Inv-loop μ-loop
+part-are-few-codes-end c = search needs
+
+sub-are-few-codes-2 : tie.Need-sub-are-few-codes-2 Inv-loop μ-loop
+sub-are-few-codes-2 c = search needs
+
+are-few-codes-requires : tie.Need-are-few-codes-requires Inv-loop μ-loop
+are-few-codes-requires c κs = search needs
+
 returns-3 : tie.Need-returns-3 Inv-loop μ-loop
-returns-3 c =
-    let n = c .before in
-    let a = n .before .before .args in
-    let e : n .loop .i ≡ a .n = omega arith in
-    sym (n .loop .inv .1 ∙ rw e (none (a .n) (a .s .now)))
+returns-3 c = c .are-few-codes .ensures ∙ sym (c .before .before .before .loop .inv .1)
 
 pub are-codes-spec : {M : Type 1} → statement M
 are-codes-spec =
@@ -110,6 +109,7 @@ are-codes-spec =
     Inv-loop
     μ-loop
     loop-holds
+    sub-loop
     mul-at
     sub-is-code
     part-is-code-start
@@ -125,4 +125,10 @@ are-codes-spec =
     add-i
     loop-less
     loop-again
+    mul-rest
+    sub-are-few-codes
+    part-are-few-codes-start
+    part-are-few-codes-end
+    sub-are-few-codes-2
+    are-few-codes-requires
     returns-3)

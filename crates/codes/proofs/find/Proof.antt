@@ -8,7 +8,8 @@ use native.Mathlib.Omega.{arith}
 use borrow.Author.Needs.{needs}
 use Rattle.model.specs.Base.{pick}
 use Rattle.model.specs.Book.{same-code, characters, option-of-code, pieces}
-use Rattle.codes.proofs.Laws.{code-at, codes-from, from-first, from-cons, from-next, from-end}
+use Rattle.codes.specs.Chains.{code-at, codes-from}
+use Rattle.codes.proofs.Laws.{from-first, from-cons, from-next, from-past}
 use Rattle.codes.proofs.find.Statement.{statement}
 use Rattle.codes.proofs.find.Tie as tie
 
@@ -23,9 +24,9 @@ more : (given : List ℕ) (n : ℕ) (s : List ℕ) (i : ℕ) → i < n → found
 unfolding option-of-code
 more given n s i h = rw (from-cons n s i h, from-next n s i, add-one i)
 
-nowhere : (given : List ℕ) (n : ℕ) (s : List ℕ) → found-from given n s n ≡ none
+nowhere : (given : List ℕ) (n : ℕ) (s : List ℕ) (i : ℕ) → n ≤ i → found-from given n s i ≡ none
 unfolding option-of-code
-nowhere given n s = rw (from-end n s)
+nowhere given n s i h = rw (from-past n s i h)
 
 abbrev Inv-loop : tie.InvT-loop
 Inv-loop s n given i₀ i = (i ≤ n) × (option-of-code given 0 (pieces 13 n s) ≡ found-from given n s i)
@@ -74,8 +75,7 @@ returns-2 : tie.Need-returns-2 Inv-loop μ-loop
 returns-2 c =
     let n = c .before in
     let a = n .before .before .before .args in
-    let e : n .loop .i ≡ a .n = omega arith in
-    sym (n .loop .inv .1 ∙ rw e (nowhere (a .given .now) (a .n) (a .s .now)))
+    sym (n .loop .inv .1 ∙ nowhere (a .given .now) (a .n) (a .s .now) (n .loop .i) (omega arith))
 
 pub find-spec : {M : Type 1} → statement M
 find-spec =

@@ -1,6 +1,6 @@
 -- `codes::is_repeated` meets its contract. Invariant: no code passed is the first one, so that those left decide.
-use Prim.Native.Nat.{ℕ, _+_, _-_, _≤_, _<_}
-use mathlib.Core.Bool.{Bool, false, _||_}
+use Prim.Native.Nat.{ℕ, _+_, _-_, _≤_}
+use mathlib.Core.Bool.{Bool, _||_}
 use mathlib.Core.List.{List}
 use mathlib.Core.Path.{_≡_, sym, _∙_}
 use native.Mathlib.Omega.{arith}
@@ -9,24 +9,10 @@ use borrow.Rule.Slice.PartAt.{part-to-end}
 use lib.ListN.{take, drop}
 use Rattle.model.specs.Base.{any}
 use Rattle.model.specs.Book.{same-code, pieces}
-use Rattle.codes.proofs.Laws.{code-at, codes-from, from-cons, from-next, from-end}
+use Rattle.codes.specs.Chains.{code-at, comes-from}
+use Rattle.codes.proofs.Laws.{comes-more, comes-past}
 use Rattle.codes.proofs.is_repeated.Statement.{statement}
 use Rattle.codes.proofs.is_repeated.Tie as tie
-
--- Some code from code i on is d; the same, told by code i and those after it.
-abbrev comes-from : List ℕ → ℕ → List ℕ → ℕ → Bool
-comes-from d n s i = any (same-code d) (codes-from n s i)
-
-abbrev comes-by : List ℕ → ℕ → List ℕ → ℕ → Bool
-comes-by d n s i = same-code d (code-at s i) || comes-from d n s (i + 1)
-
-more : (d : List ℕ) (n : ℕ) (s : List ℕ) (i : ℕ) → i < n → comes-from d n s i ≡ comes-by d n s i
-unfolding any
-more d n s i h = rw (from-cons n s i h, from-next n s i)
-
-none : (d : List ℕ) (n : ℕ) (s : List ℕ) → comes-from d n s n ≡ false
-unfolding any
-none d n s = rw (from-end n s)
 
 -- Some code after the first is the first one again.
 abbrev again : ℕ → List ℕ → Bool
@@ -38,8 +24,8 @@ Inv-loop s n i₀ i = (i ≤ n) × (again n s ≡ comes-from (take 13 s) n s i)
 abbrev μ-loop : tie.MeasureT-loop
 μ-loop s n i₀ i = n - i
 
-turn : (c : tie.In-loop Inv-loop μ-loop) → let n = c .before in let a = n .before .before .args in again (a .n) (a .s .now) ≡ comes-by (take 13 (a .s .now)) (a .n) (a .s .now) (n .loop .i)
-turn c = let n = c .before in let a = n .before .before .args in n .loop .inv .1 ∙ more (take 13 (a .s .now)) (a .n) (a .s .now) (n .loop .i) (omega arith)
+turn : (c : tie.In-loop Inv-loop μ-loop) → let n = c .before in let a = n .before .before .args in again (a .n) (a .s .now) ≡ same-code (take 13 (a .s .now)) (code-at (a .s .now) (n .loop .i)) || comes-from (take 13 (a .s .now)) (a .n) (a .s .now) (n .loop .i + 1)
+turn c = let n = c .before in let a = n .before .before .args in n .loop .inv .1 ∙ comes-more (a .n) (a .s .now) (take 13 (a .s .now)) (n .loop .i) (omega arith)
 
 loop-holds : tie.Need-loop-holds Inv-loop μ-loop
 loop-holds c = (omega arith, rw (part-to-end (c .before .args .s .now) 13))
@@ -75,8 +61,7 @@ returns-2 : tie.Need-returns-2 Inv-loop μ-loop
 returns-2 c =
     let n = c .before in
     let a = n .before .before .args in
-    let e : n .loop .i ≡ a .n = omega arith in
-    sym (n .loop .inv .1 ∙ rw e (none (take 13 (a .s .now)) (a .n) (a .s .now)))
+    sym (n .loop .inv .1 ∙ comes-past (a .n) (a .s .now) (take 13 (a .s .now)) (n .loop .i) (omega arith))
 
 pub is-repeated-spec : {M : Type 1} → statement M
 is-repeated-spec =

@@ -11,7 +11,7 @@ use Rattle.model.specs.Code.{value}
 use Rattle.model.specs.Forest.{and, Forest, _⊕_, size, after, conjunction-at}
 use Rattle.theory.specs.Forests.{conjunction-here}
 use Rattle.theory.specs.Spans.{child-at}
-use Rattle.theory.specs.Children.{first-left, Group, headed-group, group-bounds, group-few, child-within, child-room}
+use Rattle.theory.specs.Children.{first-left, Group, headed-group, group-bounds, group-few, group-long, child-within, child-room}
 use Rattle.lift.proofs.Laws.{conjunction-group, conjunction-there, literal-within, turns-merge, turns-lift}
 use Rattle.lift.proofs.turn.Statement.{statement}
 use Rattle.lift.proofs.turn.Tie as tie
@@ -68,7 +68,7 @@ child-at-requires : tie.Need-child-at-requires
 child-at-requires c κs =
     let a = c .before .before in
     let g = group a in
-    (omega (arith, child-room g 0 (omega arith)), a .pre .1 .0 .short, omega (arith, there a, group-few g))
+    (group-long g, a .pre .1 .0 .short, omega (arith, there a, group-few g))
 
 slice-read-part : tie.Need-slice-read-part
 slice-read-part c = omega (arith, inside (c .before .before))
@@ -120,7 +120,7 @@ child-at-requires-2 c κs =
     let a = e .before .before .before .before in
     let g = inner a in
     rw (left (e .before))
-    (omega (arith, child-room g 0 (omega arith)), omega (arith, length-drop (child-at (a .args .i) (a .args .part .now)) (a .args .part .now), a .pre .1 .0 .short), omega (arith, literal e, group-few g))
+    (group-long g, omega (arith, length-drop (child-at (a .args .i) (a .args .part .now)) (a .args .part .now), a .pre .1 .0 .short), omega (arith, literal e, group-few g))
 
 add-from : tie.Need-add-from
 add-from c = omega (arith, ended c)

@@ -7,7 +7,7 @@ use lib.ListN.{length-set}
 use Rattle.model.specs.Code.{value}
 use Rattle.model.specs.Forest.{size}
 use Rattle.theory.specs.Spans.{child-at}
-use Rattle.theory.specs.Children.{Group, headed-group, group-value, group-bounds, group-few, child-later, child-room}
+use Rattle.theory.specs.Children.{Group, headed-group, group-value, group-bounds, group-few, group-long, child-later, child-room}
 use Rattle.simplify.proofs.Laws.{applied-here, turns-single, turns-omit, turns-absorb}
 use Rattle.simplify.proofs.turn.Statement.{statement}
 use Rattle.simplify.proofs.turn.Tie as tie
@@ -37,7 +37,7 @@ late c =
     omega (arith, ended c, there a, child-later (group a) (size (a .pre .1 .1 .0 .children)) (omega arith))
 
 remove-requires : tie.Need-remove-requires
-remove-requires c κs = omega (arith, child-room (group (c .before .before .before)) 0 (omega arith))
+remove-requires c κs = omega (arith, group-long (group (c .before .before .before)))
 
 same-length : tie.Need-same-length
 same-length c = search needs
@@ -52,7 +52,7 @@ child-at-requires : tie.Need-child-at-requires
 child-at-requires c κs =
     let a = c .before .before .before .before in
     let g = group a in
-    (omega (arith, child-room g 0 (omega arith)), a .pre .1 .0 .short, omega (arith, there a, group-few g))
+    (group-long g, a .pre .1 .0 .short, omega (arith, there a, group-few g))
 
 slice-read-part : tie.Need-slice-read-part
 slice-read-part c = search needs
@@ -80,7 +80,7 @@ returns-2 c =
     turns-omit (a .pre .1 .0) (a .pre .1 .1 .0) (a .args .i) (a .args .j) (a .pre .1 .1 .1) (same-length-2 c) (omega arith) (omega arith) _ (omega (arith, group-bounds (group a))) (rw (e .child-at .ensures .0) at (d .remove2 .ensures))
 
 slice-read-head : tie.Need-slice-read-head
-slice-read-head c = omega (arith, child-room (group (c .before .before .before .before)) 0 (omega arith))
+slice-read-head c = group-long (group (c .before .before .before .before))
 
 wide16-requires : tie.Need-wide16-requires
 wide16-requires c κs = search needs
@@ -92,7 +92,7 @@ child-at-requires-2 : tie.Need-child-at-requires-2
 child-at-requires-2 c κs =
     let a = c .before .before .before .before .before .before .before in
     let g = group a in
-    (omega (arith, child-room g 0 (omega arith)), a .pre .1 .0 .short, omega (arith, counted (c .before), group-few g))
+    (group-long g, a .pre .1 .0 .short, omega (arith, counted (c .before), group-few g))
 
 sub-part-2 : tie.Need-sub-part-2
 sub-part-2 c = search needs

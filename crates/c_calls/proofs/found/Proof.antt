@@ -1,0 +1,31 @@
+-- `c_calls::found` meets its contract.
+use mathlib.Core.Path.{_≡_, sym, ap, _∙_}
+use native.Mathlib.Omega.{arith}
+use borrow.Author.Needs.{needs}
+use Rattle.answers.specs.Meaning.{foundOf}
+use Rattle.c_calls.specs.Packed.{packedValue}
+use Rattle.c_calls.proofs.found.Statement.{statement}
+use Rattle.c_calls.proofs.found.Tie as tie
+
+enum-known-answer : tie.Need-enum-known-answer
+enum-known-answer c = search needs
+
+refused-requires : tie.Need-refused-requires
+refused-requires c κs = search needs
+
+enum-known-answer-2 : tie.Need-enum-known-answer-2
+enum-known-answer-2 c = search needs
+
+mul-result : tie.Need-mul-result
+mul-result c = omega (arith, c .before .before .before .pre _ (ap foundOf (sym (c .before .answer2 .given .1))))
+
+returns : tie.Need-returns
+returns c = c .refused .ensures ∙ ap (λ a. packedValue (foundOf a)) (sym (c .before .before .answer .given .1))
+
+returns-2 : tie.Need-returns-2
+returns-2 c = ap (λ a. packedValue (foundOf a)) (sym (c .before .answer2 .given .1))
+
+pub found-spec : {M : Type 1} → statement M
+found-spec =
+    tie.close
+    (tie.spec enum-known-answer refused-requires enum-known-answer-2 mul-result returns returns-2)

@@ -1,0 +1,271 @@
+-- What walks over numbers find where they are those of a forest, before any others.
+use mathlib.Core.Bool.{Bool, true, false, _&&_, _||_}
+use mathlib.Core.List.{List, [], _∷_, _++_, append-assoc}
+use mathlib.Core.Path.{_≡_, refl, sym, ap, ap₂, _∙_}
+use Prim.Native.Nat.{ℕ, suc, _+_, _-_}
+use native.Mathlib.Omega.{arith}
+use borrow.Author.Tests.{lt-ltb, le-ltb}
+use lib.Dec.{ltb}
+use lib.ListN.{length, take, drop, length-map, length-append}
+use lib.Seq.{take-at, drop-at}
+use Rattle.model.specs.Base.{pick}
+use Rattle.model.specs.Literal.{Literal, same}
+use Rattle.model.specs.Forest.{Conn, and, or, root, same-conn, Forest, nil, lit, node, _⊕_, size, has-unit}
+use Rattle.model.specs.Code.{leaf, head, encode, number, conn-kind, number-of}
+use Rattle.model.specs.Rules.{without-unit, shares, units, groups-without, groups}
+use Rattle.theory.specs.Logic.{true-false, and-split, or-neither}
+use Rattle.theory.specs.Literals.{same-is}
+use Rattle.theory.specs.Forests.{size-⊕}
+use Rattle.theory.specs.Numbers.{fits, amount, kind-number, value-number}
+use Rattle.theory.specs.Scan.{is-literal}
+use Rattle.theory.specs.Spans.{span-encode}
+use Rattle.theory.specs.Flat.{Fits}
+use Rattle.theory.specs.Children.{code}
+use Rattle.factor.specs.Walks.{walk, unit-place, among, shares-here, all-share, group-here, groups-in, less-unit, gathered}
+use Rattle.factor.proofs.Codes.{leaf-literal, head-inner, leaf-test, head-unlike, fits-lit, fits-tree, code-⊕, code-lit, code-node, lit-before, node-before, lit-span, node-span}
+use Rattle.factor.proofs.Here.{shares-literal, less-unit-parts, kept-is}
+
+-- One tree of a walk.
+module _ {A : Type 0} (f : List ℕ → A → A) (e : A) (n : ℕ) (s : List ℕ) where
+  walk-lit : (x : Literal) → fits (leaf x) ≡ true → walk f e (suc n) (number-of (leaf x) ∷ s) ≡ f (number-of (leaf x) ∷ s) (walk f e n s)
+  unfolding walk
+  walk-lit x h = ap (λ m. f (number-of (leaf x) ∷ s) (walk f e n (drop m (number-of (leaf x) ∷ s)))) (lit-span x s h)
+
+  walk-node : (c : Conn) (k : Forest) → fits (head c (size k)) ≡ true → Fits k → walk f e (suc n) (number-of (head c (size k)) ∷ (code k ++ s)) ≡ f (number-of (head c (size k)) ∷ (code k ++ s)) (walk f e n s)
+  unfolding walk
+  walk-node c k h w =
+      let l = number-of (head c (size k)) ∷ (code k ++ s) in
+      ap (λ m. f l (walk f e n (drop m l))) (node-span c k s h w)
+      ∙ ap (λ t. f l (walk f e n t)) (drop-at (code k) s (length (code k)) refl)
+
+-- The place of the first copy of a literal.
+module _ (a : Literal) (fit : fits (leaf a) ≡ true) where
+  unit-lit : (x : Literal) (n : ℕ) (s : List ℕ) → fits (leaf x) ≡ true → unit-place (number-of (leaf a)) (suc n) (number-of (leaf x) ∷ s) ≡ pick (same a x) 0 (1 + unit-place (number-of (leaf a)) n s)
+  unfolding unit-place
+  unit-lit x n s h = walk-lit _ 0 n s x h ∙ rw (leaf-test a x fit h, lit-span x s h)
+
+  unit-node : (c : Conn) (k : Forest) (n : ℕ) (s : List ℕ) → fits (head c (size k)) ≡ true → Fits k → unit-place (number-of (leaf a)) (suc n) (number-of (head c (size k)) ∷ (code k ++ s)) ≡ suc (length (code k)) + unit-place (number-of (leaf a)) n s
+  unfolding unit-place pick
+  unit-node c k n s h w = walk-node _ 0 n s c k h w ∙ rw (head-unlike c (size k) a h fit, node-span c k s h w)
+
+  -- The trees before it and after it.
+  record Cut (f : Forest) (r : List ℕ) : Type 0 where
+    pub before : Forest
+    pub later : Forest
+    pub whole : f ≡ before ⊕ lit a later
+    pub less : without-unit a f ≡ before ⊕ later
+    pub place : unit-place (number-of (leaf a)) (size f) (code f ++ r) ≡ length (code before)
+
+  cut-here : (x : Literal) (f : Forest) (r : List ℕ) → fits (leaf x) ≡ true → same a x ≡ true → Cut (lit x f) r
+  unfolding without-unit size _⊕_ pick encode
+  cut-here x f r h e =
+      record {
+        before = nil;
+        later = f;
+        whole = ap (λ y. lit y f) (sym (same-is a x e));
+        less = rw e;
+        place = ap (unit-place (number-of (leaf a)) (suc (size f))) (lit-before x f r) ∙ unit-lit x (size f) (code f ++ r) h ∙ rw e;
+      }
+
+  cut-lit : (x : Literal) (f : Forest) (r : List ℕ) → fits (leaf x) ≡ true → same a x ≡ false → Cut f r → Cut (lit x f) r
+  unfolding without-unit size _⊕_ pick
+  cut-lit x f r h e w =
+      record {
+        before = lit x (w .before);
+        later = w .later;
+        whole = ap (lit x) (w .whole);
+        less = rw e (ap (lit x) (w .less));
+        place = ap (unit-place (number-of (leaf a)) (suc (size f))) (lit-before x f r) ∙ unit-lit x (size f) (code f ++ r) h ∙ rw (e, w .place, code-lit x (w .before)) (omega arith);
+      }
+
+  cut-node : (c : Conn) (k f : Forest) (r : List ℕ) → fits (head c (size k)) ≡ true → Fits k → Cut f r → Cut (node c k f) r
+  unfolding without-unit size _⊕_
+  cut-node c k f r h v w =
+      record {
+        before = node c k (w .before);
+        later = w .later;
+        whole = ap (node c k) (w .whole);
+        less = ap (node c k) (w .less);
+        place =
+            ap (unit-place (number-of (leaf a)) (suc (size f))) (node-before c k f r)
+            ∙ unit-node c k (size f) (code f ++ r) h v
+            ∙ rw (w .place, code-node c k (w .before)) (omega (arith, length-append (code k) (code (w .before))));
+      }
+
+  cut : (f : Forest) (r : List ℕ) → Fits f → has-unit a f ≡ true → Cut f r
+  unfolding has-unit
+  cut nil r w h = true-false (sym h)
+  cut (lit x f) r w h = let s = fits-lit x f w in go (same a x) refl h (s .0) (cut f r (s .1))
+    where
+      go : (b : Bool) → same a x ≡ b → (b || has-unit a f) ≡ true → fits (leaf x) ≡ true → (has-unit a f ≡ true → Cut f r) → Cut (lit x f) r
+      go true e q v w = cut-here x f r v e
+      go false e q v w = cut-lit x f r v e (w q)
+  cut (node c k f) r w h = let s = fits-tree c k f w in cut-node c k f r (s .0) (s .1) (cut f r (s .2) h)
+
+  -- Where there is none, the place after all trees.
+  uncut-nil : (r : List ℕ) → unit-place (number-of (leaf a)) 0 r ≡ length (code nil)
+  unfolding unit-place walk encode
+  uncut-nil r = refl
+
+  uncut : (f : Forest) (r : List ℕ) → Fits f → has-unit a f ≡ false → unit-place (number-of (leaf a)) (size f) (code f ++ r) ≡ length (code f)
+  unfolding has-unit size pick
+  uncut nil r w h = uncut-nil (code nil ++ r)
+  uncut (lit x f) r w h =
+      let s = fits-lit x f w in
+      let o = or-neither (same a x) (has-unit a f) h in
+      ap (unit-place (number-of (leaf a)) (suc (size f))) (lit-before x f r)
+      ∙ unit-lit x (size f) (code f ++ r) (s .0)
+      ∙ rw (o .0, uncut f r (s .1) (o .1), code-lit x f) (omega arith)
+  uncut (node c k f) r w h =
+      let s = fits-tree c k f w in
+      ap (unit-place (number-of (leaf a)) (suc (size f))) (node-before c k f r)
+      ∙ unit-node c k (size f) (code f ++ r) (s .0) (s .1)
+      ∙ rw (uncut f r (s .2) h, code-node c k f) (omega (arith, length-append (code k) (code f)))
+
+  -- So a literal is among the numbers where it is among the trees.
+  pub among-trees : (f : Forest) (r : List ℕ) → Fits f → among (number-of (leaf a)) (size f) (code f ++ r) ≡ has-unit a f
+  unfolding among
+  among-trees f r w = rw (span-encode f r w) (go (has-unit a f) refl)
+    where
+      go : (b : Bool) → has-unit a f ≡ b → ltb (unit-place (number-of (leaf a)) (size f) (code f ++ r)) (length (encode f)) ≡ b
+      go true e =
+          let k = cut f r w e in
+          lt-ltb (unit-place (number-of (leaf a)) (size f) (code f ++ r)) (length (encode f))
+          (omega (arith, k .place, ap (λ g. length (code g)) (k .whole), length-map (encode f) number-of, ap length (code-⊕ (k .before) (lit a (k .later))), length-append (code (k .before)) (code (lit a (k .later))), ap length (code-lit a (k .later))))
+      go false e =
+          le-ltb (unit-place (number-of (leaf a)) (size f) (code f ++ r)) (length (encode f))
+          (omega (arith, uncut f r w e, length-map (encode f) number-of))
+
+  -- What is asked of each tree.
+  here-lit : (x : Literal) (s : List ℕ) → fits (leaf x) ≡ true → shares-here (number-of (leaf a)) (number-of (leaf x) ∷ s) ≡ true
+  here-lit x s h = shares-literal (number-of (leaf a)) (number-of (leaf x) ∷ s) (leaf-literal x h)
+
+  here-node : (c : Conn) (k : Forest) (s : List ℕ) → fits (head c (size k)) ≡ true → Fits k → shares-here (number-of (leaf a)) (number-of (head c (size k)) ∷ (code k ++ s)) ≡ (same-conn and c && has-unit a k)
+  unfolding shares-here same-conn number-of conn-kind fits amount is-literal
+  here-node and k s h w = rw (kind-number 3 (size k) h, value-number 3 (size k) h) (among-trees k s w)
+  here-node or k s h w = rw (kind-number 4 (size k) h)
+  here-node root k s h w = rw (kind-number 5 (size k) h)
+
+  share-lit : (x : Literal) (n : ℕ) (s : List ℕ) → fits (leaf x) ≡ true → all-share (number-of (leaf a)) (suc n) (number-of (leaf x) ∷ s) ≡ all-share (number-of (leaf a)) n s
+  unfolding all-share
+  share-lit x n s h = walk-lit _ true n s x h ∙ rw (here-lit x s h)
+
+  share-node : (c : Conn) (k : Forest) (n : ℕ) (s : List ℕ) → fits (head c (size k)) ≡ true → Fits k → all-share (number-of (leaf a)) (suc n) (number-of (head c (size k)) ∷ (code k ++ s)) ≡ ((same-conn and c && has-unit a k) && all-share (number-of (leaf a)) n s)
+  unfolding all-share
+  share-node c k n s h w = walk-node _ true n s c k h w ∙ rw (here-node c k s h w)
+
+  share-nil : (r : List ℕ) → all-share (number-of (leaf a)) 0 r ≡ true
+  unfolding all-share walk
+  share-nil r = refl
+
+  pub share-trees : (f : Forest) (r : List ℕ) → Fits f → all-share (number-of (leaf a)) (size f) (code f ++ r) ≡ shares a f
+  unfolding shares size same-conn
+  share-trees nil r w = share-nil (code nil ++ r)
+  share-trees (lit x f) r w =
+      let s = fits-lit x f w in
+      ap (all-share (number-of (leaf a)) (suc (size f))) (lit-before x f r) ∙ share-lit x (size f) (code f ++ r) (s .0) ∙ share-trees f r (s .1)
+  share-trees (node c k f) r w =
+      let s = fits-tree c k f w in
+      ap (all-share (number-of (leaf a)) (suc (size f))) (node-before c k f r)
+      ∙ share-node c k (size f) (code f ++ r) (s .0) (s .1)
+      ∙ ap (λ b. (same-conn and c && has-unit a k) && b) (share-trees f r (s .2))
+      ∙ go c
+    where
+      go : (d : Conn) → ((same-conn and d && has-unit a k) && shares a f) ≡ shares a (node d k f)
+      go and = refl
+      go or = refl
+      go root = refl
+
+-- The groups among trees.
+groups-lit : (x : Literal) (n : ℕ) (s : List ℕ) → fits (leaf x) ≡ true → groups-in (suc n) (number-of (leaf x) ∷ s) ≡ groups-in n s
+unfolding groups-in group-here pick
+groups-lit x n s h = walk-lit _ 0 n s x h ∙ rw (leaf-literal x h) (omega arith)
+
+groups-node : (c : Conn) (k : Forest) (n : ℕ) (s : List ℕ) → fits (head c (size k)) ≡ true → Fits k → groups-in (suc n) (number-of (head c (size k)) ∷ (code k ++ s)) ≡ suc (groups-in n s)
+unfolding groups-in group-here pick
+groups-node c k n s h w = walk-node _ 0 n s c k h w ∙ rw (head-inner c (size k) h) (omega arith)
+
+groups-nil : (r : List ℕ) → groups-in 0 r ≡ 0
+unfolding groups-in walk
+groups-nil r = refl
+
+pub groups-trees : (f : Forest) (r : List ℕ) → Fits f → groups-in (size f) (code f ++ r) ≡ groups f
+unfolding groups size
+groups-trees nil r w = groups-nil (code nil ++ r)
+groups-trees (lit x f) r w =
+    let s = fits-lit x f w in
+    ap (groups-in (suc (size f))) (lit-before x f r) ∙ groups-lit x (size f) (code f ++ r) (s .0) ∙ groups-trees f r (s .1)
+groups-trees (node c k f) r w =
+    let s = fits-tree c k f w in
+    ap (groups-in (suc (size f))) (node-before c k f r) ∙ groups-node c k (size f) (code f ++ r) (s .0) (s .1) ∙ ap suc (groups-trees f r (s .2))
+
+-- What is kept of trees: the literals, or the groups, each without its first copy of the number.
+module _ (g : Bool) (a : ℕ) where
+  gathered-lit : (x : Literal) (n : ℕ) (s : List ℕ) → fits (leaf x) ≡ true → gathered g a (suc n) (number-of (leaf x) ∷ s) ≡ pick g [] (number-of (leaf x) ∷ []) ++ gathered g a n s
+  unfolding gathered pick
+  gathered-lit x n s h = walk-lit _ [] n s x h ∙ ap (λ t. t ++ gathered g a n s) (kept-is g a (number-of (leaf x) ∷ s) (leaf-literal x h) refl)
+
+  gathered-node : (c : Conn) (k : Forest) (n : ℕ) (s : List ℕ) → fits (head c (size k)) ≡ true → Fits k → gathered g a (suc n) (number-of (head c (size k)) ∷ (code k ++ s)) ≡ pick g (less-unit a (number-of (head c (size k)) ∷ (code k ++ s))) [] ++ gathered g a n s
+  unfolding gathered pick
+  gathered-node c k n s h w =
+      walk-node _ [] n s c k h w ∙ ap (λ t. t ++ gathered g a n s) (kept-is g a (number-of (head c (size k)) ∷ (code k ++ s)) (head-inner c (size k) h) refl)
+
+  gathered-nil : (r : List ℕ) → gathered g a 0 r ≡ code nil
+  unfolding gathered walk encode
+  gathered-nil r = refl
+
+pub units-trees : (a : ℕ) (f : Forest) (r : List ℕ) → Fits f → gathered false a (size f) (code f ++ r) ≡ code (units f)
+unfolding units size pick
+units-trees a nil r w = gathered-nil false a (code nil ++ r)
+units-trees a (lit x f) r w =
+    let s = fits-lit x f w in
+    ap (gathered false a (suc (size f))) (lit-before x f r)
+    ∙ gathered-lit false a x (size f) (code f ++ r) (s .0)
+    ∙ ap (λ t. number-of (leaf x) ∷ t) (units-trees a f r (s .1))
+    ∙ sym (code-lit x (units f))
+units-trees a (node c k f) r w =
+    let s = fits-tree c k f w in
+    ap (gathered false a (suc (size f))) (node-before c k f r)
+    ∙ gathered-node false a c k (size f) (code f ++ r) (s .0) (s .1)
+    ∙ units-trees a f r (s .2)
+
+module _ (a : Literal) (fit : fits (leaf a) ≡ true) where
+  less-trees : (c : Conn) (k : Forest) (s : List ℕ) → fits (head c (size k)) ≡ true → Fits k → has-unit a k ≡ true → less-unit (number-of (leaf a)) (number-of (head c (size k)) ∷ (code k ++ s)) ≡ number-of (head c (size (without-unit a k))) ∷ code (without-unit a k)
+  unfolding number-of number fits amount size
+  less-trees c k s h w e =
+      let d = cut a fit k s w e in
+      let p = d .before in
+      let q = d .later in
+      let x = number-of (leaf a) in
+      let y = number-of (head c (size k)) in
+      let l = y ∷ (code k ++ s) in
+      let u = length (code p) in
+      let parts = less-unit-parts x l {m = size k} {u = u} {e = suc (length (code k))} (sym (value-number (conn-kind c) (size k) h)) (sym (d .place)) (omega (arith, span-encode k s w, length-map (encode k) number-of)) in
+      let all : code k ≡ code p ++ (x ∷ code q) = ap code (d .whole) ∙ code-⊕ p (lit a q) ∙ ap (λ t. code p ++ t) (code-lit a q) in
+      let long : length (code k) ≡ u + (1 + length (code q)) = omega (arith, ap length all, length-append (code p) (x ∷ code q)) in
+      let spread : code k ++ s ≡ code p ++ (x ∷ (code q ++ s)) = ap (λ t. t ++ s) all ∙ append-assoc (code p) (x ∷ code q) s in
+      let upto : List ℕ = y ∷ (code p ++ (x ∷ [])) in
+      let cut-after : l ≡ upto ++ (code q ++ s) = ap (λ t. y ∷ t) (spread ∙ sym (append-assoc (code p) (x ∷ []) (code q ++ s))) in
+      let left : take (1 + u - 1) (code k ++ s) ≡ code p = ap (take (1 + u - 1)) spread ∙ take-at (code p) (x ∷ (code q ++ s)) (1 + u - 1) (omega arith) in
+      let rest : drop (1 + u + 1) l ≡ code q ++ s = ap (drop (1 + u + 1)) cut-after ∙ drop-at upto (code q ++ s) (1 + u + 1) (omega (arith, length-append (code p) (x ∷ []))) in
+      let right : take (suc (length (code k)) - (1 + u + 1)) (drop (1 + u + 1) l) ≡ code q = ap (take (suc (length (code k)) - (1 + u + 1))) rest ∙ take-at (code q) s (suc (length (code k)) - (1 + u + 1)) (omega arith) in
+      let fewer : y - 1 ≡ number-of (head c (size (without-unit a k))) = omega (arith, ap size (d .whole), size-⊕ p (lit a q), ap size (d .less), size-⊕ p q) in
+      parts ∙ ap₂ (λ z t. z ∷ t) fewer (ap₂ _++_ left right ∙ sym (ap code (d .less) ∙ code-⊕ p q))
+
+  pub groups-kept : (f : Forest) (r : List ℕ) → Fits f → shares a f ≡ true → gathered true (number-of (leaf a)) (size f) (code f ++ r) ≡ code (groups-without a f)
+  unfolding shares groups-without size pick
+  groups-kept nil r w h = gathered-nil true (number-of (leaf a)) (code nil ++ r)
+  groups-kept (lit x f) r w h =
+      let s = fits-lit x f w in
+      ap (gathered true (number-of (leaf a)) (suc (size f))) (lit-before x f r)
+      ∙ gathered-lit true (number-of (leaf a)) x (size f) (code f ++ r) (s .0)
+      ∙ groups-kept f r (s .1) h
+  groups-kept (node and k f) r w h =
+      let s = fits-tree and k f w in
+      let t = and-split (has-unit a k) (shares a f) h in
+      ap (gathered true (number-of (leaf a)) (suc (size f))) (node-before and k f r)
+      ∙ gathered-node true (number-of (leaf a)) and k (size f) (code f ++ r) (s .0) (s .1)
+      ∙ ap₂ _++_ (less-trees and k (code f ++ r) (s .0) (s .1) (t .0)) (groups-kept f r (s .2) (t .1))
+      ∙ sym (code-node and (without-unit a k) (groups-without a f))
+  groups-kept (node or k f) r w h = true-false (sym h)
+  groups-kept (node root k f) r w h = true-false (sym h)

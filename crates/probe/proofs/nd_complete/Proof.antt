@@ -1,0 +1,49 @@
+-- `probe::nd_complete` meets its contract: the answer as one number.
+use mathlib.Core.Path.{_≡_, sym, ap, _∙_}
+use borrow.Author.Needs.{needs}
+use Rattle.model.specs.Base.{pick}
+use Rattle.reports.specs.Meaning.{completedOf}
+use Rattle.probe.specs.Values.{packedBool}
+use Rattle.probe.proofs.nd_complete.Statement.{statement}
+use Rattle.probe.proofs.nd_complete.Tie as tie
+
+complete-requires : tie.Need-complete-requires
+complete-requires c κs = search needs
+
+enum-told : tie.Need-enum-told
+enum-told c = search needs
+
+enum-told-2 : tie.Need-enum-told-2
+enum-told-2 c = search needs
+
+enum-known-answer : tie.Need-enum-known-answer
+enum-known-answer c = search needs
+
+refused-requires : tie.Need-refused-requires
+refused-requires c κs = search needs
+
+returns : tie.Need-returns
+unfolding pick
+returns c = ap packedBool (ap completedOf (sym (c .enum-told .given .1)) ∙ c .before .before .complete .ensures)
+
+returns-2 : tie.Need-returns-2
+unfolding pick
+returns-2 c = ap packedBool (ap completedOf (sym (c .enum-told2 .given .1)) ∙ c .before .before .complete .ensures)
+
+returns-3 : tie.Need-returns-3
+returns-3 c =
+    c .refused .ensures
+    ∙ ap packedBool (ap completedOf (sym (c .before .before .answer .given .1)) ∙ c .before .before .before .before .complete .ensures)
+
+pub nd-complete-spec : {M : Type 1} → statement M
+nd-complete-spec =
+    tie.close
+    (tie.spec
+    complete-requires
+    enum-told
+    enum-told-2
+    enum-known-answer
+    refused-requires
+    returns
+    returns-2
+    returns-3)

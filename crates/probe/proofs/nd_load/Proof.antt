@@ -1,0 +1,21 @@
+-- `probe::nd_load` meets its contract: the loader's answer as one number, and the sheet.
+use borrow.Author.Needs.{needs}
+use Rattle.c_calls.specs.Packed.{packedDone}
+use Rattle.probe.proofs.Laws.{told}
+use Rattle.probe.proofs.nd_load.Statement.{statement}
+use Rattle.probe.proofs.nd_load.Tie as tie
+
+load-requires : tie.Need-load-requires
+load-requires c κs = search needs
+
+done-requires : tie.Need-done-requires
+done-requires c κs = search needs
+
+same-length : tie.Need-same-length
+same-length c = search needs
+
+returns : tie.Need-returns
+returns c = told packedDone (c .done .ensures) (c .before .before .before .load .ensures)
+
+pub nd-load-spec : {M : Type 1} → statement M
+nd-load-spec = tie.close (tie.spec load-requires done-requires same-length returns)

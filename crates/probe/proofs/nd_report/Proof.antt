@@ -1,0 +1,63 @@
+-- `probe::nd_report` meets its contract: the report's answer as one number, and the output.
+use mathlib.Core.Path.{_≡_, sym, ap, _∙_}
+use borrow.Author.Needs.{needs}
+use Rattle.model.specs.Base.{pick}
+use Rattle.reports.specs.Meaning.{reportedOf}
+use Rattle.probe.specs.Values.{packedBool}
+use Rattle.probe.proofs.Laws.{told}
+use Rattle.probe.proofs.nd_report.Statement.{statement}
+use Rattle.probe.proofs.nd_report.Tie as tie
+
+report-requires : tie.Need-report-requires
+report-requires c κs = search needs
+
+enum-told : tie.Need-enum-told
+enum-told c = search needs
+
+enum-told-2 : tie.Need-enum-told-2
+enum-told-2 c = search needs
+
+enum-known-answer : tie.Need-enum-known-answer
+enum-known-answer c = search needs
+
+refused-requires : tie.Need-refused-requires
+refused-requires c κs = search needs
+
+same-length : tie.Need-same-length
+same-length c = search needs
+
+returns : tie.Need-returns
+unfolding pick
+returns c = told packedBool (ap (λ a. packedBool (reportedOf a)) (sym (c .enum-told .given .1))) (c .before .before .before .before .report .ensures)
+
+same-length-2 : tie.Need-same-length-2
+same-length-2 c = search needs
+
+returns-2 : tie.Need-returns-2
+unfolding pick
+returns-2 c = told packedBool (ap (λ a. packedBool (reportedOf a)) (sym (c .enum-told2 .given .1))) (c .before .before .before .before .report .ensures)
+
+same-length-3 : tie.Need-same-length-3
+same-length-3 c = search needs
+
+returns-3 : tie.Need-returns-3
+returns-3 c =
+    told packedBool
+    (c .refused .ensures ∙ ap (λ a. packedBool (reportedOf a)) (sym (c .before .before .answer .given .1)))
+    (c .before .before .before .before .before .before .report .ensures)
+
+pub nd-report-spec : {M : Type 1} → statement M
+nd-report-spec =
+    tie.close
+    (tie.spec
+    report-requires
+    enum-told
+    enum-told-2
+    enum-known-answer
+    refused-requires
+    same-length
+    returns
+    same-length-2
+    returns-2
+    same-length-3
+    returns-3)

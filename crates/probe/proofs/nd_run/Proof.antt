@@ -1,0 +1,98 @@
+-- `probe::nd_run` meets its contract: the run's answer as one number, and the sheet.
+use mathlib.Core.Bool.{true, false}
+use mathlib.Core.Path.{_≡_, sym, ap, _∙_}
+use Prim.Native.Nat.{ℕ, _≤_}
+use native.Mathlib.Omega.{arith}
+use borrow.Author.Needs.{needs}
+use Rattle.model.specs.Base.{pick}
+use Rattle.model.specs.Calls.{accepted, runOf}
+use Rattle.runs.specs.Meaning.{ranOf}
+use Rattle.probe.specs.Values.{packedRan}
+use Rattle.probe.proofs.Laws.{told, run-fits}
+use Rattle.probe.proofs.nd_run.Statement.{statement}
+use Rattle.probe.proofs.nd_run.Tie as tie
+
+-- The count leaves room for the refusal.
+few : (c : tie.After-known-told) → c .before .answer .given .0 .0 ≤ 1855425871872
+few c =
+    let d = c .before .before .before .before .before in
+    let a = d .before .before .before .args in
+    let e = ap ranOf (sym (c .before .answer .given .1)) ∙ ap (λ o. o .answer) (d .run .ensures) in
+    run-fits (a .sheet .now) (a .budget) (record { settled = true; count = c .before .answer .given .0 .0 }) e
+
+few-2 : (c : tie.After-known-told2) → c .before .answer2 .given .0 .0 ≤ 1855425871872
+few-2 c =
+    let d = c .before .before .before .before .before in
+    let a = d .before .before .before .args in
+    let e = ap ranOf (sym (c .before .answer2 .given .1)) ∙ ap (λ o. o .answer) (d .run .ensures) in
+    run-fits (a .sheet .now) (a .budget) (record { settled = false; count = c .before .answer2 .given .0 .0 }) e
+
+run-requires : tie.Need-run-requires
+run-requires c κs = search needs
+
+enum-known-answer : tie.Need-enum-known-answer
+enum-known-answer c = search needs
+
+mul-result : tie.Need-mul-result
+mul-result c = omega (arith, few c)
+
+add-result : tie.Need-add-result
+add-result c = omega (arith, few c)
+
+enum-known-answer-2 : tie.Need-enum-known-answer-2
+enum-known-answer-2 c = search needs
+
+mul-result-2 : tie.Need-mul-result-2
+mul-result-2 c = omega (arith, few-2 c)
+
+enum-known-answer-3 : tie.Need-enum-known-answer-3
+enum-known-answer-3 c = search needs
+
+refused-requires : tie.Need-refused-requires
+refused-requires c κs = search needs
+
+same-length : tie.Need-same-length
+same-length c = search needs
+
+returns : tie.Need-returns
+unfolding pick
+returns c =
+    let packing = ap (λ a. packedRan (ranOf a)) (sym (c .before .answer .given .1)) in
+    told packedRan (omega (arith, packing)) (c .before .before .before .before .before .run .ensures)
+
+same-length-2 : tie.Need-same-length-2
+same-length-2 c = search needs
+
+returns-2 : tie.Need-returns-2
+unfolding pick
+returns-2 c =
+    let packing = ap (λ a. packedRan (ranOf a)) (sym (c .before .answer2 .given .1)) in
+    told packedRan (omega (arith, packing)) (c .before .before .before .before .before .run .ensures)
+
+same-length-3 : tie.Need-same-length-3
+same-length-3 c = search needs
+
+returns-3 : tie.Need-returns-3
+returns-3 c =
+    told packedRan
+    (c .refused .ensures ∙ ap (λ a. packedRan (ranOf a)) (sym (c .before .before .answer3 .given .1)))
+    (c .before .before .before .before .before .before .run .ensures)
+
+pub nd-run-spec : {M : Type 1} → statement M
+nd-run-spec =
+    tie.close
+    (tie.spec
+    run-requires
+    enum-known-answer
+    mul-result
+    add-result
+    enum-known-answer-2
+    mul-result-2
+    enum-known-answer-3
+    refused-requires
+    same-length
+    returns
+    same-length-2
+    returns-2
+    same-length-3
+    returns-3)

@@ -1,0 +1,13 @@
+-- What each case of a run's answer is in the definitions.
+use mathlib.Core.Bool.{true, false}
+use Rattle.model.specs.Calls as M
+use Rattle.model.specs.Calls.{Answer, refused, accepted}
+use Rattle.answers.specs.Meaning.{refusalOf}
+use Rattle.runs.specs.declared.Ran as R
+use Rattle.runs.specs.declared.Ran.the-variants as V₁
+
+-- Settled or stopped, and the count of steps.
+abbrev pub ranOf : R.Ran → Answer M.Ran
+ranOf (V₁.Settled n) = accepted (record { settled = true; count = n })
+ranOf (V₁.Stopped n) = accepted (record { settled = false; count = n })
+ranOf (V₁.Refused r) = refused (refusalOf r)

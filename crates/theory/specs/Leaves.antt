@@ -1,0 +1,44 @@
+-- The numbers of literals: told from those of groups, and equal only where the literals are.
+use mathlib.Core.Bool.{true, false}
+use mathlib.Core.Path.{_≡_, sym, ap, _∙_}
+use Prim.Native.Nat.{ℕ}
+use borrow.Author.Tests.{eqb-true, eq-eqb}
+use lib.Dec.{eqb}
+use Rattle.model.specs.Literal.{Literal, pos, neg, option, same}
+use Rattle.model.specs.Forest.{Conn, and, or, root}
+use Rattle.model.specs.Code.{leaf, head, value, conn-kind, number-of, node-of}
+use Rattle.theory.specs.Logic.{true-false, fails-if, same-test}
+use Rattle.theory.specs.Literals.{same-is, is-same}
+use Rattle.theory.specs.Numbers.{amount, fits, kind-number, value-number, node-number}
+use Rattle.theory.specs.Scan.{is-literal}
+
+-- What the number of a node that fits says of its kind and value.
+pub leaf-literal : (x : Literal) → fits (leaf x) ≡ true → is-literal (number-of (leaf x)) ≡ true
+unfolding is-literal number-of fits amount option
+leaf-literal (pos v) h = rw (kind-number 1 v h)
+leaf-literal (neg v) h = rw (kind-number 2 v h)
+
+pub head-inner : (c : Conn) (n : ℕ) → fits (head c n) ≡ true → is-literal (number-of (head c n)) ≡ false
+unfolding is-literal number-of conn-kind fits amount
+head-inner and n h = rw (kind-number 3 n h)
+head-inner or n h = rw (kind-number 4 n h)
+head-inner root n h = rw (kind-number 5 n h)
+
+pub leaf-value : (x : Literal) → fits (leaf x) ≡ true → value (number-of (leaf x)) ≡ option x
+unfolding number-of fits amount option
+leaf-value (pos v) h = value-number 1 v h
+leaf-value (neg v) h = value-number 2 v h
+
+-- Equal numbers, by the test for the same literal.
+leaf-inj : {a b : Literal} → leaf a ≡ leaf b → a ≡ b
+leaf-inj e = cc
+
+pub leaf-test : (a b : Literal) → fits (leaf a) ≡ true → fits (leaf b) ≡ true → eqb (number-of (leaf b)) (number-of (leaf a)) ≡ same a b
+leaf-test a b p q =
+    same-test _ (same a b)
+    (λ e. is-same (leaf-inj (sym (node-number (leaf a) p) ∙ ap node-of (sym (eqb-true (number-of (leaf b)) (number-of (leaf a)) e)) ∙ node-number (leaf b) q)))
+    (λ e. eq-eqb (number-of (leaf b)) (number-of (leaf a)) (ap (λ x. number-of (leaf x)) (sym (same-is a b e))))
+
+pub head-unlike : (c : Conn) (n : ℕ) (a : Literal) → fits (head c n) ≡ true → fits (leaf a) ≡ true → eqb (number-of (head c n)) (number-of (leaf a)) ≡ false
+head-unlike c n a p q =
+    fails-if _ (λ e. true-false (sym (leaf-literal a q) ∙ ap is-literal (sym (eqb-true (number-of (head c n)) (number-of (leaf a)) e)) ∙ head-inner c n p))
