@@ -7,7 +7,8 @@ disjunction; where a rule applies is a redex, what it leaves there the contractu
 
 trees: node numbers to trees and back. books: the book file. sheets: the order sheet. meaning:
 clauses and facts. rules: the fourteen rules. calls: every call in one form. desk: the desk program.
-selftest: all of it against the paper.
+cases: the paper's cases as tables. demands: the parts of demand 3. selftest: all of it against the
+paper.
 """
 
 

@@ -9,64 +9,13 @@ if not __package__:
     sys.path.insert(0, str(Path(__file__).resolve().parent.parent))
 from checker import calls, desk, meaning, rules, sheets
 from checker.books import build
-from checker.trees import (CONJUNCTION, DISJUNCTION, FALSE, NEGATIVE, POSITIVE, ROOT, TRUE, Tree,
-                           conjunction as all_of, disjunction as any_of, negative, positive,
-                           preorder, weight)
+from checker.cases import BAD, CASES, CODES, P, Q, STEPS
+from checker.demands import cube, is_settled
+from checker.trees import (CONJUNCTION, DISJUNCTION, NEGATIVE, POSITIVE, ROOT, TRUE, Tree,
+                           conjunction as all_of, disjunction as any_of, negative, positive, weight)
 
-P, Q, R = positive(0), positive(1), positive(2)
-NOT_P, NOT_Q, NOT_R = negative(0), negative(1), negative(2)
-CODES = [b"P", b"Q", b"R", b"S"]
 BLANK = [7] * sheets.LENGTH  # a target: no sheet, and "wholly filled"
 MOST = 2 ** 64 - 1  # "a 64-bit budget"
-BAD = None  # contradictory
-
-# rules; choice; report; rules of the house steps; rules left (... where the paper gives none)
-CASES = [
-    ([any_of(P, all_of(P, Q))], (), [1, 0], [9, 1, 7, 5, 8], [P]),
-    ([P, any_of(all_of(NOT_P, Q), FALSE)], (), BAD, [5, 8, 10, 1, 7, 3], [FALSE]),
-    ([any_of(all_of(P, Q), all_of(P, R))], (), [1, 0, 0], [14, 7, 7, 8, 12, 7], [P, any_of(Q, R)]),
-    ([NOT_P, any_of(P, NOT_Q), any_of(P, NOT_R), any_of(Q, R)], (), BAD, ..., [FALSE]),
-    ([any_of(P, Q), any_of(NOT_P, Q)], (), [0, 0], ..., ...),
-    ([any_of(all_of(P, NOT_P), Q)], (), [0, 0], ..., ...),
-    ([any_of(P, Q)], (1, True), [1, 2], ..., [P, NOT_Q]),
-    ([FALSE], (), BAD, [], [FALSE]),
-    ([TRUE], (), [], [6], []),
-]
-
-# rules; (rule, place, i, j); rules after, or None where the step does not apply
-STEPS = [
-    ([all_of(P, FALSE)], (1, 1, 1, 0), [all_of(FALSE)]),
-    ([all_of(FALSE)], (1, 1, 0, 0), None),
-    ([any_of(P, TRUE)], (2, 1, 1, 0), [any_of(TRUE)]),
-    ([any_of(P, all_of(TRUE))], (2, 1, 1, 0), None),
-    ([P, FALSE, Q], (3, 0, 1, 0), [FALSE]),
-    ([FALSE], (3, 0, 0, 0), None),
-    ([all_of(TRUE)], (4, 1, 0, 0), [TRUE]),
-    ([any_of(FALSE)], (5, 1, 0, 0), [FALSE]),
-    ([P, TRUE, Q], (6, 0, 1, 0), [P, Q]),
-    ([all_of(any_of(P, Q))], (7, 1, 0, 0), [any_of(P, Q)]),
-    ([all_of(P, Q)], (7, 1, 0, 0), None),
-    ([P, any_of(TRUE)], (8, 2, 0, 0), [P, TRUE]),
-    ([any_of(P, all_of(P, any_of(NOT_P, Q)), P)], (9, 1, 0, 0),
-     [any_of(P, all_of(FALSE, any_of(TRUE, Q)), FALSE)]),
-    ([any_of(P, all_of(P, Q))], (9, 1, 1, 0), None),
-    ([any_of(P, Q), P], (9, 1, 0, 0), None),
-    ([all_of(P, any_of(NOT_P)), NOT_P], (10, 0, 1, 0), [all_of(FALSE, any_of(TRUE)), NOT_P]),
-    ([all_of(Q, all_of(TRUE, P))], (11, 1, 1, 1), [all_of(Q, P, all_of(TRUE))]),
-    ([all_of(Q, all_of(TRUE, P))], (11, 1, 1, 0), None),
-    ([Q, all_of(P)], (12, 0, 1, 0), [Q, P, TRUE]),
-    ([all_of(P, all_of(FALSE, R), Q)], (13, 1, 1, 0), [all_of(P, FALSE, R, Q)]),
-    ([all_of(TRUE)], (13, 1, 0, 0), [TRUE]),
-    ([all_of(TRUE, TRUE)], (13, 1, 0, 0), None),
-    ([any_of(P, all_of(Q, P, P), NOT_R, all_of(P))], (14, 1, 1, 1),
-     [any_of(P, NOT_R, all_of(P, any_of(all_of(Q, P), TRUE)))]),
-    ([any_of(P, all_of(Q, P, P), NOT_R, all_of(P))], (14, 1, 1, 2), None),
-    ([any_of(P, all_of(Q, P, P), NOT_R, all_of(P))], (14, 1, 3, 0), None),
-    ([any_of(P, all_of(P))], (14, 1, 1, 0), None),
-    ([any_of(all_of(P), all_of(NOT_P))], (14, 1, 0, 0), None),
-    ([any_of(all_of(P), all_of(P), all_of(Q))], (14, 1, 0, 0), None),
-    ([any_of(all_of(P), all_of(P), FALSE)], (14, 1, 0, 0), None),
-]
 
 
 def done(answer):
@@ -204,21 +153,6 @@ def random_tree(rng, options, depth):
                 [random_tree(rng, options, depth - 1) for _ in range(children)])
 
 
-def cube(sheet):
-    """ "the cube of n + 2l, for n nodes and l option marks" """
-    nodes = preorder(sheets.root_of(sheet))
-    return (len(nodes) + 2 * sum(node.literal is not None for node in nodes)) ** 3
-
-
-def check_settled(sheet, due):
-    """ "no rule applies to the sheet; it holds the lone contradiction exactly when those rules and
-    choices are contradictory, and otherwise its bare marks are exactly the forced ones." """
-    children = sheets.root_of(sheet).children
-    lone = len(children) == 1 and children[0].is_false()
-    assert rules.applicable(sheet) == [] and lone == (due is BAD)
-    assert lone or {child.literal for child in children if child.literal} == due
-
-
 def check_step(sheet, step, due):
     """A step keeps the meaning and "every node before the place"; "No step raises the weight." """
     after = done(calls.step(sheet, *step))[1]
@@ -255,7 +189,7 @@ def check_list(rng, sheet, trees, met):
         assert room >= 0
         room = min(room, cube(sheet))
         if settled:
-            check_settled(sheet, due)
+            assert is_settled(sheet, due)
     assert meaning.meaning(sheets.root_of(sheet)) == due
     return sheet
 
@@ -267,7 +201,7 @@ def check_book(rng, met):
     due = meaning.meaning(Tree(ROOT, trees))
     value, last = done(calls.run(sheet, MOST))
     assert value % 2 == 1 and value // 2 <= cube(sheet)
-    check_settled(last, due)
+    assert is_settled(last, due)
     listed = rules.applicable(sheet)
     for step in rng.sample(listed, min(5, len(listed))):
         check_step(sheet, step, due)

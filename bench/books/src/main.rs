@@ -1,4 +1,5 @@
-//! The time of the library's book check and code lookup next to the Rust reference's.
+//! The time of the library's book check and code lookup next to plain Rust's by the same
+//! methods, and to the Rust reference's.
 //!
 //!     rt staticlib c_calls                                        at the repository's top
 //!     cd bench/books && cargo run --release --offline --locked
@@ -9,6 +10,7 @@ mod books;
 #[path = "../../../tests/rust/src/ffi.rs"]
 #[allow(dead_code)]
 mod ffi;
+mod plain;
 #[path = "../../../tests/rust/src/random.rs"]
 #[allow(dead_code)]
 mod random;
@@ -49,17 +51,25 @@ fn median(mut times: Vec<f64>) -> f64 {
     times[times.len() / 2]
 }
 
-/// Measures both sides in turn, and prints one line.
-fn compare(what: &str, ours: &dyn Fn() -> u64, theirs: &dyn Fn() -> u64) {
-    assert_eq!(ours(), theirs(), "{what}: the answers differ");
-    let calls = [calls_for_sample(ours), calls_for_sample(theirs)];
-    let (mut our_times, mut their_times) = (Vec::new(), Vec::new());
-    for _ in 0..SAMPLES {
-        our_times.push(sample(calls[0], ours));
-        their_times.push(sample(calls[1], theirs));
+/// Measures the sides in turn, and prints one line: the library, then the others, each with
+/// the library's ratio to it.
+fn compare(what: &str, sides: [&dyn Fn() -> u64; 3]) {
+    for side in sides {
+        assert_eq!(side(), sides[0](), "{what}: the answers differ");
     }
-    let (ours, theirs) = (median(our_times), median(their_times));
-    println!("{what:<64}{ours:>12.0}{theirs:>12.0}{:>9.2}", ours / theirs);
+    let calls = sides.map(calls_for_sample);
+    let mut times = sides.map(|_| Vec::new());
+    for _ in 0..SAMPLES {
+        for (k, side) in sides.into_iter().enumerate() {
+            times[k].push(sample(calls[k], side));
+        }
+    }
+    let [ours, plain, reference] = times.map(median);
+    println!(
+        "{what:<64}{ours:>9.0}{plain:>9.0}{:>7.2}{reference:>11.0}{:>7.2}",
+        ours / plain,
+        ours / reference
+    );
 }
 
 fn check(what: &str, book: &Book, due: u64) {
@@ -67,8 +77,11 @@ fn check(what: &str, book: &Book, due: u64) {
     assert_eq!(ffi::book_check(&bytes), due, "{what}: not the answer due");
     compare(
         &format!("check   {what}"),
-        &|| ffi::book_check(black_box(&bytes)),
-        &|| reference::book_check(black_box(&bytes)),
+        [
+            &|| ffi::book_check(black_box(&bytes)),
+            &|| plain::book_check(black_box(&bytes)),
+            &|| reference::book_check(black_box(&bytes)),
+        ],
     );
 }
 
@@ -76,28 +89,33 @@ fn look_up(what: &str, book: &Book, code: &[u8]) {
     let bytes = book.bytes();
     compare(
         &format!("lookup  {what}"),
-        &|| ffi::code_lookup(black_box(&bytes), black_box(code)),
-        &|| reference::code_lookup(black_box(&bytes), black_box(code)),
+        [
+            &|| ffi::code_lookup(black_box(&bytes), black_box(code)),
+            &|| plain::code_lookup(black_box(&bytes), black_box(code)),
+            &|| reference::code_lookup(black_box(&bytes), black_box(code)),
+        ],
     );
 }
 
 fn main() {
     let random = &mut Random::new(1);
 
-    println!("Book check and code lookup: the library through its C interface against the Rust");
-    println!("reference of the tests. One process, one thread. Nanoseconds for one call: the");
     println!(
-        "median of {SAMPLES} samples of at least {} us, the two in turn.",
-        SAMPLE.as_micros()
+        "Book check and code lookup: the library through its C interface against plain Rust by"
     );
+    println!(
+        "the same methods, and against the Rust reference of the tests. One process, one thread."
+    );
+    println!("Nanoseconds for one call: the median of {SAMPLES} samples of at least");
+    println!("{} us, the sides in turn.", SAMPLE.as_micros());
     println!("The books are made before the clock starts and read again in every call, so the");
     println!("caches are warm; nothing is cleared between calls, and no call writes a buffer.");
     println!("A lookup checks the whole book first. The reference finds equal codes by a hash set");
-    println!("and allocates; the library allocates nothing.");
+    println!("and allocates; the library and the plain Rust allocate nothing.");
     println!();
     println!(
-        "{:<64}{:>12}{:>12}{:>9}",
-        "", "library", "reference", "ratio"
+        "{:<64}{:>9}{:>9}{:>7}{:>11}{:>7}",
+        "", "library", "plain", "ratio", "reference", "ratio"
     );
 
     // The document's first case: 48 bytes.
@@ -116,8 +134,23 @@ fn main() {
         &alike,
         0,
     );
-    let unlike = Book::new(codes(random, 512, Likeness::Any), &[]);
-    check("512 codes of any characters", &unlike, 0);
+    for (what, likeness) in [
+        ("alike but for their first two characters", Likeness::Starts),
+        ("alike but for their first and last", Likeness::Last),
+        ("that begin one another", Likeness::Prefixes),
+        ("of one or two characters", Likeness::Short),
+        ("of any characters", Likeness::Any),
+    ] {
+        let book = Book::new(codes(random, 512, likeness), &[]);
+        check(&format!("512 codes {what}"), &book, 0);
+    }
+    let mut twice = ends.clone();
+    twice[0] = twice[511];
+    check(
+        "512 codes alike, the first again at the end (refused 3)",
+        &Book::new(twice, &[]),
+        3,
+    );
 
     // Bodies alone.
     let mut flat = vec![node(ALL_OF, 0); 4095];

@@ -1,0 +1,107 @@
+"""Runs the drivers: on fixed seeds, or (--soak SECONDS) on fresh ones until the time is over."""
+import argparse
+import random
+import secrets
+import time
+from pathlib import Path
+
+from . import cases, desks, lists, orders, refusals, theories
+from .comparing import CAN_REFUSE, Comparing, Difference
+from .library import Library
+
+TOP = Path(__file__).resolve().parent.parent.parent
+LIBRARY, DESK = TOP / "target/probe/libnibdrumlin.so", TOP / "target/bin/desk"
+LISTS, ORDERS, THEORIES, DESKS = 20_000, 300, 150, 2_000
+
+
+def numbered(seed, what, count, work):
+    """work(a generator of its own), `count` times; a difference says which one it was."""
+    for number in range(count):
+        try:
+            work(random.Random("%s/%s/%d" % (seed, what, number)))
+        except Difference as difference:
+            raise Difference("seed %s, %s %d: %s" % (seed, what, number, difference))
+
+
+def fixed(comparing, desk):
+    """What .ci/run compares."""
+    cases.all_of_them(comparing)
+    refusals.all_of_them(comparing, random.Random(1))
+    numbered(1, "list", LISTS, lambda rng: lists.one_list(comparing, rng))
+    numbered(1, "order", ORDERS, lambda rng: orders.one_order(comparing, rng))
+    numbered(1, "theory", THEORIES, lambda rng: theories.one_theory(comparing, rng))
+    if desk:
+        desks.known_cases(comparing, desk)
+        numbered(1, "desk", DESKS, lambda rng: desks.one_desk(comparing, desk, rng))
+
+
+def soak(comparing, desk, seconds):
+    """Fresh seeds, round after round."""
+    seed, end, rounds = secrets.randbelow(10 ** 12), time.time() + seconds, 0
+    print("soak: seed %d" % seed, flush=True)
+    while time.time() < end:
+        part = "%d.%d" % (seed, rounds)
+        refusals.damaged_books(comparing, random.Random(part))
+        refusals.damaged_sheets(comparing, random.Random(part))
+        numbered(part, "list", 2000, lambda rng: lists.one_list(comparing, rng))
+        numbered(part, "order", 50, lambda rng: orders.one_order(comparing, rng))
+        numbered(part, "theory", 50, lambda rng: theories.one_theory(comparing, rng))
+        if desk:
+            numbered(part, "desk", 200, lambda rng: desks.one_desk(comparing, desk, rng))
+        rounds += 1
+    print("soak: seed %d, %d rounds, no difference" % (seed, rounds))
+
+
+def due_counts(desk):
+    """What must have been seen, and how often at least."""
+    least = {"lists": LISTS, "orders": ORDERS, "settled": 1, "stopped": 1, "contradictory": 1,
+             "theories": THEORIES, "theories whose clauses fit": THEORIES // 2}
+    least.update({"rule %d" % rule: 1 for rule in range(1, 15)})
+    least.update({(call, number): 1 for call in CAN_REFUSE for number in [0] + CAN_REFUSE[call]})
+    if desk:
+        least["desk runs"] = DESKS
+        least.update({"desk " + word: 1 for word in ("settled", "stopped", "contradiction")})
+        least.update({"desk refused %d" % number: 1 for number in range(1, 9)})
+    return least
+
+
+def tell(seen):
+    """The counts, a line for each call."""
+    for call in CAN_REFUSE:
+        refused = ", ".join("%d: %d" % (number, seen[call, number])
+                            for number in sorted(CAN_REFUSE[call]))
+        print("  %-8s accepted %d; refused %s" % (call, seen[call, 0], refused))
+    words = sorted(key for key in seen if isinstance(key, str))
+    print("  " + ", ".join("%s %d" % (word, seen[word]) for word in words))
+
+
+def main(library=None, arguments=None):
+    parser = argparse.ArgumentParser(prog="tests/drive")
+    parser.add_argument("--soak", type=int, metavar="SECONDS")
+    parser.add_argument("--without-desk", action="store_true",
+                        help="leave the desk program out, and say so")
+    options = parser.parse_args(arguments)
+    comparing, start = Comparing(library or Library(LIBRARY)), time.time()
+    desk = None if options.without_desk else str(DESK)
+    if desk is None:
+        print("=== THE DESK PROGRAM IS NOT TESTED (--without-desk) ===")
+    elif not DESK.exists():
+        raise SystemExit("no %s: build it with rt check desk, or say --without-desk" % DESK)
+    try:
+        if options.soak is None:
+            fixed(comparing, desk)
+        else:
+            soak(comparing, desk, options.soak)
+    except Difference as difference:
+        raise SystemExit("DIFFERENCE: %s" % difference)
+    tell(comparing.seen)
+    if options.soak is None:
+        due = due_counts(desk)
+        missing = {key: least for key, least in due.items() if comparing.seen[key] < least}
+        if missing:
+            raise SystemExit("seen too rarely (least due): %s" % missing)
+    print("no difference, %.0f s" % (time.time() - start))
+
+
+if __name__ == "__main__":
+    main()

@@ -1,0 +1,104 @@
+"""docs/third-case.svg: document 01's third starred case, the sheet after each step as a small tree,
+from the checker's trace. Run from anywhere: python3 tests/picture.py"""
+from pathlib import Path
+
+from checker import rules
+from checker.books import build
+from checker.cases import CASES, CODES
+from checker.sheets import LENGTH, load, root_of
+from checker.trees import CONJUNCTION, DISJUNCTION, ROOT
+
+WORDS = {7: "an all-of with one child: the child replaces it",
+         8: "an any-of with one child: the child replaces it",
+         12: "a mark in an all-of moves up to the root",
+         14: "the mark that the all-ofs share is taken out"}
+LABELS = {ROOT: "root", CONJUNCTION: "all of", DISJUNCTION: "any of"}
+COLOURS = {ROOT: "#d9d9d9", CONJUNCTION: "#cfe3f7", DISJUNCTION: "#fbe3c0"}
+ACROSS, DOWN, WIDE, HIGH, PER_ROW = 58, 46, 310, 330, 4
+
+
+def trace():
+    """[(root, the step to come or None)]"""
+    trees = CASES[2][0]
+    sheet = load([0] * LENGTH, build(CODES[:3], trees))
+    states = []
+    while True:
+        step = rules.house_step(sheet)
+        states.append((root_of(sheet), step))
+        if step is None:
+            return states
+        sheet = rules.apply(sheet, *step)
+
+
+class Box:
+    """A node with its place in the picture: x in leaves from the left, y in levels."""
+
+    def __init__(self, node, y, boxes, leaves):
+        boxes.append(self)
+        self.node, self.y = node, y
+        self.below = [Box(child, y + 1, boxes, leaves) for child in node.children]
+        if not self.below:
+            leaves.append(self)
+        self.x = (sum(box.x for box in self.below) / len(self.below) if self.below
+                  else len(leaves) - 1)
+
+
+def label(node):
+    if node.literal:
+        return ("" if node.literal.positive else "not ") + "PQRS"[node.literal.option]
+    if node.kind != ROOT and not node.children:
+        return "true" if node.kind == CONJUNCTION else "false"
+    return LABELS[node.kind]
+
+
+def drawn(root, step, left, top):
+    """One tree: its lines, then its boxes. Where the step to come takes place the edge is red."""
+    boxes, leaves, lines, shapes = [], [], [], []
+    Box(root, 0, boxes, leaves)
+    shift = left + (WIDE - ACROSS * (len(leaves) - 1)) / 2
+    for place, box in enumerate(boxes):
+        x, y = shift + ACROSS * box.x, top + 62 + DOWN * box.y
+        for child in box.below:
+            lines.append('<line x1="%.0f" y1="%.0f" x2="%.0f" y2="%.0f" stroke="#888888"/>' % (
+                x, y, shift + ACROSS * child.x, y + DOWN))
+        redex = step is not None and step[1] == place
+        shapes.append(
+            '<rect x="%.0f" y="%.0f" width="50" height="24" rx="%d" fill="%s" stroke="%s" '
+            'stroke-width="%d"/>' % (
+                x - 25, y - 12, 12 if box.node.literal else 4,
+                COLOURS.get(box.node.kind, "#ffffff"), "#c02020" if redex else "#555555",
+                3 if redex else 1))
+        shapes.append('<text x="%.0f" y="%.0f" text-anchor="middle">%s</text>' % (
+            x, y + 4, label(box.node)))
+    return lines + shapes
+
+
+def title(number, taken, left, top):
+    """What was done to come here."""
+    if taken is None:
+        words = ["loaded: (P and Q) or (P and R)", ""]
+    else:
+        words = ["step %d: rule %d at place %d, i %d, j %d" % (number, *taken), WORDS[taken[0]]]
+    styles = 'font-weight="bold"', 'fill="#444444"'
+    return ['<text x="%d" y="%d" %s>%s</text>' % (left + 8, top + 20 + 16 * at, style, line)
+            for at, (line, style) in enumerate(zip(words, styles))]
+
+
+def main():
+    states = trace()
+    width, height = WIDE * PER_ROW, HIGH * -(-len(states) // PER_ROW)
+    parts = ['<svg xmlns="http://www.w3.org/2000/svg" viewBox="0 0 %d %d" width="%d" height="%d" '
+             'font-family="sans-serif" font-size="12">' % (width, height, width, height),
+             '<rect width="%d" height="%d" fill="#ffffff"/>' % (width, height)]
+    for number, (root, step) in enumerate(states):
+        left, top = WIDE * (number % PER_ROW), HIGH * (number // PER_ROW)
+        parts += title(number, states[number - 1][1] if number else None, left, top)
+        parts += drawn(root, step, left, top)
+    target = Path(__file__).resolve().parent.parent / "docs/third-case.svg"
+    target.write_text("\n".join(parts + ["</svg>"]) + "\n")
+    print("%s: %d trees, rules %s" % (
+        target.name, len(states), [step[0] for _, step in states if step]))
+
+
+if __name__ == "__main__":
+    main()
