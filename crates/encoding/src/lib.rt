@@ -27,7 +27,7 @@ pub fn put_head(out: &mut [u8], n: usize, m: usize, t: usize)
 }
 
 // The first bytes of one slice, at the start of another.
-fn copy(s: &[u8], count: usize, out: &mut [u8])
+pub fn copy(s: &[u8], count: usize, out: &mut [u8])
     requires { ⌜ (count ≤ length (now s)) × (count ≤ length (now out)) ⌝ }
     ensures { λ r. ⌜ now (out .exit) ≡ take count (now (s .entry)) ++ drop count (now (out .entry)) ⌝ }
 {

@@ -10,7 +10,7 @@ use native.Mathlib.Omega.{arith}
 use borrow.Author.Tests.{eqb-true, ltb-true, leb-true}
 use lib.Dec.{eqb, ltb, leb}
 use lib.ListN.{getD, take, drop, length, length-drop, length-map}
-use lib.Seq.{drop-cons, getD-take, getD-drop}
+use lib.Seq.{drop-cons}
 use Rattle.model.specs.Base.{pick, all}
 use Rattle.model.specs.Forest.{Conn, and, or, root, Forest, nil, lit, node, size, first, after}
 use Rattle.model.specs.Code.{head, kind, value, node-of, decode, push, trees, joined}
@@ -25,7 +25,7 @@ use Rattle.theory.specs.Evaluation.{Set, fails, values, fails-empty, fails-both
 use Rattle.theory.specs.Families.{unwrapped-values}
 use Rattle.theory.specs.Values.{fails-all, fails-values, values-first, values-after}
 use Rattle.theory.specs.Tables.{place-of, set-of}
-use Rattle.evaluation.specs.Reading.{place-at, with-node}
+use Rattle.evaluation.specs.Reading.{place-at, with-node, tree-fails, Spells-tree}
 
 pub literal-kind : (x : ℕ) → is-literal x ≡ true → (1 ≤ kind x) × (kind x ≤ 2)
 unfolding is-literal
@@ -145,50 +145,53 @@ takes-enough x t h e =
     let w = inner-node x h in
     leb-true (value x) t (only-some (leb (value x) t) _ (sym (ap (λ y. joined y t) (w .1)) ∙ e) .0)
 
--- The nodes of a sheet from a place on: the number at the place and those after it; there are no more trees after it than
+-- The numbers of a tree from a place on: the number at the place and those after it; there are no more trees after it than
 -- numbers; a literal stands in a table of 1,024, and a connective has its children.
-pub record Node-here (s : List ℕ) (i : ℕ) : Type 0 where
-  pub numbers : drop i (numbers-in s) ≡ getD s (2 + i) 0 ∷ drop (suc i) (numbers-in s)
-  pub few : trees-of (drop (suc i) (numbers-in s)) + suc i ≤ used-in s
-  pub inside : is-literal (getD s (2 + i) 0) ≡ true → place-at (getD s (2 + i) 0) < 1024
-  pub enough : is-literal (getD s (2 + i) 0) ≡ false → value (getD s (2 + i) 0) ≤ trees-of (drop (suc i) (numbers-in s))
+pub record Node-here (xs : List ℕ) (i : ℕ) : Type 0 where
+  pub numbers : drop i xs ≡ getD xs i 0 ∷ drop (suc i) xs
+  pub few : trees-of (drop (suc i) xs) + suc i ≤ length xs
+  pub inside : is-literal (getD xs i 0) ≡ true → place-at (getD xs i 0) < 1024
+  pub enough : is-literal (getD xs i 0) ≡ false → value (getD xs i 0) ≤ trees-of (drop (suc i) xs)
 
+module _ (xs : List ℕ) (h : Spells-tree xs) where
+  trees-from : (i : ℕ) → (u : ℕ) × (trees (map node-of (drop i xs)) ≡ some u)
+  trees-from i =
+      let w = trees-drop i (map node-of xs) (h .one) in
+      (w .0, ap trees (map-drop node-of i xs) ∙ w .1)
+
+  pub node-here : (i : ℕ) → i < length xs → Node-here xs i
+  unfolding trees-of trees
+  node-here i l =
+      let x = getD xs i 0 in
+      let ys = drop (suc i) xs in
+      let cut : drop i xs ≡ x ∷ ys = drop-cons xs i 0 l in
+      let w = trees-from i in
+      let u = then-some (trees (map node-of ys)) (joined (node-of x)) (sym (ap (λ zs. trees (map node-of zs)) cut) ∙ w .1) in
+      let code = encode-decode (map node-of ys) (u .0) (u .1) in
+      let most : u .0 ≤ length ys = omega (arith, code .1, size-length (decode (map node-of ys)), ap length (code .0), length-map ys node-of) in
+      record {
+        numbers = cut;
+        few = omega (arith, code .1, length-drop (suc i) xs);
+        inside = h .inside i l;
+        enough = λ e. rw (code .1) (takes-enough x (u .0) e (u .2));
+      }
+
+  -- There is one value: that of the tree.
+  pub tree-value : (t : List ℕ) → values-of t xs ≡ tree-fails t xs ∷ []
+  unfolding values-of tree-fails
+  tree-value t = unwrapped-values (set-of t) root _ (encode-decode (map node-of xs) 1 (h .one) .1)
+
+-- The numbers of a sheet.
 module _ (s : List ℕ) (h : is-sheet s ≡ true) where
   pub numbers-long : length (numbers-in s) ≡ used-in s
   unfolding nodes-in
   numbers-long = sym (length-map (numbers-in s) node-of) ∙ sheet-facts s h .count
 
-  number-here : (i : ℕ) → i < used-in s → getD (numbers-in s) i 0 ≡ getD s (2 + i) 0
-  unfolding numbers-in
-  number-here i l = getD-take (used-in s) (drop 2 s) i 0 l ∙ getD-drop 2 s i 0
-
-  trees-from : (i : ℕ) → (u : ℕ) × (trees (map node-of (drop i (numbers-in s))) ≡ some u)
-  unfolding nodes-in
-  trees-from i =
-      let w = trees-drop i (nodes-in s) (shaped-trees (sheet-shaped s h)) in
-      (w .0, ap trees (map-drop node-of i (numbers-in s)) ∙ w .1)
-
-  pub node-here : (i : ℕ) → i < used-in s → Node-here s i
-  unfolding trees-of place-at trees
-  node-here i l =
+  pub sheet-tree : Spells-tree (numbers-in s)
+  unfolding nodes-in place-at
+  sheet-tree =
       let k = sheet-facts s h in
-      let x = getD s (2 + i) 0 in
-      let xs = drop (suc i) (numbers-in s) in
-      let long = numbers-long in
-      let same = number-here i l in
-      let cut : drop i (numbers-in s) ≡ x ∷ xs = drop-cons (numbers-in s) i 0 (omega arith) ∙ ap (λ y. y ∷ xs) same in
-      let w = trees-from i in
-      let u = then-some (trees (map node-of xs)) (joined (node-of x)) (sym (ap (λ ys. trees (map node-of ys)) cut) ∙ w .1) in
-      let code = encode-decode (map node-of xs) (u .0) (u .1) in
-      let most : u .0 ≤ length xs = omega (arith, code .1, size-length (decode (map node-of xs)), ap length (code .0), length-map xs node-of) in
       record {
-        numbers = cut;
-        few = omega (arith, code .1, length-drop (suc i) (numbers-in s));
-        inside = λ e. omega (arith, literal-kind x e, k .options, rw same at (rooted-literal (options-in s) (numbers-in s) i (k .rooted) (omega arith) (rw same e)));
-        enough = λ e. rw (code .1) (takes-enough x (u .0) e (u .2));
+        one = shaped-trees (sheet-shaped s h);
+        inside = λ i l e. omega (arith, literal-kind (getD (numbers-in s) i 0) e, k .options, rooted-literal (options-in s) (numbers-in s) i (k .rooted) l e);
       }
-
-  -- The whole sheet has one value: that of the root.
-  pub root-value : (t : List ℕ) → values-of t (numbers-in s) ≡ fails (set-of t) root (decode (nodes-in s)) ∷ []
-  unfolding values-of nodes-in
-  root-value t = unwrapped-values (set-of t) root _ (encode-decode (nodes-in s) 1 (shaped-trees (sheet-shaped s h)) .1)

@@ -1,13 +1,17 @@
 -- What the evaluation of a sheet reads: numbers as nodes, and 64 evaluations side by side in the bits of one number.
-use mathlib.Core.Bool.{Bool}
-use mathlib.Core.List.{List, _∷_}
-use Prim.Native.Nat.{ℕ, zero, suc, _+_, _-_, _*_, _/_, _%_}
+use mathlib.Core.Bool.{Bool, true}
+use mathlib.Core.List.{List, _∷_, map}
+use mathlib.Core.Option.{some}
+use mathlib.Core.Path.{_≡_}
+use Prim.Native.Nat.{ℕ, zero, suc, _+_, _-_, _*_, _/_, _%_, _<_}
 use lib.Dec.{eqb}
-use lib.ListN.{getD, take, drop}
+use lib.ListN.{length, getD, take, drop}
 use Rattle.model.specs.Base.{pick}
 use Rattle.model.specs.Forest.{or, root}
-use Rattle.model.specs.Code.{kind, value}
+use Rattle.model.specs.Code.{kind, value, node-of, decode, trees}
 use Rattle.theory.specs.Scan.{is-literal}
+use Rattle.theory.specs.Evaluation.{fails}
+use Rattle.theory.specs.Tables.{set-of}
 use Rattle.theory.specs.Values.{fails-all}
 
 -- The bit of a number at a place, counted from the lowest.
@@ -25,3 +29,12 @@ with-node t x bs =
     pick (is-literal x)
     (eqb (getD t (place-at x) 0) 1 ∷ bs)
     (fails-all (pick (eqb (kind x) 4) or root) (take (value x) bs) ∷ drop (value x) bs)
+
+-- Whether one of the trees that numbers spell fails under a table of failed literals.
+unfoldable pub tree-fails : List ℕ → List ℕ → Bool
+tree-fails t xs = fails (set-of t) root (decode (map node-of xs))
+
+-- Numbers that spell one tree, whose literals have places in a table of 1,024.
+pub record Spells-tree (xs : List ℕ) : Type 0 where
+  pub one : trees (map node-of xs) ≡ some 1
+  pub inside : (i : ℕ) → i < length xs → is-literal (getD xs i 0) ≡ true → place-at (getD xs i 0) < 1024

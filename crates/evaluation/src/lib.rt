@@ -1,8 +1,8 @@
-// Evaluation: whether a sheet's rules fail under a set of failed literals, in one pass from the right; 64 sets at a time.
+// Evaluation: whether a tree of a sheet fails under a set of failed literals, in one pass from the right; 64 sets at a time.
 ghost use mathlib.Core.Path.{_≡_};
 ghost use mathlib.Core.Bool.{true, false};
 ghost use mathlib.Core.List.{map};
-ghost use Prim.Native.Nat.{ℕ, _+_, _*_, _≤_, _<_};
+ghost use Prim.Native.Nat.{ℕ, _+_, _*_, _/_, _≤_, _<_};
 ghost use lib.Dec.{eqb};
 ghost use lib.ListN.{length, getD, set, drop};
 ghost use Rattle.model.specs.Base.{pick};
@@ -13,10 +13,10 @@ ghost use Rattle.theory.specs.Scan.{«is-literal»};
 ghost use Rattle.theory.specs.Evaluation.{fails};
 ghost use Rattle.theory.specs.Values.{«fails-all»};
 ghost use Rattle.theory.specs.Tables.{«set-of»};
-ghost use Rattle.evaluation.specs.Reading.{bit, «place-at», «with-node»};
+ghost use Rattle.evaluation.specs.Reading.{bit, «place-at», «with-node», «tree-fails», «Spells-tree»};
 
 // The place in a table of the literal that a number of kind 1 or 2 is.
-fn place_of(x: usize) -> usize
+pub fn place_of(x: usize) -> usize
     requires { ⌜ «is-literal» x ≡ true ⌝ }
     ensures { λ r. ⌜ r ≡ «place-at» x ⌝ }
 {
@@ -79,20 +79,36 @@ fn read_node(x: usize, failed: &[u8], block: usize, stack: &mut [u64], top: usiz
     new
 }
 
-// Whether the sheet's root fails, in 64 trials: in trial j the literal at place 64 * block + j fails too.
-pub fn root_fails_with(sheet: &[u16], failed: &[u8], block: usize) -> u64
-    requires { ⌜ («is-sheet» (now sheet) ≡ true) × (length (now failed) ≡ 1024) ⌝ }
-    ensures { λ r. ⌜ ((j : ℕ) → j < 64 → bit j r ≡ fails («set-of» (set (now (failed .entry)) (64 * block + j) 1)) root (decode («nodes-in» (now (sheet .entry))))) ⌝ }
+// Whether the tree that a run of numbers spells fails, in 64 trials: in trial j the literal at place 64 * block + j fails too. The
+// stack is lent for the values on the way; what it holds before does not matter.
+pub fn tree_fails_with(tree: &[u16], failed: &[u8], block: usize, stack: &mut [u64]) -> u64
+    requires { ⌜ «Spells-tree» (now tree) × (length (now tree) ≤ length (now stack)) × (length (now failed) ≡ 1024) ⌝ }
+    ensures { λ r. ⌜ ((j : ℕ) → j < 64 → bit j r ≡ «tree-fails» (set (now (failed .entry)) (64 * block + j) 1) (now (tree .entry))) ⌝ }
 {
-    let mut stack = [0u64; 4096];
-    let mut top = 4096;
-    let mut i = numbers::wide16(sheet[1]);
+    let mut top = stack.len();
+    let mut i = tree.len();
     while 0 < i {
         i -= 1;
-        let x = numbers::wide16(sheet[2 + i]);
-        top = read_node(x, failed, block, &mut stack, top);
+        top = read_node(numbers::wide16(tree[i]), failed, block, stack, top);
     }
     stack[top]
+}
+
+// The blocks of 64 places in which the literals of a run of numbers have theirs, a bit for each block.
+pub fn blocks_of(tree: &[u16]) -> u64
+    requires { ⌜ ((i : ℕ) → i < length (now tree) → «is-literal» (getD (now tree) i 0) ≡ true → «place-at» (getD (now tree) i 0) < 1024) ⌝ }
+    ensures { λ r. ⌜ ((i : ℕ) → i < length (now (tree .entry)) → «is-literal» (getD (now (tree .entry)) i 0) ≡ true → bit («place-at» (getD (now (tree .entry)) i 0) / 64) r ≡ true) ⌝ }
+{
+    let mut blocks = 0;
+    let mut i = 0;
+    while i < tree.len() {
+        let x = numbers::wide16(tree[i]);
+        if nodes::is_literal(x) {
+            blocks = blocks | 1 << (place_of(x) / 64);
+        }
+        i += 1;
+    }
+    blocks
 }
 
 // Whether the sheet's root fails.
@@ -100,5 +116,7 @@ pub fn root_fails(sheet: &[u16], failed: &[u8]) -> bool
     requires { ⌜ («is-sheet» (now sheet) ≡ true) × (length (now failed) ≡ 1024) ⌝ }
     ensures { λ r. ⌜ r ≡ fails («set-of» (now (failed .entry))) root (decode («nodes-in» (now (sheet .entry)))) ⌝ }
 {
-    root_fails_with(sheet, failed, 16) % 2 == 1
+    let mut stack = [0u64; 4096];
+    let end = 2 + numbers::wide16(sheet[1]);
+    tree_fails_with(&sheet[2..end], failed, 16, &mut stack) % 2 == 1
 }

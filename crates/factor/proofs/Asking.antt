@@ -18,13 +18,14 @@ use Rattle.theory.specs.Forests.{first-after, size-first, size-after, conjuncti
 use Rattle.theory.specs.Numbers.{fits}
 use Rattle.theory.specs.Scan.{is-literal}
 use Rattle.theory.specs.Spans.{child-at}
-use Rattle.theory.specs.Flat.{spell, spell-⊕, spell-node, Fits, fits-⊕}
+use Rattle.theory.specs.Flat.{spell, spell-⊕, spell-node, Fits, fits-⊕, fits-lit}
 use Rattle.theory.specs.Stretches.{Stretch, forest-in}
 use Rattle.theory.specs.Heads.{Headed}
 use Rattle.theory.specs.Children.{first-left, code, Group, group-value, group-few, child-within, child-place, child-room, child-fits, child-stands, child-group, child-literal, child-conjunction, headed-group}
 use Rattle.theory.specs.Turns.{family-at, family-asks}
 use Rattle.factor.specs.Walks.{among, unit-of, sharing}
-use Rattle.factor.proofs.Codes.{leaf-literal, fits-lit, fits-tree, code-⊕}
+use Rattle.theory.specs.Leaves.{leaf-literal}
+use Rattle.factor.proofs.Codes.{fits-parts, code-⊕}
 use Rattle.factor.proofs.Here.{unit-past, unit-inner}
 use Rattle.factor.proofs.Trees.{among-trees, share-trees, groups-trees}
 use Rattle.factor.proofs.Sizes.{literals-short, short-literals}
@@ -40,7 +41,7 @@ module _ {l : List ℕ} {c : Conn} {k f : Forest} {z : ℕ} (g : Group l c k f z
   group-numbers = g .spelled ∙ spell-node c k f z ∙ ap (λ t. number-of (head c (size k)) ∷ t) (spell-⊕ k f z)
 
   pub group-fits : Fits k
-  group-fits = fits-tree c k f (g .fitting) .1
+  group-fits = fits-parts c k f (g .fitting) .1
 
   -- A child that is a literal: its number, and whether it stands among the children before it.
   module _ (j : ℕ) {a : Literal} (e : literal-at (after j k) ≡ some a) where

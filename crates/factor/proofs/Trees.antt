@@ -19,10 +19,11 @@ use Rattle.theory.specs.Forests.{size-⊕}
 use Rattle.theory.specs.Numbers.{fits, amount, kind-number, value-number}
 use Rattle.theory.specs.Scan.{is-literal}
 use Rattle.theory.specs.Spans.{span-encode}
-use Rattle.theory.specs.Flat.{Fits}
+use Rattle.theory.specs.Flat.{Fits, fits-lit}
 use Rattle.theory.specs.Children.{code}
 use Rattle.factor.specs.Walks.{walk, unit-place, among, shares-here, all-share, group-here, groups-in, less-unit, gathered}
-use Rattle.factor.proofs.Codes.{leaf-literal, head-inner, leaf-test, head-unlike, fits-lit, fits-tree, code-⊕, code-lit, code-node, lit-before, node-before, lit-span, node-span}
+use Rattle.theory.specs.Leaves.{leaf-literal, head-inner, leaf-test, head-unlike}
+use Rattle.factor.proofs.Codes.{fits-parts, code-⊕, code-lit, code-node, lit-before, node-before, lit-span, node-span}
 use Rattle.factor.proofs.Here.{shares-literal, less-unit-parts, kept-is}
 
 -- One tree of a walk.
@@ -100,7 +101,7 @@ module _ (a : Literal) (fit : fits (leaf a) ≡ true) where
       go : (b : Bool) → same a x ≡ b → (b || has-unit a f) ≡ true → fits (leaf x) ≡ true → (has-unit a f ≡ true → Cut f r) → Cut (lit x f) r
       go true e q v w = cut-here x f r v e
       go false e q v w = cut-lit x f r v e (w q)
-  cut (node c k f) r w h = let s = fits-tree c k f w in cut-node c k f r (s .0) (s .1) (cut f r (s .2) h)
+  cut (node c k f) r w h = let s = fits-parts c k f w in cut-node c k f r (s .0) (s .1) (cut f r (s .2) h)
 
   -- Where there is none, the place after all trees.
   uncut-nil : (r : List ℕ) → unit-place (number-of (leaf a)) 0 r ≡ length (code nil)
@@ -117,7 +118,7 @@ module _ (a : Literal) (fit : fits (leaf a) ≡ true) where
       ∙ unit-lit x (size f) (code f ++ r) (s .0)
       ∙ rw (o .0, uncut f r (s .1) (o .1), code-lit x f) (omega arith)
   uncut (node c k f) r w h =
-      let s = fits-tree c k f w in
+      let s = fits-parts c k f w in
       ap (unit-place (number-of (leaf a)) (suc (size f))) (node-before c k f r)
       ∙ unit-node c k (size f) (code f ++ r) (s .0) (s .1)
       ∙ rw (uncut f r (s .2) h, code-node c k f) (omega (arith, length-append (code k) (code f)))
@@ -165,7 +166,7 @@ module _ (a : Literal) (fit : fits (leaf a) ≡ true) where
       let s = fits-lit x f w in
       ap (all-share (number-of (leaf a)) (suc (size f))) (lit-before x f r) ∙ share-lit x (size f) (code f ++ r) (s .0) ∙ share-trees f r (s .1)
   share-trees (node c k f) r w =
-      let s = fits-tree c k f w in
+      let s = fits-parts c k f w in
       ap (all-share (number-of (leaf a)) (suc (size f))) (node-before c k f r)
       ∙ share-node c k (size f) (code f ++ r) (s .0) (s .1)
       ∙ ap (λ b. (same-conn and c && has-unit a k) && b) (share-trees f r (s .2))
@@ -196,7 +197,7 @@ groups-trees (lit x f) r w =
     let s = fits-lit x f w in
     ap (groups-in (suc (size f))) (lit-before x f r) ∙ groups-lit x (size f) (code f ++ r) (s .0) ∙ groups-trees f r (s .1)
 groups-trees (node c k f) r w =
-    let s = fits-tree c k f w in
+    let s = fits-parts c k f w in
     ap (groups-in (suc (size f))) (node-before c k f r) ∙ groups-node c k (size f) (code f ++ r) (s .0) (s .1) ∙ ap suc (groups-trees f r (s .2))
 
 -- What is kept of trees: the literals, or the groups, each without its first copy of the number.
@@ -224,7 +225,7 @@ units-trees a (lit x f) r w =
     ∙ ap (λ t. number-of (leaf x) ∷ t) (units-trees a f r (s .1))
     ∙ sym (code-lit x (units f))
 units-trees a (node c k f) r w =
-    let s = fits-tree c k f w in
+    let s = fits-parts c k f w in
     ap (gathered false a (suc (size f))) (node-before c k f r)
     ∙ gathered-node false a c k (size f) (code f ++ r) (s .0) (s .1)
     ∙ units-trees a f r (s .2)
@@ -261,7 +262,7 @@ module _ (a : Literal) (fit : fits (leaf a) ≡ true) where
       ∙ gathered-lit true (number-of (leaf a)) x (size f) (code f ++ r) (s .0)
       ∙ groups-kept f r (s .1) h
   groups-kept (node and k f) r w h =
-      let s = fits-tree and k f w in
+      let s = fits-parts and k f w in
       let t = and-split (has-unit a k) (shares a f) h in
       ap (gathered true (number-of (leaf a)) (suc (size f))) (node-before and k f r)
       ∙ gathered-node true (number-of (leaf a)) and k (size f) (code f ++ r) (s .0) (s .1)

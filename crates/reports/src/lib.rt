@@ -1,18 +1,15 @@
 // The report, and the "complete" question.
 ghost use mathlib.Core.Path.{_≡_};
-ghost use mathlib.Core.Bool.{true, not, _&&_};
+ghost use mathlib.Core.Bool.{true};
 ghost use Prim.Native.Nat.{_+_, _*_, _≤_, _<_};
-ghost use lib.Dec.{eqb};
-ghost use lib.ListN.{length, getD, set, replicate};
-ghost use Rattle.model.specs.Base.{pick, all};
-ghost use Rattle.model.specs.Code.{decode};
+ghost use lib.ListN.{length, replicate};
+ghost use Rattle.model.specs.Base.{all};
 ghost use Rattle.model.specs.Propagation.{«count-from», complete};
-ghost use Rattle.model.specs.Sheet.{«is-sheet», «options-in», «nodes-in»};
+ghost use Rattle.model.specs.Sheet.{«is-sheet», «options-in»};
 ghost use Rattle.model.specs.Calls.{«report-in», reportOf, completeOf};
 ghost use Rattle.theory.specs.Tables.{«Has-report», «mark-in», «marks-in», «is-marked»};
 ghost use Rattle.answers.specs.Meaning.{afterCall};
 ghost use Rattle.reports.specs.Meaning.{reportedOf, completedOf};
-ghost use Rattle.reports.specs.Sweeps.{opposite, Swept};
 use answers::Refusal;
 
 // What a report says beside its bytes.
@@ -29,68 +26,41 @@ pub enum Completed {
     Refused(Refusal),
 }
 
-// The place of the complement of the literal at a place.
-fn opposite_of(k: usize) -> usize
-    requires { ⌜ k < 1024 ⌝ }
-    ensures { λ r. ⌜ r ≡ opposite k ⌝ }
-{
-    if k % 2 == 0 { k + 1 } else { k - 1 }
-}
-
-// The literal at a place, where it was found to be forced, becomes a fact: its complement fails. Says whether it is a new one.
-fn learn(found: bool, k: usize, failed: &mut [u8]) -> bool
-    requires { ⌜ (k < 1024) × (length (now failed) ≡ 1024) ⌝ }
-    ensures { λ r. ⌜ r ≡ (not (eqb (getD (now (failed .entry)) (opposite k) 0) 1) && found) ⌝ }
-    ensures { λ r. ⌜ now (failed .exit) ≡ pick r (set (now (failed .entry)) (opposite k) 1) (now (failed .entry)) ⌝ }
-{
-    let other = opposite_of(k);
-    if failed[other] == 1 {
-        return false;
-    }
-    if found {
-        failed[other] = 1;
-    }
-    found
-}
-
-// Each literal of a block of 64 places that is forced by what is known so far becomes known. Says whether there was one.
-fn sweep_block(sheet: &[u16], block: usize, failed: &mut [u8]) -> bool
-    requires { ⌜ («is-sheet» (now sheet) ≡ true) × (length (now failed) ≡ 1024) × (block < 16) ⌝ }
-    ensures { λ r. ⌜ Swept (decode («nodes-in» (now (sheet .entry)))) (64 * block) (64 * block + 64) (now (failed .entry)) (now (failed .exit)) r ⌝ }
-{
-    let mut grown = false;
-    let mut rest = evaluation::root_fails_with(sheet, failed, block);
-    let mut k = 64 * block;
-    let end = k + 64;
-    while k < end {
-        grown = grown | learn(rest % 2 == 1, k, failed);
-        rest = rest / 2;
-        k += 1;
-    }
-    grown
-}
-
-// The same for the literals of the first n options.
-fn sweep(sheet: &[u16], n: usize, failed: &mut [u8]) -> bool
-    requires { ⌜ («is-sheet» (now sheet) ≡ true) × (length (now failed) ≡ 1024) × (n ≤ 512) ⌝ }
-    ensures { λ r. ⌜ Swept (decode («nodes-in» (now (sheet .entry)))) 0 (2 * n) (now (failed .entry)) (now (failed .exit)) r ⌝ }
-{
-    let mut grown = false;
-    let mut block = 0;
-    while 64 * block < 2 * n {
-        grown = grown | sweep_block(sheet, block, failed);
-        block += 1;
-    }
-    grown
-}
-
-// All that is forced becomes known.
+// All that is forced becomes known: each part is looked at, and again where the trail of what became known touches it.
 fn propagate(sheet: &[u16], failed: &mut [u8])
     requires { ⌜ («is-sheet» (now sheet) ≡ true) × (now failed ≡ replicate 1024 0) ⌝ }
     ensures { λ r. ⌜ «Has-report» (now (sheet .entry)) (now (failed .exit)) ⌝ }
 {
-    let n = numbers::wide16(sheet[0]);
-    while sweep(sheet, n, failed) {}
+    let mut ends = [0u16; 4098];
+    let mut homes = [0u16; 4098];
+    let mut last = [0u16; 1024];
+    let mut earlier = [0u16; 4098];
+    let mut seen = [0u16; 4098];
+    let mut trail = [0u16; 1024];
+    let mut stack = [0u64; 4096];
+    parts::find(sheet, &mut ends, &mut homes);
+    parts::link(sheet, &mut last, &mut earlier);
+    let known = propagation::look_at(
+        sheet,
+        &ends,
+        4098,
+        &mut seen,
+        failed,
+        &mut trail,
+        &mut stack,
+    );
+    propagation::follow(
+        sheet,
+        &ends,
+        &homes,
+        &last,
+        &earlier,
+        &mut seen,
+        failed,
+        &mut trail,
+        known,
+        &mut stack,
+    );
 }
 
 // The mark of an option.

@@ -192,6 +192,26 @@ named n c (node d k f) h =
 unfoldable pub forced-by : Forest → List ℕ → Literal → Bool
 forced-by f t l = not (set-of t (complement l)) && fails (set-of (set t (place-of l) 1)) root f
 
+-- Where the facts conflict with contradictory clauses, the table has the report.
+conflict-report : (n : ℕ) (cs : List Clause) (t : List ℕ) → conflict (facts-in t) cs ≡ true → Contradictory cs → report-by n cs (facts-in t) ≡ report n cs
+unfolding report-by
+conflict-report n cs t e d = let tells = report-tells n cs in λ i. record {
+  contradictory = (e ∙ sym (tells .conflicts .1 d)) i;
+  marks = (pick-true (conflict (facts-in t) cs) (replicate n 3) (map (mark (facts-in t)) (count-from 0 n)) e ∙ sym (tells .all-three d)) i;
+}
+
+-- A tree that fails conflicts with the facts; and facts that are right conflict with contradictory clauses only.
+pub failed-report : (n : ℕ) (f : Forest) (t : List ℕ) → fails (set-of t) root f ≡ true → Right (clauses root f) t → report-by n (clauses root f) (facts-in t) ≡ report n (clauses root f)
+unfolding conflict refuted
+failed-report n f t e right =
+    let loud = conflict-fails t f ∙ e in
+    let w = any-at (refuted (facts-in t)) (clauses root f) loud in
+    conflict-report n (clauses root f) t loud
+    (⊎-elim
+    (λ d. d)
+    (λ d. (w .0, w .1, λ x m. right d (complement x) (all-at (λ y. has (complement y) (facts-in t)) (w .0) (w .2) m)))
+    (contradictory-or-not (clauses root f)))
+
 -- Where nothing is forced, the table has the report.
 
 pub place-below : (n : ℕ) (l : Literal) → option l < n → place-of l < 2 * n
@@ -222,12 +242,8 @@ module _ (n : ℕ) (f : Forest) (t : List ℕ) (inside : all (all (λ l. ltb (op
   conflicting d = any-from (refuted (facts-in t)) (clauses root f) (d .1) (all-from (λ x. has (complement x) (facts-in t)) (d .0) (λ x m. derived-fact (d .2 x m)))
 
   pub rest-report : Right (clauses root f) t → report-by n (clauses root f) (facts-in t) ≡ report n (clauses root f)
-  unfolding report-by
   rest-report right = ⊎-elim
-      (λ d. let tells = report-tells n (clauses root f) in let e = conflicting d in λ i. record {
-        contradictory = (e ∙ sym (tells .conflicts .1 d)) i;
-        marks = (pick-true (conflict (facts-in t) (clauses root f)) (replicate n 3) (map (mark (facts-in t)) (count-from 0 n)) e ∙ sym (tells .all-three d)) i;
-      })
+      (λ d. conflict-report n (clauses root f) t (conflicting d) d)
       (λ d. report-by-settled n (record { sound = right d; closed = closed }))
       (contradictory-or-not (clauses root f))
 
@@ -258,6 +274,11 @@ module _ (s : List ℕ) (h : is-sheet s ≡ true) where
   pub sheet-report : (t : List ℕ) → 2 * options-in s ≤ length t → Right (clauses root (decode (nodes-in s))) t → ((l : Literal) → option l < options-in s → forced-by (decode (nodes-in s)) t l ≡ false) → Has-report s t
   unfolding clauses-in report-in
   sheet-report t room right rest = rest-report (options-in s) (decode (nodes-in s)) t sheet-named room rest right
+
+  -- So has one under which the sheet fails.
+  pub sheet-failed : (t : List ℕ) → fails (set-of t) root (decode (nodes-in s)) ≡ true → Right (clauses root (decode (nodes-in s))) t → Has-report s t
+  unfolding clauses-in report-in
+  sheet-failed t e right = failed-report (options-in s) (decode (nodes-in s)) t e right
 
 mark-fact : (t : List ℕ) (v : ℕ) → mark (facts-in t) v ≡ mark-in t v
 unfolding mark mark-in complement

@@ -1,89 +1,98 @@
--- `reports::propagate` meets its contract. Invariant: what the table holds is derived. Each sweep but the last leaves fewer places
--- unset.
-use mathlib.Core.List.{List}
-use mathlib.Core.Path.{_≡_, sym, ap, _∙_}
+-- `reports::propagate` meets its contract: the tables are what each call asks for.
+use mathlib.Core.Path.{ap, _∙_}
 use Prim.Native.Nat.{ℕ}
 use native.Mathlib.Omega.{arith}
 use borrow.Author.Needs.{needs}
-use lib.ListN.{length, replicate, length-replicate}
-use Rattle.model.specs.Base.{pick}
-use Rattle.model.specs.Forest.{root}
-use Rattle.model.specs.Clauses.{clauses}
-use Rattle.model.specs.Code.{decode}
-use Rattle.model.specs.Sheet.{options-in, nodes-in}
-use Rattle.theory.specs.Sheets.{sheet-facts}
-use Rattle.theory.specs.Tables.{Right, right-none}
-use Rattle.reports.specs.Sweeps.{unset}
-use Rattle.reports.proofs.Sweeps.{last-sweep}
+use lib.ListN.{length, length-replicate}
+use Rattle.propagation.proofs.Watching.{ends-of}
 use Rattle.reports.proofs.propagate.Statement.{statement}
 use Rattle.reports.proofs.propagate.Tie as tie
 
-clear : {t : List ℕ} → t ≡ replicate 1024 0 → length t ≡ 1024
-clear e = ap length e ∙ length-replicate {A = ℕ} 1024 0
+slice-aggregate-find : tie.Need-slice-aggregate-find
+slice-aggregate-find c = search needs
 
-abbrev Inv-loop : tie.InvT-loop
-Inv-loop sheet failed₀ n failed =
-    (length failed ≡ 1024) × (n ≡ options-in sheet) × Right (clauses root (decode (nodes-in sheet))) failed
+slice-aggregate-find-2 : tie.Need-slice-aggregate-find-2
+slice-aggregate-find-2 c = search needs
 
-abbrev μ-loop : tie.MeasureT-loop
-μ-loop sheet failed₀ n failed = unset failed
+find-requires : tie.Need-find-requires
+find-requires c κs = search needs
 
-shared-slice-read-wide16 : tie.Need-shared-slice-read-wide16 Inv-loop μ-loop
-shared-slice-read-wide16 c = let k = sheet-facts _ (c .before .before .before .pre .0) in omega arith
+slice-aggregate-link : tie.Need-slice-aggregate-link
+slice-aggregate-link c = search needs
 
-wide16-requires : tie.Need-wide16-requires Inv-loop μ-loop
-wide16-requires c κs = search needs
+slice-aggregate-link-2 : tie.Need-slice-aggregate-link-2
+slice-aggregate-link-2 c = search needs
 
-loop-holds : tie.Need-loop-holds Inv-loop μ-loop
-unfolding options-in
-loop-holds c =
-    let p = c .before .before .before .before .pre .1 in
-    (clear p, c .wide16 .ensures .0, rw p (right-none _ 1024))
+link-requires : tie.Need-link-requires
+link-requires c κs = search needs
 
-sweep-requires : tie.Need-sweep-requires Inv-loop μ-loop
-sweep-requires c κs =
-    let w = c .before .loop .inv in
-    let p = c .before .before .before .before .before .before .pre .0 in
-    let k = sheet-facts _ p in
-    (p, w .0, omega arith)
+slice-aggregate-look-at : tie.Need-slice-aggregate-look-at
+slice-aggregate-look-at c = search needs
 
-loop-less : tie.Need-loop-less Inv-loop μ-loop
-unfolding pick
-loop-less c =
-    let call = c .before .before .before .sweep in
-    let e = rw (c .if1 .taken) at (call .ensures .fewer) in
-    omega arith
+slice-aggregate-look-at-2 : tie.Need-slice-aggregate-look-at-2
+slice-aggregate-look-at-2 c = search needs
 
-loop-again : tie.Need-loop-again Inv-loop μ-loop
-loop-again c =
-    let w = c .before .before .before .before .before .loop .inv in
-    let call = c .before .before .before .sweep in
-    (call .ensures .long ∙ w .0, w .1, call .ensures .right (w .2))
+slice-aggregate-look-at-3 : tie.Need-slice-aggregate-look-at-3
+slice-aggregate-look-at-3 c = search needs
 
-same-length : tie.Need-same-length Inv-loop μ-loop
-same-length c =
-    let n = c .before .before .before .before .before in
-    c .before .before .before .sweep .ensures .long ∙ n .loop .inv .0 ∙ sym (clear (n .before .before .before .before .before .pre .1))
+slice-aggregate-look-at-4 : tie.Need-slice-aggregate-look-at-4
+slice-aggregate-look-at-4 c = search needs
 
-returns : tie.Need-returns Inv-loop μ-loop
-returns c =
-    let n = c .before .before .before .before .before in
-    let w = n .loop .inv in
-    let p = n .before .before .before .before .before .pre .0 in
-    let k = sheet-facts _ p in
-    last-sweep _ p (n .before .wide16 .result) (w .1) (c .before .before .before .sweep .ensures) (c .if1 .left) (omega arith) (w .2)
+look-at-requires : tie.Need-look-at-requires
+look-at-requires c κs = ((search needs, ends-of (c .before .before .before .before .before .before .before .before .before .before .before .before .find .ensures), omega arith, search needs), (search needs, search needs, search needs))
+
+slice-aggregate-follow : tie.Need-slice-aggregate-follow
+slice-aggregate-follow c = search needs
+
+slice-aggregate-follow-2 : tie.Need-slice-aggregate-follow-2
+slice-aggregate-follow-2 c = search needs
+
+slice-aggregate-follow-3 : tie.Need-slice-aggregate-follow-3
+slice-aggregate-follow-3 c = search needs
+
+slice-aggregate-follow-4 : tie.Need-slice-aggregate-follow-4
+slice-aggregate-follow-4 c = search needs
+
+slice-aggregate-follow-5 : tie.Need-slice-aggregate-follow-5
+slice-aggregate-follow-5 c = search needs
+
+slice-aggregate-follow-6 : tie.Need-slice-aggregate-follow-6
+slice-aggregate-follow-6 c = search needs
+
+slice-aggregate-follow-7 : tie.Need-slice-aggregate-follow-7
+slice-aggregate-follow-7 c = search needs
+
+follow-requires : tie.Need-follow-requires
+follow-requires c κs = ((search needs, c .before .before .before .before .before .before .before .before .before .before .before .before .before .before .before .before .before .before .before .before .before .before .before .before .before .before .find .ensures, c .before .before .before .before .before .before .before .before .before .before .before .before .before .before .before .before .before .before .before .before .before .link .ensures, search needs, c .before .before .before .before .before .before .before .before .before .before .before .before .before .look-at .kept .1 .1 .1 .1 .0 ∙ ap length (c .before .before .before .before .before .before .before .before .before .before .before .before .before .before .before .before .before .before .before .before .before .before .before .before .before .before .before .before .before .before .before .pre .1) ∙ length-replicate {A = ℕ} 1024 0, search needs, search needs), c .before .before .before .before .before .before .before .before .before .before .before .before .before .look-at .ensures)
+
+same-length : tie.Need-same-length
+same-length c = search needs
+
+returns : tie.Need-returns
+returns c = search needs
 
 pub propagate-spec : {M : Type 1} → statement M
 propagate-spec =
     tie.close
     (tie.spec
-    Inv-loop
-    μ-loop
-    shared-slice-read-wide16
-    wide16-requires
-    loop-holds
-    sweep-requires
-    loop-less
-    loop-again
+    slice-aggregate-find
+    slice-aggregate-find-2
+    find-requires
+    slice-aggregate-link
+    slice-aggregate-link-2
+    link-requires
+    slice-aggregate-look-at
+    slice-aggregate-look-at-2
+    slice-aggregate-look-at-3
+    slice-aggregate-look-at-4
+    look-at-requires
+    slice-aggregate-follow
+    slice-aggregate-follow-2
+    slice-aggregate-follow-3
+    slice-aggregate-follow-4
+    slice-aggregate-follow-5
+    slice-aggregate-follow-6
+    slice-aggregate-follow-7
+    follow-requires
     same-length
     returns)

@@ -1,0 +1,55 @@
+-- `keying::choose_code` meets its contract: the lookup's refusal, or the choice of the option that it found.
+use mathlib.Core.Path.{sym, ap, _∙_}
+use native.Mathlib.Omega.{arith}
+use borrow.Author.Needs.{needs}
+use Rattle.answers.specs.Meaning.{foundOf}
+use Rattle.books.proofs.Found.{found-small}
+use Rattle.keying.proofs.Laws.{choose-refused, choose-value}
+use Rattle.keying.proofs.choose_code.Statement.{statement}
+use Rattle.keying.proofs.choose_code.Tie as tie
+
+lookup-requires : tie.Need-lookup-requires
+lookup-requires c κs = search needs
+
+enum-known-found : tie.Need-enum-known-found
+enum-known-found c = search needs
+
+enum-told : tie.Need-enum-told
+enum-told c = search needs
+
+without-number-requires : tie.Need-without-number-requires
+without-number-requires c κs = search needs
+
+returns : tie.Need-returns
+returns c =
+    choose-refused _ _ _ _ _ _ (ap foundOf (c .before .enum-told .given .1)) (c .before .before .before .lookup .ensures) (c .without-number .ensures)
+
+cast-choose : tie.Need-cast-choose
+cast-choose c =
+    let start = c .before .before .before .before .before .before .before .before in
+    record { fits = omega (arith, found-small (start .args .book .now) (start .args .code .now) _ (ap foundOf (sym (c .before .before .found .given .1)) ∙ c .before .before .before .before .lookup .ensures)) }
+
+choose-requires : tie.Need-choose-requires
+choose-requires c κs = search needs
+
+same-length : tie.Need-same-length
+same-length c = search needs
+
+returns-2 : tie.Need-returns-2
+returns-2 c =
+    let found = c .before .before .before .before .before in
+    c .before .before .choose .ensures ∙ choose-value _ _ _ _ _ (ap foundOf (found .found .given .1)) (found .before .before .lookup .ensures)
+
+pub choose-code-spec : {M : Type 1} → statement M
+choose-code-spec =
+    tie.close
+    (tie.spec
+    lookup-requires
+    enum-known-found
+    enum-told
+    without-number-requires
+    returns
+    cast-choose
+    choose-requires
+    same-length
+    returns-2)

@@ -1,0 +1,4 @@
+pub mod Learning
+pub mod Looking
+pub mod Watching
+pub mod Following

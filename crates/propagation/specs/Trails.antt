@@ -1,0 +1,101 @@
+-- A table of failed literals with the trail of what was added to it, and parts that force nothing more.
+use mathlib.Core.Bool.{Bool, true, not, _&&_}
+use mathlib.Core.List.{List, [], _∷_}
+use mathlib.Core.Logic.{_⊎_}
+use mathlib.Core.Path.{_≡_}
+use Prim.Native.Nat.{ℕ, zero, suc, _+_, _-_, _*_, _%_, _≤_, _<_}
+use lib.Dec.{eqb}
+use lib.ListN.{length, getD, set}
+use Rattle.model.specs.Base.{pick}
+use Rattle.model.specs.Forest.{root}
+use Rattle.model.specs.Clauses.{clauses}
+use Rattle.model.specs.Code.{decode}
+use Rattle.model.specs.Sheet.{nodes-in, numbers-in}
+use Rattle.theory.specs.Tables.{Right}
+use Rattle.evaluation.specs.Reading.{tree-fails}
+use Rattle.parts.specs.Parts.{stretch, Part, Occurs}
+
+-- The place of the complement.
+unfoldable pub opposite : ℕ → ℕ
+opposite k = pick (eqb (k % 2) 0) (k + 1) (k - 1)
+
+-- The places that hold no 1.
+unfoldable pub unset : List ℕ → ℕ
+unset [] = zero
+unset (x ∷ t) = pick (eqb x 1) (unset t) (suc (unset t))
+
+-- A literal that was found to be forced is no fact yet.
+unfoldable pub fresh : List ℕ → ℕ → Bool → Bool
+fresh t k found = found && not (eqb (getD t (opposite k) 0) 1)
+
+-- A table and its trail hold facts of a sheet, and the trail has room for whatever can still fail.
+pub record Facts (s t trail : List ℕ) (n : ℕ) : Type 0 where
+  pub long : length t ≡ 1024
+  pub wide : length trail ≡ 1024
+  pub room : n + unset t ≡ 1024
+  pub placed : (h : ℕ) → h < n → getD trail h 0 < 1024
+  pub right : Right (clauses root (decode (nodes-in s))) t
+
+-- A table has grown by what its trail has grown by.
+pub record Grown (t trail : List ℕ) (n : ℕ) (t′ trail′ : List ℕ) (n′ : ℕ) : Type 0 where
+  pub more : n ≤ n′
+  pub keeps : (p : ℕ) → getD t p 0 ≡ 1 → getD t′ p 0 ≡ 1
+  pub new : (p : ℕ) → getD t′ p 0 ≡ 1 → (getD t p 0 ≡ 1) ⊎ ((h : ℕ) × (n ≤ h) × (h < n′) × (getD trail′ h 0 ≡ p))
+  pub old : (h : ℕ) → h < n → getD trail′ h 0 ≡ getD trail h 0
+
+-- No literal that the trail has from c on stands between two places of the sheet.
+abbrev pub Untouched : List ℕ → ℕ → ℕ → ℕ → List ℕ → ℕ → Type 0
+Untouched s i e c trail n = (h m : ℕ) → c ≤ h → h < n → i ≤ m → m < e → Occurs s (getD trail h 0) m → ⊥
+
+-- What the part between them forces, of the literals below a bound that stand in it, is known, unless the trail touched it since.
+abbrev pub Calm : ℕ → List ℕ → ℕ → ℕ → ℕ → List ℕ → List ℕ → ℕ → Type 0
+Calm k s i e c t trail n = Untouched s i e c trail n → (q m : ℕ) → q < k → i ≤ m → m < e → Occurs s q m → tree-fails (set t q 1) (stretch i e s) ≡ true → getD t (opposite q) 0 ≡ 1
+
+-- The sheet fails under a table of facts, so that it is contradictory. A number that no trail is as long as says so.
+pub record Fallen (s t : List ℕ) (n : ℕ) : Type 0 where
+  pub over : 1024 < n
+  pub falls : tree-fails t (numbers-in s) ≡ true
+  pub right : Right (clauses root (decode (nodes-in s))) t
+
+-- A part was tried with each literal of a block: what it forces is known.
+pub record Tried (s : List ℕ) (i e block : ℕ) (t trail : List ℕ) (n : ℕ) (t′ trail′ : List ℕ) (n′ : ℕ) : Type 0 where
+  pub facts : Facts s t′ trail′ n′
+  pub grown : Grown t trail n t′ trail′ n′
+  pub known : (j : ℕ) → j < 64 → tree-fails (set t (64 * block + j) 1) (stretch i e s) ≡ true → getD t′ (opposite (64 * block + j)) 0 ≡ 1
+
+-- A part was looked at.
+pub record Looked (s : List ℕ) (i e : ℕ) (t trail : List ℕ) (n : ℕ) (t′ trail′ : List ℕ) (n′ : ℕ) : Type 0 where
+  pub facts : Facts s t′ trail′ n′
+  pub grown : Grown t trail n t′ trail′ n′
+  pub calm : Calm 1024 s i e n t′ trail′ n′
+
+-- The ends in a table are those of parts.
+pub record Ends (s ends : List ℕ) : Type 0 where
+  pub wide : length ends ≡ 4098
+  pub part : (i : ℕ) → (getD ends i 0 ≡ 0 → ⊥) → Part s i (getD ends i 0)
+
+-- Every part that begins before a place is calm since the trail was as long as is noted for it.
+pub record Watching (s ends : List ℕ) (to : ℕ) (seen t trail : List ℕ) (n : ℕ) : Type 0 where
+  pub facts : Facts s t trail n
+  pub long : length seen ≡ 4098
+  pub most : (i : ℕ) → getD seen i 0 ≤ n
+  pub calm : (i : ℕ) → i < to → (getD ends i 0 ≡ 0 → ⊥) → Calm 1024 s i (getD ends i 0) (getD seen i 0) t trail n
+
+-- The sizes from one on and below another.
+abbrev pub Sized : ℕ → ℕ → ℕ → ℕ → Type 0
+Sized least limit i e = (i + least ≤ e) × (e < i + limit)
+
+-- The part was looked at since the trail had so many literals, if its size is in the range.
+abbrev pub Since : ℕ → ℕ → ℕ → List ℕ → ℕ → List ℕ → Type 0
+Since h least limit ends i seen = (getD ends i 0 ≡ 0 → ⊥) → Sized least limit i (getD ends i 0) → h < getD seen i 0
+
+-- All parts were calm, and are; and whatever was noted for one was noted no earlier.
+pub record Watched (s ends seen t trail : List ℕ) (n : ℕ) (seen′ t′ trail′ : List ℕ) (n′ : ℕ) : Type 0 where
+  pub watching : Watching s ends 4098 seen′ t′ trail′ n′
+  pub grown : Grown t trail n t′ trail′ n′
+  pub later : (i : ℕ) → getD seen i 0 ≤ getD seen′ i 0
+
+-- The parts of a range of sizes that hold a literal were looked at since the trail had so many literals.
+abbrev pub Reached : List ℕ → List ℕ → ℕ → ℕ → ℕ → ℕ → List ℕ → Type 0
+Reached s ends q h least limit seen =
+    (i m : ℕ) → i ≤ m → m < getD ends i 0 → Occurs s q m → Since h least limit ends i seen

@@ -1,0 +1,271 @@
+// Propagation: what the parts of a sheet force becomes known, and each part that may force more is looked at again. A trail lists
+// the literals that failed, in order; for each part it is noted how long the trail was when the part was last looked at.
+ghost use mathlib.Core.Path.{_≡_};
+ghost use mathlib.Core.Bool.{true};
+ghost use mathlib.Core.Logic.{_⊎_};
+ghost use Prim.Native.Nat.{_+_, _≤_, _<_};
+ghost use lib.ListN.{length, getD, set, replicate};
+ghost use Rattle.model.specs.Base.{pick};
+ghost use Rattle.model.specs.Sheet.{«is-sheet»};
+ghost use Rattle.theory.specs.Tables.{«Has-report»};
+ghost use Rattle.parts.specs.Parts.{Part, Parted, Linked};
+ghost use Rattle.propagation.specs.Trails.{opposite, unset, fresh, Facts, Fallen, Tried, Looked, Ends, Watching, Since, Watched, Reached};
+
+// The place of the complement of the literal at a place.
+fn opposite_of(k: usize) -> usize
+    requires { ⌜ k < 1024 ⌝ }
+    ensures { λ r. ⌜ r ≡ opposite k ⌝ }
+{
+    if k % 2 == 0 { k + 1 } else { k - 1 }
+}
+
+// The literal at a place, where it was found to be forced, becomes a fact: its complement fails, and joins the trail where it did
+// not fail before. The trail's new length.
+fn learn(found: bool, k: usize, failed: &mut [u8], trail: &mut [u16], known: usize) -> usize
+    requires { ⌜ (k < 1024) × (length (now failed) ≡ 1024) × (length (now trail) ≡ 1024) × (known + unset (now failed) ≡ 1024) ⌝ }
+    ensures { λ r. ⌜ r ≡ pick (fresh (now (failed .entry)) k found) (known + 1) known ⌝ }
+    ensures { λ r. ⌜ now (failed .exit) ≡ pick (fresh (now (failed .entry)) k found) (set (now (failed .entry)) (opposite k) 1) (now (failed .entry)) ⌝ }
+    ensures { λ r. ⌜ now (trail .exit) ≡ pick (fresh (now (failed .entry)) k found) (set (now (trail .entry)) known (opposite k)) (now (trail .entry)) ⌝ }
+{
+    if !found {
+        return known;
+    }
+    let other = opposite_of(k);
+    if failed[other] == 1 {
+        return known;
+    }
+    failed[other] = 1;
+    trail[known] = other as u16;
+    known + 1
+}
+
+// Each literal of a block of 64 places that a part forces becomes known.
+fn look_in(
+    sheet: &[u16],
+    from: usize,
+    to: usize,
+    block: usize,
+    failed: &mut [u8],
+    trail: &mut [u16],
+    known: usize,
+    stack: &mut [u64],
+) -> usize
+    requires { ⌜ («is-sheet» (now sheet) ≡ true) × Part (now sheet) from to × Facts (now sheet) (now failed) (now trail) known × (length (now stack) ≡ 4096) × (block < 16) ⌝ }
+    ensures { λ r. ⌜ Tried (now (sheet .entry)) from to block (now (failed .entry)) (now (trail .entry)) known (now (failed .exit)) (now (trail .exit)) r ⌝ }
+{
+    let mut rest = evaluation::tree_fails_with(&sheet[from..to], failed, block, stack);
+    let mut grown = known;
+    if rest == 0 {
+        return grown;
+    }
+    let mut k = 64 * block;
+    let end = k + 64;
+    while k < end {
+        grown = learn(rest % 2 == 1, k, failed, trail, grown);
+        rest = rest / 2;
+        k += 1;
+    }
+    grown
+}
+
+// The same for all blocks in which the part has literals. A part that fails as it is makes the sheet contradictory: 1,025.
+fn look(
+    sheet: &[u16],
+    from: usize,
+    to: usize,
+    failed: &mut [u8],
+    trail: &mut [u16],
+    known: usize,
+    stack: &mut [u64],
+) -> usize
+    requires { ⌜ («is-sheet» (now sheet) ≡ true) × Part (now sheet) from to × Facts (now sheet) (now failed) (now trail) known × (length (now stack) ≡ 4096) ⌝ }
+    ensures { λ r. ⌜ Looked (now (sheet .entry)) from to (now (failed .entry)) (now (trail .entry)) known (now (failed .exit)) (now (trail .exit)) r ⊎ Fallen (now (sheet .entry)) (now (failed .exit)) r ⌝ }
+{
+    if evaluation::tree_fails_with(&sheet[from..to], failed, 16, stack) % 2 == 1 {
+        return 1025;
+    }
+    let mut blocks = evaluation::blocks_of(&sheet[from..to]);
+    let mut grown = known;
+    let mut block = 0;
+    while block < 16 {
+        if blocks % 2 == 1 {
+            grown = look_in(sheet, from, to, block, failed, trail, grown, stack);
+        }
+        blocks = blocks / 2;
+        block += 1;
+    }
+    grown
+}
+
+// Looks at a part again, if its size is in the range and it was not looked at since the trail was longer than so much.
+fn look_again(
+    sheet: &[u16],
+    ends: &[u16],
+    from: usize,
+    least: usize,
+    limit: usize,
+    since: usize,
+    seen: &mut [u16],
+    failed: &mut [u8],
+    trail: &mut [u16],
+    known: usize,
+    stack: &mut [u64],
+) -> usize
+    requires { ⌜ («is-sheet» (now sheet) ≡ true) × Ends (now sheet) (now ends) × Watching (now sheet) (now ends) 4098 (now seen) (now failed) (now trail) known × (length (now stack) ≡ 4096) ⌝ }
+    requires { ⌜ (from < 4098) × (1 ≤ least) × (least ≤ 4098) × (limit ≤ 4098) × (since < known) ⌝ }
+    ensures { λ r. ⌜ Watched (now (sheet .entry)) (now (ends .entry)) (now (seen .entry)) (now (failed .entry)) (now (trail .entry)) known (now (seen .exit)) (now (failed .exit)) (now (trail .exit)) r ⊎ Fallen (now (sheet .entry)) (now (failed .exit)) r ⌝ }
+    ensures { λ r. ⌜ Since since least limit (now (ends .entry)) from (now (seen .exit)) ⌝ }
+{
+    let to = numbers::wide16(ends[from]);
+    if to < from + least || from + limit <= to {
+        return known;
+    }
+    if since < numbers::wide16(seen[from]) {
+        return known;
+    }
+    seen[from] = known as u16;
+    look(sheet, from, to, failed, trail, known, stack)
+}
+
+// Looks again at the parts of a range of sizes that hold one literal of the trail.
+fn visit(
+    sheet: &[u16],
+    ends: &[u16],
+    homes: &[u16],
+    last: &[u16],
+    earlier: &[u16],
+    index: usize,
+    least: usize,
+    limit: usize,
+    seen: &mut [u16],
+    failed: &mut [u8],
+    trail: &mut [u16],
+    known: usize,
+    stack: &mut [u64],
+) -> usize
+    requires { ⌜ («is-sheet» (now sheet) ≡ true) × Parted (now sheet) (now ends) (now homes) × Linked (now sheet) (now last) (now earlier) × Watching (now sheet) (now ends) 4098 (now seen) (now failed) (now trail) known × (length (now stack) ≡ 4096) ⌝ }
+    requires { ⌜ (1 ≤ least) × (least ≤ 4098) × (limit ≤ 4098) × (index < known) ⌝ }
+    ensures { λ r. ⌜ (Watched (now (sheet .entry)) (now (ends .entry)) (now (seen .entry)) (now (failed .entry)) (now (trail .entry)) known (now (seen .exit)) (now (failed .exit)) (now (trail .exit)) r × Reached (now (sheet .entry)) (now (ends .entry)) (getD (now (trail .entry)) index 0) index least limit (now (seen .exit))) ⊎ Fallen (now (sheet .entry)) (now (failed .exit)) r ⌝ }
+{
+    let mut grown = known;
+    let mut n = numbers::wide16(last[numbers::wide16(trail[index])]);
+    while 0 < n {
+        let from = numbers::wide16(homes[n]);
+        grown = look_again(
+            sheet,
+            ends,
+            from,
+            least,
+            limit,
+            index,
+            seen,
+            failed,
+            trail,
+            grown,
+            stack,
+        );
+        if 1024 < grown {
+            return grown;
+        }
+        n = numbers::wide16(earlier[n]);
+    }
+    grown
+}
+
+// Looks at each part that begins before a place.
+pub fn look_at(
+    sheet: &[u16],
+    ends: &[u16],
+    to: usize,
+    seen: &mut [u16],
+    failed: &mut [u8],
+    trail: &mut [u16],
+    stack: &mut [u64],
+) -> usize
+    requires { ⌜ («is-sheet» (now sheet) ≡ true) × Ends (now sheet) (now ends) × (to ≤ 4098) × (length (now stack) ≡ 4096) ⌝ }
+    requires { ⌜ (now seen ≡ replicate 4098 0) × (now failed ≡ replicate 1024 0) × (length (now trail) ≡ 1024) ⌝ }
+    ensures { λ r. ⌜ Watching (now (sheet .entry)) (now (ends .entry)) to (now (seen .exit)) (now (failed .exit)) (now (trail .exit)) r ⊎ Fallen (now (sheet .entry)) (now (failed .exit)) r ⌝ }
+{
+    let mut known = 0;
+    let mut i = 0;
+    while i < to {
+        let end = numbers::wide16(ends[i]);
+        if 0 < end {
+            seen[i] = known as u16;
+            known = look(sheet, i, end, failed, trail, known, stack);
+            if 1024 < known {
+                return known;
+            }
+        }
+        i += 1;
+    }
+    known
+}
+
+// Follows the trail to its end: small parts first, and larger ones where no small one is left.
+pub fn follow(
+    sheet: &[u16],
+    ends: &[u16],
+    homes: &[u16],
+    last: &[u16],
+    earlier: &[u16],
+    seen: &mut [u16],
+    failed: &mut [u8],
+    trail: &mut [u16],
+    start: usize,
+    stack: &mut [u64],
+)
+    requires { ⌜ («is-sheet» (now sheet) ≡ true) × Parted (now sheet) (now ends) (now homes) × Linked (now sheet) (now last) (now earlier) × (length (now seen) ≡ 4098) × (length (now failed) ≡ 1024) × (length (now trail) ≡ 1024) × (length (now stack) ≡ 4096) ⌝ }
+    requires { ⌜ Watching (now sheet) (now ends) 4098 (now seen) (now failed) (now trail) start ⊎ Fallen (now sheet) (now failed) start ⌝ }
+    ensures { λ r. ⌜ «Has-report» (now (sheet .entry)) (now (failed .exit)) ⌝ }
+{
+    if 1024 < start {
+        return;
+    }
+    let mut known = start;
+    let mut small = 0;
+    let mut large = 0;
+    while large < known {
+        if small < known {
+            known = visit(
+                sheet,
+                ends,
+                homes,
+                last,
+                earlier,
+                small,
+                1,
+                16,
+                seen,
+                failed,
+                trail,
+                known,
+                stack,
+            );
+            if 1024 < known {
+                return;
+            }
+            small += 1;
+        } else {
+            known = visit(
+                sheet,
+                ends,
+                homes,
+                last,
+                earlier,
+                large,
+                16,
+                4098,
+                seen,
+                failed,
+                trail,
+                known,
+                stack,
+            );
+            if 1024 < known {
+                return;
+            }
+            large += 1;
+        }
+    }
+}

@@ -1,0 +1,141 @@
+-- `sessions::put_ran` meets its contract: each answer of the run, and what is printed of it.
+use mathlib.Core.Path.{_≡_, sym, ap, _∙_}
+use Prim.Native.Nat.{ℕ, _≤_}
+use native.Mathlib.Omega.{arith}
+use borrow.Author.Needs.{needs}
+use lib.ListN.{length, take, replicate, length-replicate}
+use Rattle.model.specs.Book.{options-of}
+use Rattle.model.specs.Desk.{desk-budget}
+use Rattle.answers.specs.Meaning.{afterCall}
+use Rattle.runs.specs.Meaning.{ranOf}
+use Rattle.printing.specs.Placed.{placed}
+use Rattle.sessions.proofs.Laws.{few-options, codes-fit, take-zeros, ran-accepted, ran-refused}
+use Rattle.sessions.proofs.put_ran.Statement.{statement}
+use Rattle.sessions.proofs.put_ran.Tie as tie
+
+word-at-requires : tie.Need-word-at-requires
+word-at-requires c κs = let start = c .before .before .before in omega (arith, codes-fit (start .args .book .now) (start .pre .0))
+
+-- The options of the book: so many marks are lent.
+count-here : (c : tie.After-word-at) → c .word-at .result ≡ options-of (c .before .before .before .before .args .book .now)
+unfolding options-of
+count-here c = c .word-at .ensures
+
+few-here : (c : tie.After-word-at) → c .word-at .result ≤ 512
+few-here c = let start = c .before .before .before .before in omega (arith, count-here c, few-options (start .args .book .now) (start .pre .0))
+
+lent-here : (c : tie.After-word-at) → length {A = ℕ} (take (c .word-at .result) (replicate 512 0)) ≡ c .word-at .result
+lent-here c = ap length (take-zeros (c .word-at .result) 512 (few-here c)) ∙ length-replicate (c .word-at .result) 0
+
+run-requires : tie.Need-run-requires
+run-requires c κs = search needs
+
+enum-known-ran : tie.Need-enum-known-ran
+enum-known-ran c = search needs
+
+array-borrow-prefix-marks : tie.Need-array-borrow-prefix-marks
+array-borrow-prefix-marks c = few-here (c .before .before .before .before .before .before .before .before)
+
+slice-aggregate-put-told : tie.Need-slice-aggregate-put-told
+slice-aggregate-put-told c = sym (lent-here (c .before .before .before .before .before .before .before .before .before))
+
+put-told-requires : tie.Need-put-told-requires
+put-told-requires c κs =
+    let word = c .before .before .before .before .before .before .before .before .before .before in
+    let start = word .before .before .before .before in (start .pre .0, lent-here word ∙ count-here word, start .pre .1)
+
+enum-known-ran-2 : tie.Need-enum-known-ran-2
+enum-known-ran-2 c = search needs
+
+array-borrow-prefix-marks-2 : tie.Need-array-borrow-prefix-marks-2
+array-borrow-prefix-marks-2 c = few-here (c .before .before .before .before .before .before .before .before)
+
+slice-aggregate-put-told-2 : tie.Need-slice-aggregate-put-told-2
+slice-aggregate-put-told-2 c = sym (lent-here (c .before .before .before .before .before .before .before .before .before))
+
+put-told-requires-2 : tie.Need-put-told-requires-2
+put-told-requires-2 c κs =
+    let word = c .before .before .before .before .before .before .before .before .before .before in
+    let start = word .before .before .before .before in (start .pre .0, lent-here word ∙ count-here word, start .pre .1)
+
+enum-known-ran-3 : tie.Need-enum-known-ran-3
+enum-known-ran-3 c = search needs
+
+put-refusal-requires : tie.Need-put-refusal-requires
+put-refusal-requires c κs = search needs
+
+same-length : tie.Need-same-length
+same-length c = search needs
+
+same-length-2 : tie.Need-same-length-2
+same-length-2 c = search needs
+
+returns : tie.Need-returns
+unfolding desk-budget
+returns c =
+    let word = c .before .before .before .before .before .before .before .before .before .before .before .before .before .before in
+    let start = word .before .before .before .before in
+    let run = c .before .before .before .before .before .before .before .before .before .before .before .before .run in
+    let sheet = run .last .0 in
+    let answer = ap (λ t. afterCall (ranOf t) sheet) (sym (c .before .before .before .before .before .before .before .before .ran .given .1)) ∙ run .ensures in
+    c .before .before .before .put-told .ensures
+    ∙ ap (λ l. placed l (start .args .out .now)) (ran-accepted (start .args .book .now) sheet _ _ (word .word-at .result) 512 (count-here word) (few-here word) answer)
+
+same-length-3 : tie.Need-same-length-3
+same-length-3 c = search needs
+
+same-length-4 : tie.Need-same-length-4
+same-length-4 c = search needs
+
+returns-2 : tie.Need-returns-2
+unfolding desk-budget
+returns-2 c =
+    let word = c .before .before .before .before .before .before .before .before .before .before .before .before .before .before in
+    let start = word .before .before .before .before in
+    let run = c .before .before .before .before .before .before .before .before .before .before .before .before .run in
+    let sheet = run .last .0 in
+    let answer = ap (λ t. afterCall (ranOf t) sheet) (sym (c .before .before .before .before .before .before .before .before .ran2 .given .1)) ∙ run .ensures in
+    c .before .before .before .put-told2 .ensures
+    ∙ ap (λ l. placed l (start .args .out .now)) (ran-accepted (start .args .book .now) sheet _ _ (word .word-at .result) 512 (count-here word) (few-here word) answer)
+
+same-length-5 : tie.Need-same-length-5
+same-length-5 c = search needs
+
+same-length-6 : tie.Need-same-length-6
+same-length-6 c = search needs
+
+returns-3 : tie.Need-returns-3
+unfolding desk-budget
+returns-3 c =
+    let start = c .before .before .before .before .before .before .before .before .before .before .before .before .before .before .before in
+    let run = c .before .before .before .before .before .before .before .before .before .run in
+    let sheet = run .last .0 in
+    let answer = ap (λ t. afterCall (ranOf t) sheet) (sym (c .before .before .before .before .before .ran3 .given .1)) ∙ run .ensures in
+    c .before .before .put-refusal .ensures
+    ∙ ap (λ l. placed l (start .args .out .now)) (ran-refused (start .args .book .now) sheet _ _ answer)
+
+pub put-ran-spec : {M : Type 1} → statement M
+put-ran-spec =
+    tie.close
+    (tie.spec
+    word-at-requires
+    run-requires
+    enum-known-ran
+    array-borrow-prefix-marks
+    slice-aggregate-put-told
+    put-told-requires
+    enum-known-ran-2
+    array-borrow-prefix-marks-2
+    slice-aggregate-put-told-2
+    put-told-requires-2
+    enum-known-ran-3
+    put-refusal-requires
+    same-length
+    same-length-2
+    returns
+    same-length-3
+    same-length-4
+    returns-2
+    same-length-5
+    same-length-6
+    returns-3)

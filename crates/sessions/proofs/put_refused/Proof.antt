@@ -1,0 +1,41 @@
+-- `sessions::put_refused` meets its contract, case by case.
+use mathlib.Core.List.{List, []}
+use mathlib.Core.Path.{refl, sym, ap, _∙_}
+use Prim.Native.Nat.{ℕ}
+use native.Mathlib.Omega.{arith}
+use borrow.Author.Needs.{needs}
+use Rattle.model.specs.Desk.{printed}
+use Rattle.answers.specs.Meaning.{doneOf}
+use Rattle.printing.specs.Placed.{placed}
+use Rattle.sessions.proofs.put_refused.Statement.{statement}
+use Rattle.sessions.proofs.put_refused.Tie as tie
+
+enum-known-answer : tie.Need-enum-known-answer
+enum-known-answer c = search needs
+
+enum-told : tie.Need-enum-told
+enum-told c = search needs
+
+returns : tie.Need-returns
+unfolding printed placed
+returns c =
+    let out = c .before .before .before .args .out .now in
+    sym (ap (λ d. placed (printed (doneOf d) (λ u. [])) out) (c .enum-told .given .1))
+
+put-refusal-requires : tie.Need-put-refusal-requires
+put-refusal-requires c κs = search needs
+
+same-length : tie.Need-same-length
+same-length c = search needs
+
+returns-2 : tie.Need-returns-2
+unfolding printed
+returns-2 c =
+    let out = c .before .before .before .before .before .before .before .before .args .out .now in
+    c .before .before .put-refusal .ensures
+    ∙ sym (ap (λ d. placed (printed (doneOf d) (λ u. [])) out) (c .before .before .before .before .before .answer .given .1))
+
+pub put-refused-spec : {M : Type 1} → statement M
+put-refused-spec =
+    tie.close
+    (tie.spec enum-known-answer enum-told returns put-refusal-requires same-length returns-2)

@@ -1,0 +1,29 @@
+-- What the desk program prints, part by part, and where it goes.
+use mathlib.Core.Bool.{Bool}
+use mathlib.Core.List.{List, [], _++_}
+use Prim.Native.Nat.{ℕ}
+use lib.Dec.{ltb}
+use lib.ListN.{length, replicate}
+use Rattle.model.specs.Base.{pick}
+use Rattle.model.specs.Book.{options-of, codes-of}
+use Rattle.model.specs.Calls.{Outcome, Ran, runOf, reportOf}
+use Rattle.model.specs.Desk.{printed, first-line, option-lines, desk-budget, deskOf}
+use Rattle.printing.specs.Placed.{Written, after, placed}
+
+-- What is printed of a report, after a run.
+unfoldable pub told-lines : List ℕ → Ran → Outcome Bool → List ℕ
+told-lines book ran told =
+    printed (told .answer) (λ contradictory. first-line contradictory ran ++ pick contradictory [] (option-lines (codes-of book) (told .buffer)))
+
+-- What is printed of a run.
+unfoldable pub ran-lines : List ℕ → Outcome Ran → List ℕ
+ran-lines book done =
+    printed (done .answer) (λ ran. told-lines book ran (reportOf (done .buffer) (replicate (options-of book) 0)))
+
+-- The room that every output fits in: 512 lines of 19 bytes, and a first line.
+abbrev pub room : ℕ
+room = 16384
+
+-- A buffer with less room is left as it was, and the count is 0.
+unfoldable pub sessionOf : List ℕ → List ℕ → List ℕ → Written
+sessionOf book input out = pick (ltb (length out) room) (after 0 out) (placed (deskOf book input) out)
