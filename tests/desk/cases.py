@@ -1,0 +1,85 @@
+"""Named cases for the desk program: the sample book, odd lines, books that cannot be read, input past its buffers. What is due
+comes from the checker alone."""
+import importlib.machinery
+import importlib.util
+from pathlib import Path
+
+from checker import desk
+from checker.books import build
+from checker.trees import conjunction, disjunction, negative, positive
+from driver.desks import FOLDER, printed
+
+TOP = Path(__file__).resolve().parent.parent.parent
+DESK, EXAMPLES = str(TOP / "target/bin/desk"), TOP / "examples"
+BUFFER = 65_536
+
+LONG_CODE = b"ABCDEFGHIJKLM"
+SMALL = build([b"P", b"Q", b"-"], [disjunction(positive(0), conjunction(positive(0), positive(1)))])
+WIDE = build([LONG_CODE, b"P"], [])
+FULL = build([b"P"], [disjunction(conjunction(), *[positive(0)] * 2045)])  # weight 4,093: one choice fits, not two
+CLASH = build([b"P"], [positive(0), negative(0)])
+
+
+def sample_cases():
+    """The sample book of examples/, which is the one that its text describes."""
+    loader = importlib.machinery.SourceFileLoader("make_book", str(EXAMPLES / "make_book"))
+    maker = importlib.util.module_from_spec(importlib.util.spec_from_loader("make_book", loader))
+    loader.exec_module(maker)
+    book = (EXAMPLES / "book.bin").read_bytes()
+    if maker.book((EXAMPLES / "meter.txt").read_text()) != book:
+        raise SystemExit("examples/book.bin is not the book of examples/meter.txt")
+    yield "sample book, no choices", book, b""
+    yield "sample book, its choices", book, (EXAMPLES / "choices.txt").read_bytes()
+    yield "sample book, choices that clash", book, b"+LID-STEEL\n+BAND-868\n"
+    yield "sample book, another choice", book, b"-BATT-LI\n"
+    yield "sample book, a code of another works", book, b"+LID-STEEL\n+LID-GLASS\n"
+
+
+def line_cases():
+    for name, text in [
+            ("a choice", b"+Q\n"), ("a barred option", b"-Q\n"), ("no last line end", b"+Q\n-P"),
+            ("two hyphens bar the code -", b"--\n"), ("plus and the code -", b"+-\n"),
+            ("an empty line", b"\n"), ("an empty line between", b"+P\n\n-Q\n"), ("an empty line at the end", b"+P\n\n"),
+            ("a sign alone", b"+"), ("no sign", b"P\n"), ("another sign", b"*P\n"), ("a carriage return", b"+P\r\n"),
+            ("a tab before", b"\t+P\n"), ("a tab after", b"+P\t\n"), ("a blank between", b"+ P\n"), ("a zero byte", b"+P\0\n"),
+            ("bytes over 127", b"+\xc3\x84\n"), ("a small letter for a large one", b"+p\n"), ("fourteen characters", b"+" + b"A" * 14),
+            ("the first refusal ends it", b"+P\n+X\n\n-Q\n"), ("both signs", b"+Q\n-Q\n"), ("the same twice", b"+Q\n+Q\n")]:
+        yield "line: " + name, SMALL, text
+
+
+def book_cases():
+    for name, book in [
+            ("none", None), ("a folder", FOLDER), ("empty", b""), ("seven bytes", bytes(7)), ("eight zero bytes", bytes(8)),
+            ("a byte short", SMALL[:-1]), ("a byte long", SMALL + b"\0"), ("a contradiction", CLASH),
+            ("cut at the buffer's length", SMALL + bytes(BUFFER - len(SMALL))),
+            ("past the buffer", SMALL + bytes(BUFFER)), ("a bad head, past the buffer", b"\1\2" + bytes(2 * BUFFER))]:
+        yield "book: " + name, book, b""
+        yield "book: %s, with a choice" % name, book, b"+P\n"
+
+
+def long_cases():
+    """The longest lists that can be accepted, and input that goes on past the buffer."""
+    choice = b"+" + LONG_CODE + b"\n"
+    for count in (1, 2, 3):
+        yield "full sheet: %d choices" % count, FULL, b"+P\n" * count
+    yield "full sheet: an unknown code before fullness", FULL, b"+P\n+X\n"
+    yield "2,047 long choices, then a line past the buffer", WIDE, choice * 2047 + b"+" + b"P" * BUFFER
+    yield "choices past the buffer", WIDE, choice * 5000
+    yield "a line that fills the buffer", WIDE, b"+" + b"P" * (BUFFER - 1) + b"\n"
+    yield "a line that ends just past the buffer", WIDE, b"+P" + b" " * (BUFFER - 2) + b"\n+P\n"
+    yield "line ends only", WIDE, b"\n" * (2 * BUFFER)
+
+
+def main():
+    count = 0
+    for cases in (sample_cases(), line_cases(), book_cases(), long_cases()):
+        for name, book, stdin in cases:
+            due, given = desk.output(None if book is FOLDER else book, stdin), printed(DESK, book, stdin)
+            if given != due:
+                raise SystemExit("%s: printed %r, due %r" % (name, given, due))
+            count += 1
+    print("%d desk cases, no difference" % count)
+
+
+if __name__ == "__main__":
+    main()
