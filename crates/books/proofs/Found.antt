@@ -2,13 +2,13 @@
 use mathlib.Core.Bool.{Bool, true, false, not}
 use mathlib.Core.List.{List, [], _∷_}
 use mathlib.Core.Option.{Option, none, some}
-use mathlib.Core.Path.{_≡_, refl, sym, ap, _∙_}
+use mathlib.Core.Path.{_≡_, refl}
 use Prim.Native.Nat.{ℕ, suc, _+_, _≤_, _<_}
 use native.Mathlib.Omega.{arith}
 use lib.ListN.{length, drop}
 use Rattle.model.specs.Base.{pick, first-of, only-if, is-some, maybe}
 use Rattle.model.specs.Book.{same-code, characters, option-of-code, codes-of, options-of}
-use Rattle.model.specs.Calls.{Refusal, option-refused, Answer, refused, accepted, answer, book-refusal, lookupOf}
+use Rattle.model.specs.Calls.{Refusal, option-refused, accepted, answer, book-refusal, lookupOf}
 use Rattle.theory.specs.Logic.{none-some, some-inj, first-none}
 use Rattle.theory.specs.Loading.{accepted-book}
 use Rattle.codes.proofs.Pieces.{count-pieces}

@@ -1,5 +1,6 @@
 // The desk program: reads the option book `book.bin` and the choices on standard input, and prints what the order gives. All that is
-// decided is decided by `sessions::session`, which is proved to give every byte; here the bytes are only read and written.
+// decided is decided by `sessions::session`, which is proved to give every byte; here the bytes are only read and written. No more
+// than 65,536 of either are read: the rest cannot change what is printed (`sessions`: `Buffers.desk-cut`).
 ghost use Rattle.io.specs.Counts.{Counts};
 use libc::STDIN_FILENO;
 use libc::STDOUT_FILENO;

@@ -4,7 +4,7 @@ ghost use mathlib.Core.Bool.{true, false};
 ghost use mathlib.Core.List.{map};
 ghost use Prim.Native.Nat.{ℕ, _+_, _*_, _/_, _≤_, _<_};
 ghost use lib.Dec.{eqb};
-ghost use lib.ListN.{length, getD, set, drop};
+ghost use lib.ListN.{length, getD, drop};
 ghost use Rattle.model.specs.Base.{pick};
 ghost use Rattle.model.specs.Forest.{or, root};
 ghost use Rattle.model.specs.Code.{value, decode};
@@ -13,7 +13,7 @@ ghost use Rattle.theory.specs.Scan.{«is-literal»};
 ghost use Rattle.theory.specs.Evaluation.{fails};
 ghost use Rattle.theory.specs.Values.{«fails-all»};
 ghost use Rattle.theory.specs.Tables.{«set-of»};
-ghost use Rattle.evaluation.specs.Reading.{bit, «place-at», «with-node», «tree-fails», «Spells-tree»};
+ghost use Rattle.evaluation.specs.Reading.{bit, trial, «place-at», «with-node», «tree-fails», «Spells-tree»};
 
 // The place in a table of the literal that a number of kind 1 or 2 is.
 pub fn place_of(x: usize) -> usize
@@ -23,13 +23,17 @@ pub fn place_of(x: usize) -> usize
     2 * nodes::value_of(x) + nodes::kind_of(x) - 1
 }
 
-// Whether the literal at a place fails, in 64 trials: in trial j the literal at place 64 * block + j fails too.
+// Whether the literal at a place fails, in 64 trials: in trial j the literal at place 64 * block + j fails too, and for block 17
+// each literal whose place leaves the remainder j.
 fn literal_bits(place: usize, failed: &[u8], block: usize) -> u64
     requires { ⌜ place < length (now failed) ⌝ }
-    ensures { λ r. ⌜ ((j : ℕ) → j < 64 → bit j r ≡ eqb (getD (set (now (failed .entry)) (64 * block + j) 1) place 0) 1) ⌝ }
+    ensures { λ r. ⌜ ((j : ℕ) → j < 64 → bit j r ≡ eqb (getD (trial (now (failed .entry)) block j) place 0) 1) ⌝ }
 {
     if failed[place] == 1 {
         return 0xffff_ffff_ffff_ffff;
+    }
+    if block == 17 {
+        return 1 << (place % 64);
     }
     if place / 64 == block {
         return 1 << (place % 64);
@@ -65,7 +69,7 @@ fn read_node(x: usize, failed: &[u8], block: usize, stack: &mut [u64], top: usiz
     requires { ⌜ («is-literal» x ≡ true → «place-at» x < length (now failed)) ⌝ }
     requires { ⌜ («is-literal» x ≡ false → top + value x ≤ length (now stack)) ⌝ }
     ensures { λ r. ⌜ r < length (now (stack .entry)) ⌝ }
-    ensures { λ r. ⌜ ((j : ℕ) → j < 64 → map (bit j) (drop r (now (stack .exit))) ≡ «with-node» (set (now (failed .entry)) (64 * block + j) 1) x (map (bit j) (drop top (now (stack .entry))))) ⌝ }
+    ensures { λ r. ⌜ ((j : ℕ) → j < 64 → map (bit j) (drop r (now (stack .exit))) ≡ «with-node» (trial (now (failed .entry)) block j) x (map (bit j) (drop top (now (stack .entry))))) ⌝ }
 {
     if nodes::is_literal(x) {
         let new = top - 1;
@@ -83,7 +87,7 @@ fn read_node(x: usize, failed: &[u8], block: usize, stack: &mut [u64], top: usiz
 // stack is lent for the values on the way; what it holds before does not matter.
 pub fn tree_fails_with(tree: &[u16], failed: &[u8], block: usize, stack: &mut [u64]) -> u64
     requires { ⌜ «Spells-tree» (now tree) × (length (now tree) ≤ length (now stack)) × (length (now failed) ≡ 1024) ⌝ }
-    ensures { λ r. ⌜ ((j : ℕ) → j < 64 → bit j r ≡ «tree-fails» (set (now (failed .entry)) (64 * block + j) 1) (now (tree .entry))) ⌝ }
+    ensures { λ r. ⌜ ((j : ℕ) → j < 64 → bit j r ≡ «tree-fails» (trial (now (failed .entry)) block j) (now (tree .entry))) ⌝ }
 {
     let mut top = stack.len();
     let mut i = tree.len();

@@ -11,7 +11,7 @@ use lib.Dec.{eqb}
 use lib.ListN.{length, take, drop, getD, drop-of-length-le}
 use lib.Seq.{drop-cons, drop-drop, drop-length}
 use Rattle.model.specs.Base.{pick}
-use Rattle.model.specs.Calls.{Refusal, option-refused, Answer, refused, accepted, Outcome, lookupOf, chooseOf}
+use Rattle.model.specs.Calls.{Refusal, option-refused, Answer, refused, accepted, lookupOf, chooseOf}
 use Rattle.model.specs.Desk.{before-line, lines, choose-found, keyed, go-on, all-keyed}
 use Rattle.answers.specs.Meaning.{afterCall}
 use Rattle.keying.specs.Endings.{ending, dropped}
@@ -62,14 +62,14 @@ unfolding ending
 ending-none s = rw (drop-length s)
 
 -- The first line, and the lines after its end.
-first-line : (x : ℕ) (xs : List ℕ) → lines (x ∷ xs) ≡ take (ending (x ∷ xs)) (x ∷ xs) ∷ lines (drop (suc (ending (x ∷ xs))) (x ∷ xs))
+pub first-of-lines : (x : ℕ) (xs : List ℕ) → lines (x ∷ xs) ≡ take (ending (x ∷ xs)) (x ∷ xs) ∷ lines (drop (suc (ending (x ∷ xs))) (x ∷ xs))
 unfolding lines ending before-line pick
-first-line x [] = go (eqb x 10)
+first-of-lines x [] = go (eqb x 10)
   where
     go : (t : Bool) → pick t ([] ∷ []) ((x ∷ []) ∷ []) ≡ take (pick t 0 1) (x ∷ []) ∷ lines (drop (pick t 0 1) [])
     go true = refl
     go false = refl
-first-line x (y ∷ ys) = go (eqb x 10) (first-line y ys)
+first-of-lines x (y ∷ ys) = go (eqb x 10) (first-of-lines y ys)
   where
     go : (t : Bool) → lines (y ∷ ys) ≡ take (ending (y ∷ ys)) (y ∷ ys) ∷ lines (drop (suc (ending (y ∷ ys))) (y ∷ ys)) → pick t ([] ∷ lines (y ∷ ys)) (before-line x (lines (y ∷ ys))) ≡ take (pick t 0 (suc (ending (y ∷ ys)))) (x ∷ y ∷ ys) ∷ lines (drop (pick t 0 (suc (ending (y ∷ ys)))) (y ∷ ys))
     go true e = refl
@@ -84,7 +84,7 @@ module _ (book input : List ℕ) {from end : ℕ} (h : from < length input) (e :
   lines-from =
       let next : from + suc (end - from) ≡ end + 1 = omega (arith, e) in
       let rest = drop-drop (suc (end - from)) from input ∙ ap (λ k. drop k input) next in
-      rw (← rest, ← here) (rw (drop-cons input from 0 h) (first-line (getD input from 0) (drop (suc from) input)))
+      rw (← rest, ← here) (rw (drop-cons input from 0 h) (first-of-lines (getD input from 0) (drop (suc from) input)))
 
   -- A line that is refused ends it.
   pub keyed-stop : (s s' : List ℕ) (d : Answer (Unit {0})) (r : Refusal) → d ≡ refused r → afterCall d s' ≡ keyed book (take (end - from) (drop from input)) s → afterCall d s' ≡ all-keyed book (lines (drop from input)) s

@@ -9,7 +9,7 @@ use lib.ListN.{length, take, drop, set, length-append, length-set}
 use lib.Seq.{take-length, take-at, drop-cons, getD-set-same, getD-set-other, drop-set-lt}
 use Rattle.model.specs.Desk.{line}
 use Rattle.lists.proofs.Lent.{lent-start}
-use Rattle.printing.specs.Placed.{Written, after, placed}
+use Rattle.printing.specs.Placed.{after, placed}
 
 module _ (bytes old : List ℕ) {r : ℕ} {l : List ℕ} where
   pub placed-by : r ≡ length bytes → l ≡ bytes ++ drop r old → after r l ≡ placed bytes old

@@ -45,7 +45,7 @@ lines-more (d ∷ cs) (x ∷ ms) c m e =
     ∙ sym (append-assoc (line (characters d) (mark-word x)) (option-lines cs ms) (line (characters c) (mark-word m)))
 
 -- A line has at most 13 characters, a space, a word of four and its end.
-few-characters : (c : List ℕ) → length (characters c) ≤ length c
+pub few-characters : (c : List ℕ) → length (characters c) ≤ length c
 unfolding characters pick
 few-characters [] = omega arith
 few-characters (x ∷ c) = go (eqb x 0) (few-characters c)

@@ -1,8 +1,7 @@
 // What the desk program prints, written at the start of a lent slice; what stands after it stays.
 ghost use mathlib.Core.Path.{_≡_};
-ghost use mathlib.Core.List.{_++_};
 ghost use Prim.Native.Nat.{_+_, _*_, _≤_, _<_};
-ghost use lib.ListN.{length, take, drop, set};
+ghost use lib.ListN.{length, take, set};
 ghost use Rattle.model.specs.Book.{characters, pieces};
 ghost use Rattle.model.specs.Calls.{«refusal-number»};
 ghost use Rattle.model.specs.Desk.{decimal, line, «mark-word», «refused-word», «first-line», «option-lines»};
@@ -100,13 +99,14 @@ fn put_option(code: &[u8], mark: u8, out: &mut [u8]) -> usize
     ensures { λ r. ⌜ after r (now (out .exit)) ≡ placed (line (characters (take 13 (now (code .entry)))) («mark-word» mark)) (now (out .entry)) ⌝ }
 {
     let end = count_characters(code);
+    let name = &code[..end];
     if mark == 1 {
-        return put_line(&code[..end], b"in", out);
+        return put_line(name, b"in", out);
     }
     if mark == 2 {
-        return put_line(&code[..end], b"out", out);
+        return put_line(name, b"out", out);
     }
-    put_line(&code[..end], b"open", out)
+    put_line(name, b"open", out)
 }
 
 // The lines of all options, by their codes and their marks.

@@ -1,5 +1,5 @@
 -- A table of failed literals with the trail of what was added to it, and parts that force nothing more.
-use mathlib.Core.Bool.{Bool, true, not, _&&_}
+use mathlib.Core.Bool.{Bool, true, false, not, _&&_}
 use mathlib.Core.List.{List, [], _∷_}
 use mathlib.Core.Logic.{_⊎_}
 use mathlib.Core.Path.{_≡_}
@@ -56,6 +56,10 @@ pub record Fallen (s t : List ℕ) (n : ℕ) : Type 0 where
   pub over : 1024 < n
   pub falls : tree-fails t (numbers-in s) ≡ true
   pub right : Right (clauses root (decode (nodes-in s))) t
+
+-- A part fails under no literal more.
+abbrev pub Unforced : List ℕ → ℕ → ℕ → List ℕ → Type 0
+Unforced s i e t = (q : ℕ) → tree-fails (set t q 1) (stretch i e s) ≡ false
 
 -- A part was tried with each literal of a block: what it forces is known.
 pub record Tried (s : List ℕ) (i e block : ℕ) (t trail : List ℕ) (n : ℕ) (t′ trail′ : List ℕ) (n′ : ℕ) : Type 0 where

@@ -9,7 +9,7 @@ ghost use Rattle.model.specs.Base.{pick};
 ghost use Rattle.model.specs.Sheet.{«is-sheet»};
 ghost use Rattle.theory.specs.Tables.{«Has-report»};
 ghost use Rattle.parts.specs.Parts.{Part, Parted, Linked};
-ghost use Rattle.propagation.specs.Trails.{opposite, unset, fresh, Facts, Fallen, Tried, Looked, Ends, Watching, Since, Watched, Reached};
+ghost use Rattle.propagation.specs.Trails.{opposite, unset, fresh, Facts, Fallen, Unforced, Tried, Looked, Ends, Watching, Since, Watched, Reached};
 
 // The place of the complement of the literal at a place.
 fn opposite_of(k: usize) -> usize
@@ -68,7 +68,35 @@ fn look_in(
     grown
 }
 
-// The same for all blocks in which the part has literals. A part that fails as it is makes the sheet contradictory: 1,025.
+// Whether a part is a disjunction that begins with literals two of which, unlike one another, do not fail: it forces nothing then.
+fn is_open(sheet: &[u16], from: usize, to: usize, failed: &[u8]) -> bool
+    requires { ⌜ («is-sheet» (now sheet) ≡ true) × Part (now sheet) from to × (length (now failed) ≡ 1024) ⌝ }
+    ensures { λ r. ⌜ (r ≡ true → Unforced (now (sheet .entry)) from to (now (failed .entry))) ⌝ }
+{
+    if nodes::kind_of(numbers::wide16(sheet[from])) != 4 {
+        return false;
+    }
+    let mut free = 1024;
+    let mut i = from + 1;
+    while i < to {
+        let x = numbers::wide16(sheet[i]);
+        if !nodes::is_literal(x) {
+            return false;
+        }
+        let place = evaluation::place_of(x);
+        if failed[place] != 1 {
+            if free != 1024 && free != place {
+                return true;
+            }
+            free = place;
+        }
+        i += 1;
+    }
+    false
+}
+
+// The same for all blocks in which the part has literals, unless it fails for no sixteen of them at once. A part that fails as it is
+// makes the sheet contradictory: 1,025.
 fn look(
     sheet: &[u16],
     from: usize,
@@ -81,6 +109,12 @@ fn look(
     requires { ⌜ («is-sheet» (now sheet) ≡ true) × Part (now sheet) from to × Facts (now sheet) (now failed) (now trail) known × (length (now stack) ≡ 4096) ⌝ }
     ensures { λ r. ⌜ Looked (now (sheet .entry)) from to (now (failed .entry)) (now (trail .entry)) known (now (failed .exit)) (now (trail .exit)) r ⊎ Fallen (now (sheet .entry)) (now (failed .exit)) r ⌝ }
 {
+    if is_open(sheet, from, to, failed) {
+        return known;
+    }
+    if evaluation::tree_fails_with(&sheet[from..to], failed, 17, stack) == 0 {
+        return known;
+    }
     if evaluation::tree_fails_with(&sheet[from..to], failed, 16, stack) % 2 == 1 {
         return 1025;
     }

@@ -2,20 +2,27 @@
 use mathlib.Core.Bool.{true, false}
 use mathlib.Core.List.{List}
 use mathlib.Core.Option.{Option, none, some}
-use mathlib.Core.Path.{_≡_, refl, sym, ap, _∙_}
-use Prim.Native.Nat.{ℕ}
+use mathlib.Core.Path.{_≡_, sym}
+use Prim.Native.Nat.{ℕ, _≤_}
 use native.Mathlib.Omega.{arith}
+use lib.ListN.{length, replicate, getD-replicate}
 use Rattle.model.specs.Base.{maybe}
+use Rattle.model.specs.Code.{Node}
 use Rattle.model.specs.Strategy.{Redex, next}
 use Rattle.model.specs.Sheet.{nodes-in, is-sheet}
 use Rattle.model.specs.Calls.{accepted, runOf}
 use Rattle.answers.specs.Meaning.{afterCall}
+use Rattle.bounds.specs.Tables.{Bounds, High}
 use Rattle.theory.specs.Reached.{Reached, run-done, run-over}
 
-pub run-ended : {start s : List ℕ} {count : ℕ} → is-sheet start ≡ true → Reached start count s → (budget : ℕ) → count ≡ budget → afterCall (accepted (record { settled = maybe true (λ x. false) (next (nodes-in s)); count = count })) s ≡ runOf start budget
+pub run-ended : {start s : List ℕ} {count : ℕ} → is-sheet start ≡ true → Reached start count s → (budget : ℕ) → count ≡ budget → (o : Option Redex) → o ≡ next (nodes-in s) → afterCall (accepted (record { settled = maybe true (λ x. false) o; count = count })) s ≡ runOf start budget
 unfolding maybe
-run-ended {start} {s} {count} h r budget same = go (next (nodes-in s)) refl
-  where
-    go : (o : Option Redex) → next (nodes-in s) ≡ o → afterCall (accepted (record { settled = maybe true (λ x. false) o; count = count })) s ≡ runOf start budget
-    go none e = run-done h r budget (omega arith) e
-    go (some x) e = run-over h r budget same e
+run-ended h r budget same none e = run-done h r budget (omega arith) (sym e)
+run-ended h r budget same (some x) e = run-over h r budget same (sym e)
+
+-- A table of ones: no bound says anything, and all have come to 1.
+pub ones-bounds : (ns : List Node) → length ns ≤ 4096 → Bounds ns (replicate 4096 1)
+ones-bounds ns few q r within low lt = absurd (omega (arith, getD-replicate {A = ℕ} 4096 q 1 0 (omega arith)))
+
+pub ones-high : (used : ℕ) → used ≤ 4096 → High 1 0 used (replicate 4096 1)
+ones-high used few q from to = omega (arith, getD-replicate {A = ℕ} 4096 q 1 0 (omega arith))

@@ -1,11 +1,11 @@
-// The strategy's search: the least rule that applies somewhere, then the least place, child and inner child.
+// The search at one place: the least child and inner child at which a rule applies.
 ghost use mathlib.Core.Path.{_≡_};
 ghost use mathlib.Core.Bool.{true};
 ghost use mathlib.Core.Logic.{_⊎_};
 ghost use Prim.Native.Nat.{ℕ, _≤_, _<_};
 ghost use lib.ListN.{length, getD, drop};
 ghost use Rattle.model.specs.Code.{value, decode};
-ghost use Rattle.model.specs.Strategy.{«least-j», «least-i», «least-place», next};
+ghost use Rattle.model.specs.Strategy.{«least-j», «least-i»};
 ghost use Rattle.model.specs.Sheet.{«is-sheet», «used-in», «nodes-in»};
 ghost use Rattle.theory.specs.Spans.{«child-at»};
 ghost use Rattle.theory.specs.Stretches.{Stretch, «forest-in»};
@@ -137,50 +137,4 @@ pub fn least_at(sheet: &[u16], sizes: &[u16], rule: usize, place: usize) -> Spot
 {
     let from = 2 + place;
     least_child(&sheet[from..], &sizes[place..], rule)
-}
-
-// The least place, child and inner child for a rule.
-fn least_place(sheet: &[u16], sizes: &[u16], rule: usize) -> Next
-    requires { ⌜ (1 ≤ rule) × (rule ≤ 14) ⌝ }
-    requires { ⌜ «is-sheet» (now sheet) ≡ true ⌝ }
-    requires { ⌜ (length (now sizes) ≡ 4096) × Sized 0 (drop 2 (now sheet)) (now sizes) ⌝ }
-    ensures { λ r. ⌜ nextOf r ≡ «least-place» rule («nodes-in» (now (sheet .entry))) ⌝ }
-{
-    let used = numbers::wide16(sheet[1]);
-    let mut place = 0;
-    while place < used {
-        let spot = least_at(sheet, sizes, rule, place);
-        if let Spot::At(i, j) = spot {
-            return Next::Redex(rule, place, i, j);
-        }
-        place += 1;
-    }
-    Next::Nothing
-}
-
-// The least rule, by a table of the sizes of all trees.
-fn least_rule(sheet: &[u16], sizes: &[u16]) -> Next
-    requires { ⌜ «is-sheet» (now sheet) ≡ true ⌝ }
-    requires { ⌜ (length (now sizes) ≡ 4096) × Sized 0 (drop 2 (now sheet)) (now sizes) ⌝ }
-    ensures { λ r. ⌜ nextOf r ≡ next («nodes-in» (now (sheet .entry))) ⌝ }
-{
-    let mut rule = 1;
-    while rule <= 14 {
-        let found = least_place(sheet, sizes, rule);
-        if let Next::Redex(r, p, i, j) = found {
-            return Next::Redex(r, p, i, j);
-        }
-        rule += 1;
-    }
-    Next::Nothing
-}
-
-// The strategy's step on a sheet.
-pub fn next_redex(sheet: &[u16]) -> Next
-    requires { ⌜ «is-sheet» (now sheet) ≡ true ⌝ }
-    ensures { λ r. ⌜ nextOf r ≡ next («nodes-in» (now (sheet .entry))) ⌝ }
-{
-    let mut sizes = [0u16; 4096];
-    sizes::fill(&sheet[2..], &mut sizes);
-    least_rule(sheet, &sizes)
 }

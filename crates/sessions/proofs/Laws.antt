@@ -2,7 +2,7 @@
 use mathlib.Core.Bool.{Bool, true, false}
 use mathlib.Core.List.{List, [], _∷_, _++_, append-nil}
 use mathlib.Core.Option.{Option, none, some}
-use mathlib.Core.Path.{_≡_, refl, sym, ap, _∙_}
+use mathlib.Core.Path.{_≡_, refl, sym, ap}
 use Prim.Native.Nat.{ℕ, zero, suc, _+_, _-_, _*_, _≤_, _<_}
 use native.Mathlib.Omega.{arith}
 use borrow.Author.Tests.{eq-eqb, lt-ltb, le-ltb}
@@ -79,14 +79,14 @@ module _ (book s : List ℕ) (done : Outcome Ran) where
   ran-refused r e = rw (← e)
 
 -- What is printed of the choices, and of the book.
-unfoldable chosen-lines : List ℕ → Outcome (Unit {0}) → List ℕ
+unfoldable pub chosen-lines : List ℕ → Outcome (Unit {0}) → List ℕ
 chosen-lines book chosen = printed (chosen .answer) (λ v. ran-lines book (runOf (chosen .buffer) desk-budget))
 
-unfoldable loaded-lines : List ℕ → List ℕ → Outcome (Unit {0}) → List ℕ
+unfoldable pub loaded-lines : List ℕ → List ℕ → Outcome (Unit {0}) → List ℕ
 loaded-lines book input loaded =
     printed (loaded .answer) (λ u. chosen-lines book (all-keyed book (lines input) (loaded .buffer)))
 
-desk-is : (book input : List ℕ) → loaded-lines book input (loadOf book (replicate 4098 0)) ≡ deskOf book input
+pub desk-is : (book input : List ℕ) → loaded-lines book input (loadOf book (replicate 4098 0)) ≡ deskOf book input
 unfolding loaded-lines chosen-lines ran-lines told-lines deskOf
 desk-is book input = refl
 

@@ -6,8 +6,8 @@ use lib.Dec.{ltb}
 use lib.ListN.{length, replicate}
 use Rattle.model.specs.Base.{pick}
 use Rattle.model.specs.Book.{options-of, codes-of}
-use Rattle.model.specs.Calls.{Outcome, Ran, runOf, reportOf}
-use Rattle.model.specs.Desk.{printed, first-line, option-lines, desk-budget, deskOf}
+use Rattle.model.specs.Calls.{Outcome, Ran, reportOf}
+use Rattle.model.specs.Desk.{printed, first-line, option-lines, deskOf}
 use Rattle.printing.specs.Placed.{Written, after, placed}
 
 -- What is printed of a report, after a run.

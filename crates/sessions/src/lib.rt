@@ -61,11 +61,12 @@ fn put_ran(book: &[u8], sheet: &mut [u16], out: &mut [u8]) -> usize
     ensures { λ r. ⌜ after r (now (out .exit)) ≡ placed («ran-lines» (now (book .entry)) (runOf (now (sheet .entry)) «desk-budget»)) (now (out .entry)) ⌝ }
 {
     let n = numbers::word_at(book, 0);
-    let mut marks = [0u8; 512];
+    let mut room = [0u8; 512];
+    let marks = &mut room[..n];
     let ran = runs::run(sheet, 100000);
     match ran {
-        Ran::Settled(count) => put_told(book, sheet, true, count, &mut marks[..n], out),
-        Ran::Stopped(count) => put_told(book, sheet, false, count, &mut marks[..n], out),
+        Ran::Settled(count) => put_told(book, sheet, true, count, marks, out),
+        Ran::Stopped(count) => put_told(book, sheet, false, count, marks, out),
         Ran::Refused(r) => printing::put_refusal(r, out),
     }
 }

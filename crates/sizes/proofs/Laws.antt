@@ -1,12 +1,12 @@
 -- Hopping over trees by their sizes.
 use mathlib.Core.List.{List, [], _∷_}
 use mathlib.Core.Logic.{⊎-elim}
-use mathlib.Core.Path.{_≡_, refl, sym, ap, _∙_}
+use mathlib.Core.Path.{_≡_, sym, ap, subst, _∙_}
 use Prim.Native.Nat.{ℕ, zero, suc, _+_, _-_, _≤_, _<_}
 use native.Mathlib.Nat.{zero-add, suc-add}
 use native.Mathlib.Omega.{arith}
-use borrow.Author.Tests.{eqb-true, eqb-false}
-use lib.Dec.{eqb}
+use borrow.Author.Tests.{eqb-true, eqb-false, ltb-true, ltb-false}
+use lib.Dec.{eqb, ltb}
 use lib.ListN.{length, getD, drop, set, length-drop}
 use lib.Seq.{drop-drop, getD-set-other, getD-set-same, getD-drop}
 use Rattle.theory.specs.Logic.{either}
@@ -63,3 +63,19 @@ sized-more p l t h n s q from to =
 pub sized-part : (p : ℕ) (l t : List ℕ) → Sized 0 l t → Sized 0 (drop p l) (drop p t)
 sized-part p l t s q from to =
     rw (getD-drop p t q 0, drop-drop q p l) (s (p + q) (omega arith) (omega (arith, length-drop p l)))
+
+-- The nearest place before a bound whose tree reaches past another place.
+module _ (t : List ℕ) (below place from : ℕ) (none-later : (k : ℕ) → from ≤ k → k < below → place < k + getD t k 0 → ⊥) where
+  pub nearest : (q : ℕ) → q < below → place < q + getD t q 0 → q ≤ from - 1
+  nearest q l h =
+      ⊎-elim
+      (λ e. let lt = ltb-true q from e in omega arith)
+      (λ e. absurd (none-later q (ltb-false q from e) l h))
+      (either (ltb q from))
+
+  pub one-more : (place < from - 1 + getD t (from - 1) 0 → ⊥) → (k : ℕ) → from - 1 ≤ k → k < below → place < k + getD t k 0 → ⊥
+  one-more short k le l h =
+      ⊎-elim
+      (λ e. let same : k ≡ from - 1 = omega (arith, ltb-true k from e) in short (subst (λ x. place < x + getD t x 0) same h))
+      (λ e. none-later k (ltb-false k from e) l h)
+      (either (ltb k from))

@@ -1,7 +1,7 @@
 // The sizes of all trees on a run of numbers, made in one pass from the right, so that children are found by hopping.
 ghost use mathlib.Core.Path.{_≡_};
-ghost use Prim.Native.Nat.{_+_, _≤_, _<_};
-ghost use lib.ListN.{length, drop};
+ghost use Prim.Native.Nat.{ℕ, _+_, _≤_, _<_};
+ghost use lib.ListN.{length, getD, drop};
 ghost use Rattle.theory.specs.Spans.{span};
 ghost use Rattle.sizes.specs.Tables.{Sized};
 
@@ -30,4 +30,34 @@ pub fn fill(s: &[u16], sizes: &mut [u16])
         place -= 1;
         sizes[place] = (end_at(s, sizes, place) - place) as u16;
     }
+}
+
+// The sizes from one place up to another, where those after them are right.
+pub fn refill(s: &[u16], sizes: &mut [u16], from: usize, to: usize)
+    requires { ⌜ (length (now s) ≤ 4096) × (length (now sizes) ≡ length (now s)) × (from ≤ to) × (to ≤ length (now s)) ⌝ }
+    requires { ⌜ Sized to (now s) (now sizes) ⌝ }
+    ensures { λ r. ⌜ Sized from (now (s .entry)) (now (sizes .exit)) ⌝ }
+    ensures { λ r. ⌜ ((q : ℕ) → q < from → getD (now (sizes .exit)) q 0 ≡ getD (now (sizes .entry)) q 0) ⌝ }
+{
+    let mut place = to;
+    while from < place {
+        place -= 1;
+        sizes[place] = (end_at(s, sizes, place) - place) as u16;
+    }
+}
+
+// The nearest place before another whose tree reaches past a place; that other place itself where there is none.
+pub fn holder(sizes: &[u16], below: usize, place: usize) -> usize
+    requires { ⌜ (below ≤ length (now sizes)) × (length (now sizes) ≤ 4096) × (place ≤ 4096) ⌝ }
+    ensures { λ r. ⌜ (r ≤ below) × (r < below → place < r + getD (now (sizes .entry)) r 0) ⌝ }
+    ensures { λ r. ⌜ ((q : ℕ) → q < below → place < q + getD (now (sizes .entry)) q 0 → (r < below) × (q ≤ r)) ⌝ }
+{
+    let mut q = below;
+    while 0 < q {
+        q -= 1;
+        if place < q + numbers::wide16(sizes[q]) {
+            return q;
+        }
+    }
+    below
 }

@@ -10,8 +10,9 @@ use lib.ListN.{length, take, drop}
 use lib.Seq.{set-out}
 use Rattle.model.specs.Sheet.{is-sheet, used-in, numbers-in, nodes-in}
 use Rattle.theory.specs.Sheets.{sheet-facts}
-use Rattle.evaluation.specs.Reading.{bit, tree-fails}
+use Rattle.evaluation.specs.Reading.{bit, trial, tree-fails}
 use Rattle.evaluation.proofs.Nodes.{numbers-long, sheet-tree}
+use Rattle.evaluation.proofs.Trials.{trial-block}
 use Rattle.evaluation.proofs.root_fails.Statement.{statement}
 use Rattle.evaluation.proofs.root_fails.Tie as tie
 
@@ -58,8 +59,11 @@ returns : tie.Need-returns
 unfolding bit used-in tree-fails nodes-in
 returns c =
     let a = c .before .before .before .before .before .before .before .before in
-    rw (← set-out (a .args .failed .now) 1024 1 (omega arith), ← lent (a .args .sheet .now) (c .before .before .before .before .wide16 .ensures .0))
-    (c .before .tree-fails-with .ensures 0 (omega arith))
+    let t = a .args .failed .now in
+    let s = a .args .sheet .now in
+    let call = c .before .tree-fails-with in
+    let e : bit 0 (call .result) ≡ tree-fails (trial t 16 0) (take (2 + c .before .before .before .before .wide16 .result - 2) (drop 2 s)) = call .ensures 0 (omega arith) in
+    rw (← set-out t 1024 1 (omega arith), ← lent s (c .before .before .before .before .wide16 .ensures .0)) (rw (trial-block t 16 0 (λ q. omega arith)) at e)
 
 pub root-fails-spec : {M : Type 1} → statement M
 root-fails-spec =

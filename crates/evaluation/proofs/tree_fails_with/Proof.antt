@@ -6,18 +6,14 @@ use mathlib.Core.Path.{_≡_, refl, sym, ap, _∙_}
 use Prim.Native.Nat.{ℕ, suc, _+_, _-_, _*_, _≤_, _<_}
 use native.Mathlib.Omega.{arith}
 use borrow.Author.Needs.{needs}
-use lib.ListN.{length, getD, set, drop, length-drop, length-map}
+use lib.ListN.{length, getD, drop, length-drop, length-map}
 use lib.Seq.{drop-cons, drop-length}
 use Rattle.model.specs.Code.{value}
 use Rattle.theory.specs.Scan.{is-literal}
-use Rattle.evaluation.specs.Reading.{bit, place-at, with-node, tree-fails, Spells-tree}
+use Rattle.evaluation.specs.Reading.{bit, trial, place-at, with-node, tree-fails, Spells-tree}
 use Rattle.evaluation.proofs.Nodes.{values-of, values-none, values-more, values-length, trees-of, Node-here, node-here, tree-value}
 use Rattle.evaluation.proofs.tree_fails_with.Statement.{statement}
 use Rattle.evaluation.proofs.tree_fails_with.Tie as tie
-
--- The table in a trial.
-abbrev trial : List ℕ → ℕ → ℕ → List ℕ
-trial t b j = set t (64 * b + j) 1
 
 -- The numbers from i on have been read.
 record Read (xs t : List ℕ) (b room : ℕ) (stack : List ℕ) (top i : ℕ) : Type 0 where

@@ -1,13 +1,10 @@
 -- `printing::put_decimal` meets its contract: a number below ten is its digit, another the digits of a tenth of it and the last. The
 -- measure is the number.
-use mathlib.Core.List.{[]}
-use mathlib.Core.Path.{refl, _∙_}
-use Prim.Native.Nat.{ℕ, _+_, _/_, _%_, _<_}
+use Prim.Native.Nat.{ℕ, _+_, _/_, _<_}
 use native.Mathlib.Omega.{arith}
 use borrow.Author.Needs.{needs}
 use borrow.Fn.Kinds.{In}
 use borrow.Fn.PlainCycle.{Measures, is, falls, and}
-use lib.ListN.{length, set, length-set}
 use Rattle.model.specs.Desk.{decimal}
 use Rattle.printing.proofs.Laws.{placed-count}
 use Rattle.printing.proofs.Decimals.{length-small, length-large, decimal-one, decimal-more}

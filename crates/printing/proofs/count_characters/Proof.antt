@@ -1,6 +1,6 @@
 -- `printing::count_characters` meets its contract. Invariant: the characters are the bytes passed, and those of the bytes that are left.
 use mathlib.Core.List.{_++_, append-nil}
-use mathlib.Core.Path.{_≡_, refl, sym, ap, _∙_}
+use mathlib.Core.Path.{_≡_, refl, sym, _∙_}
 use Prim.Native.Nat.{_-_, _≤_}
 use native.Mathlib.Omega.{arith}
 use borrow.Author.Needs.{needs}

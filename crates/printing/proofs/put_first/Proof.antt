@@ -1,5 +1,4 @@
 -- `printing::put_first` meets its contract: each word in its case, and the count.
-use native.Mathlib.Omega.{arith}
 use borrow.Author.Needs.{needs}
 use Rattle.model.specs.Base.{pick}
 use Rattle.model.specs.Desk.{first-line, contradiction-word, settled-word, stopped-word}

@@ -1,8 +1,9 @@
 -- `printing::put_option` meets its contract: the code's characters, and the word of the mark in its case.
-use mathlib.Core.Path.{sym}
+use mathlib.Core.Path.{_≡_, sym}
 use native.Mathlib.Omega.{arith}
 use borrow.Author.Needs.{needs}
 use borrow.Author.Tests.{eq-eqb, ne-eqb}
+use lib.ListN.{length, take}
 use lib.Seq.{length-take-le}
 use Rattle.model.specs.Base.{pick}
 use Rattle.model.specs.Desk.{mark-word}
@@ -12,18 +13,18 @@ use Rattle.printing.proofs.put_option.Tie as tie
 count-characters-requires : tie.Need-count-characters-requires
 count-characters-requires c κs = search needs
 
-slice-aggregate-put-line : tie.Need-slice-aggregate-put-line
-slice-aggregate-put-line c =
-    let count = c .before .before .count-characters in
-    sym (length-take-le (count .result) (c .before .before .before .before .before .args .code .now) (omega arith))
+-- The code's characters, as they are lent.
+name-here : (c : tie.After-count-characters) → length (take (c .count-characters .result) (c .before .before .before .args .code .now)) ≡ c .count-characters .result
+name-here c = length-take-le (c .count-characters .result) (c .before .before .before .args .code .now) (omega arith)
 
-slice-aggregate-put-line-2 : tie.Need-slice-aggregate-put-line-2
-slice-aggregate-put-line-2 c = search needs
+slice-aggregate-name : tie.Need-slice-aggregate-name
+slice-aggregate-name c = sym (name-here (c .before))
+
+slice-aggregate-put-line : tie.Need-slice-aggregate-put-line
+slice-aggregate-put-line c = search needs
 
 put-line-requires : tie.Need-put-line-requires
-put-line-requires c κs =
-    let count = c .before .before .before .before .count-characters in
-    omega (arith, length-take-le (count .result) (c .before .before .before .before .before .before .before .args .code .now) (omega arith))
+put-line-requires c κs = omega (arith, name-here (c .before .before .before .before))
 
 same-length : tie.Need-same-length
 same-length c = search needs
@@ -31,22 +32,15 @@ same-length c = search needs
 returns : tie.Need-returns
 unfolding mark-word pick
 returns c =
-    let tests = c .before .before .before .before .before .before in
-    let mark = tests .before .before .before .before .args .mark in
-    rw (← tests .before .count-characters .ensures .1, eq-eqb mark 1 (tests .if1 .taken)) (c .before .before .put-line .ensures)
+    let tests = c .before .before .before .before .before in
+    let mark = tests .before .before .before .before .before .args .mark in
+    rw (← tests .before .before .count-characters .ensures .1, eq-eqb mark 1 (tests .if1 .taken)) (c .before .before .put-line .ensures)
 
-slice-aggregate-put-line-3 : tie.Need-slice-aggregate-put-line-3
-slice-aggregate-put-line-3 c =
-    let count = c .before .before .before .count-characters in
-    sym (length-take-le (count .result) (c .before .before .before .before .before .before .args .code .now) (omega arith))
-
-slice-aggregate-put-line-4 : tie.Need-slice-aggregate-put-line-4
-slice-aggregate-put-line-4 c = search needs
+slice-aggregate-put-line-2 : tie.Need-slice-aggregate-put-line-2
+slice-aggregate-put-line-2 c = search needs
 
 put-line-requires-2 : tie.Need-put-line-requires-2
-put-line-requires-2 c κs =
-    let count = c .before .before .before .before .before .count-characters in
-    omega (arith, length-take-le (count .result) (c .before .before .before .before .before .before .before .before .args .code .now) (omega arith))
+put-line-requires-2 c κs = omega (arith, name-here (c .before .before .before .before .before))
 
 same-length-2 : tie.Need-same-length-2
 same-length-2 c = search needs
@@ -54,23 +48,16 @@ same-length-2 c = search needs
 returns-2 : tie.Need-returns-2
 unfolding mark-word pick
 returns-2 c =
-    let tests = c .before .before .before .before .before .before in
-    let mark = tests .before .before .before .before .before .args .mark in
-    rw (← tests .before .before .count-characters .ensures .1, ne-eqb mark 1 (tests .before .if1 .left), eq-eqb mark 2 (tests .if2 .taken))
+    let tests = c .before .before .before .before .before in
+    let mark = tests .before .before .before .before .before .before .args .mark in
+    rw (← tests .before .before .before .count-characters .ensures .1, ne-eqb mark 1 (tests .before .if1 .left), eq-eqb mark 2 (tests .if2 .taken))
     (c .before .before .put-line2 .ensures)
 
-slice-aggregate-put-line-5 : tie.Need-slice-aggregate-put-line-5
-slice-aggregate-put-line-5 c =
-    let count = c .before .before .before .count-characters in
-    sym (length-take-le (count .result) (c .before .before .before .before .before .before .args .code .now) (omega arith))
-
-slice-aggregate-put-line-6 : tie.Need-slice-aggregate-put-line-6
-slice-aggregate-put-line-6 c = search needs
+slice-aggregate-put-line-3 : tie.Need-slice-aggregate-put-line-3
+slice-aggregate-put-line-3 c = search needs
 
 put-line-requires-3 : tie.Need-put-line-requires-3
-put-line-requires-3 c κs =
-    let count = c .before .before .before .before .before .count-characters in
-    omega (arith, length-take-le (count .result) (c .before .before .before .before .before .before .before .before .args .code .now) (omega arith))
+put-line-requires-3 c κs = omega (arith, name-here (c .before .before .before .before .before))
 
 same-length-3 : tie.Need-same-length-3
 same-length-3 c = search needs
@@ -78,9 +65,9 @@ same-length-3 c = search needs
 returns-3 : tie.Need-returns-3
 unfolding mark-word pick
 returns-3 c =
-    let tests = c .before .before .before .before .before .before in
-    let mark = tests .before .before .before .before .before .args .mark in
-    rw (← tests .before .before .count-characters .ensures .1, ne-eqb mark 1 (tests .before .if1 .left), ne-eqb mark 2 (tests .if2 .left))
+    let tests = c .before .before .before .before .before in
+    let mark = tests .before .before .before .before .before .before .args .mark in
+    rw (← tests .before .before .before .count-characters .ensures .1, ne-eqb mark 1 (tests .before .if1 .left), ne-eqb mark 2 (tests .if2 .left))
     (c .before .before .put-line3 .ensures)
 
 pub put-option-spec : {M : Type 1} → statement M
@@ -88,18 +75,16 @@ put-option-spec =
     tie.close
     (tie.spec
     count-characters-requires
+    slice-aggregate-name
     slice-aggregate-put-line
-    slice-aggregate-put-line-2
     put-line-requires
     same-length
     returns
-    slice-aggregate-put-line-3
-    slice-aggregate-put-line-4
+    slice-aggregate-put-line-2
     put-line-requires-2
     same-length-2
     returns-2
-    slice-aggregate-put-line-5
-    slice-aggregate-put-line-6
+    slice-aggregate-put-line-3
     put-line-requires-3
     same-length-3
     returns-3)

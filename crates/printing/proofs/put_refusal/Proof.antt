@@ -1,5 +1,4 @@
 -- `printing::put_refusal` meets its contract: the word, and the number of the refusal.
-use native.Mathlib.Omega.{arith}
 use borrow.Author.Needs.{needs}
 use Rattle.model.specs.Desk.{refused-word}
 use Rattle.printing.proofs.put_refusal.Statement.{statement}

@@ -1,8 +1,12 @@
 -- `propagation::look_in` meets its contract. Invariant: the literals of the block before k were tried.
 use mathlib.Core.Path.{_≡_, sym, _∙_}
-use Prim.Native.Nat.{_+_, _-_, _*_}
+use Prim.Native.Nat.{ℕ, _+_, _-_, _*_, _<_}
 use native.Mathlib.Omega.{arith}
 use borrow.Author.Needs.{needs}
+use lib.ListN.{set}
+use Rattle.evaluation.specs.Reading.{bit, tree-fails}
+use Rattle.evaluation.proofs.Trials.{trial-block}
+use Rattle.parts.specs.Parts.{stretch}
 use Rattle.propagation.proofs.Looking.{part-inside, part-length, Trying, trying-none, trying-more, tried, tried-none}
 use Rattle.propagation.proofs.look_in.Statement.{statement}
 use Rattle.propagation.proofs.look_in.Tie as tie
@@ -12,6 +16,9 @@ Inv-loop sheet from to block failed₀ trail₀ known stack rest₀ grown₀ k�
 
 abbrev μ-loop : tie.MeasureT-loop
 μ-loop sheet from to block failed₀ trail₀ known stack rest₀ grown₀ k₀ end failed trail rest grown k = 64 * block + 64 - k
+
+trials : (c : tie.After-tree-fails-with Inv-loop μ-loop) → let a = c .before .before .before .before .before .before .before .before .args in (j : ℕ) → j < 64 → bit j (c .tree-fails-with .result) ≡ tree-fails (set (a .failed .now) (64 * a .block + j) 1) (stretch (a .from) (a .to) (a .sheet .now))
+trials c j l = let p = c .before .before .before .before .before .before .before .before .pre .4 in rw (trial-block (c .before .before .before .before .before .before .before .before .args .failed .now) (c .before .before .before .before .before .before .before .before .args .block) j (λ e. omega arith)) at (c .tree-fails-with .ensures j l)
 
 mul-tree-fails-with : tie.Need-mul-tree-fails-with Inv-loop μ-loop
 mul-tree-fails-with c = let l = part-inside (c .before .before .before .before .pre .0) (c .before .before .before .before .pre .1) in omega (arith, c .before .before .before .before .pre .1 .goes-on)
@@ -37,7 +44,7 @@ same-length-2 : tie.Need-same-length-2 Inv-loop μ-loop
 same-length-2 c = search needs
 
 returns : tie.Need-returns Inv-loop μ-loop
-returns c = tried-none (c .before .before .before .before .before .before .before .before .before .before .before .pre .1) (c .before .before .before .before .before .before .before .before .before .before .before .pre .2) (c .before .before .before .tree-fails-with .ensures) (c .if1 .taken)
+returns c = tried-none (c .before .before .before .before .before .before .before .before .before .before .before .pre .1) (c .before .before .before .before .before .before .before .before .before .before .before .pre .2) (trials (c .before .before .before)) (c .if1 .taken)
 
 mul-k : tie.Need-mul-k Inv-loop μ-loop
 mul-k c = search needs
@@ -46,7 +53,7 @@ add-end : tie.Need-add-end Inv-loop μ-loop
 add-end c = search needs
 
 loop-holds : tie.Need-loop-holds Inv-loop μ-loop
-loop-holds c = trying-none (c .before .before .before .before .before .before .before .before .before .before .before .pre .1) (c .before .before .before .before .before .before .before .before .before .before .before .pre .2) (c .before .before .before .tree-fails-with .ensures)
+loop-holds c = trying-none (c .before .before .before .before .before .before .before .before .before .before .before .pre .1) (c .before .before .before .before .before .before .before .before .before .before .before .pre .2) (trials (c .before .before .before))
 
 learn-requires : tie.Need-learn-requires Inv-loop μ-loop
 learn-requires c κs =

@@ -6,22 +6,25 @@ use Rattle.search.specs.Meaning.{nextOf}
 use Rattle.runs.proofs.ended.Statement.{statement}
 use Rattle.runs.proofs.ended.Tie as tie
 
-next-redex-requires : tie.Need-next-redex-requires
-next-redex-requires c κs = search needs
-
 enum-told : tie.Need-enum-told
 enum-told c = search needs
 
 returns : tie.Need-returns
 unfolding maybe
-returns c = rw (sym (c .before .before .next-redex .ensures) ∙ ap nextOf (c .enum-told .given .1))
+returns c = rw (ap nextOf (c .enum-told .given .1))
 
 enum-told-2 : tie.Need-enum-told-2
 enum-told-2 c = search needs
 
 returns-2 : tie.Need-returns-2
 unfolding maybe
-returns-2 c = rw (sym (c .before .before .next-redex .ensures) ∙ ap nextOf (c .enum-told2 .given .1))
+returns-2 c = rw (ap nextOf (c .enum-told2 .given .1))
 
 pub ended-spec : {M : Type 1} → statement M
-ended-spec = tie.close (tie.spec next-redex-requires enum-told returns enum-told-2 returns-2)
+ended-spec =
+    tie.close
+    (tie.spec
+    enum-told
+    returns
+    enum-told-2
+    returns-2)

@@ -1,115 +1,88 @@
--- `runs::run` meets its contract. Invariant: the sheet is what so many steps of the strategy leave of the sheet that was lent.
+-- `runs::run` meets its contract: no sheet, or the run on it with tables made for it.
 use mathlib.Core.Bool.{true}
-use mathlib.Core.Option.{none, some}
-use mathlib.Core.Path.{_≡_, refl, sym, ap, subst, _∙_}
-use Prim.Native.Nat.{ℕ, _+_, _-_, _≤_}
+use mathlib.Core.Path.{_≡_, refl, sym, subst, _∙_}
 use native.Mathlib.Omega.{arith}
 use borrow.Author.Needs.{needs}
 use borrow.Author.Tests.{not-true, not-false}
-use lib.ListN.{length}
-use Rattle.model.specs.Sheet.{is-sheet, nodes-in}
-use Rattle.model.specs.Strategy.{next, redex}
-use Rattle.theory.specs.Reached.{Reached, reached-start, next-here, reached-more, run-refused, run-done}
-use Rattle.search.specs.Meaning.{nextOf}
-use Rattle.steps.specs.Results.{stepped}
-use Rattle.runs.proofs.Laws.{run-ended}
+use lib.ListN.{length, drop, length-drop, replicate}
+use Rattle.lists.proofs.Lent.{lent-part}
+use Rattle.model.specs.Sheet.{is-sheet, nodes-in, used-in}
+use Rattle.theory.specs.Reached.{run-refused}
+use Rattle.theory.specs.Sheets.{sheet-facts}
+use Rattle.sizes.specs.Tables.{Sized}
+use Rattle.runs.proofs.Laws.{ones-bounds, ones-high}
 use Rattle.runs.proofs.run.Statement.{statement}
 use Rattle.runs.proofs.run.Tie as tie
 
-abbrev Inv-loop : tie.InvT-loop
-Inv-loop sheet₀ budget count₀ sheet count = (count ≤ budget) × (length sheet ≡ length sheet₀) × Reached sheet₀ count sheet
-
-abbrev μ-loop : tie.MeasureT-loop
-μ-loop sheet₀ budget count₀ sheet count = budget - count
-
--- Past the first test it is a sheet.
-good : (c : tie.Else1 Inv-loop μ-loop) → is-sheet (c .before .before .before .before .args .sheet .now) ≡ true
+-- Past the test it is a sheet.
+good : (c : tie.Else1) → is-sheet (c .before .before .before .before .args .sheet .now) ≡ true
 good c = sym (c .before .is-sheet .ensures) ∙ not-false (c .before .is-sheet .result) (c .if1 .left)
 
-is-sheet-requires : tie.Need-is-sheet-requires Inv-loop μ-loop
+whole : (c : tie.Else1) → length (c .before .before .before .before .args .sheet .now) ≡ 4098
+whole c = sheet-facts (c .before .before .before .before .args .sheet .now) (good c) .whole
+
+is-sheet-requires : tie.Need-is-sheet-requires
 is-sheet-requires c κs = search needs
 
-same-length : tie.Need-same-length Inv-loop μ-loop
+same-length : tie.Need-same-length
 same-length c = search needs
 
-returns : tie.Need-returns Inv-loop μ-loop
+returns : tie.Need-returns
 returns c =
     run-refused _ _ (sym (c .before .is-sheet .ensures) ∙ not-true (c .before .is-sheet .result) (c .if1 .taken))
 
-loop-holds : tie.Need-loop-holds Inv-loop μ-loop
-loop-holds c = (omega arith, refl, reached-start (c .before .before .before .before .args .sheet .now) (good c))
+sub-fill : tie.Need-sub-fill
+sub-fill c = omega (arith, whole c)
 
-next-redex-requires : tie.Need-next-redex-requires Inv-loop μ-loop
-next-redex-requires c κs = c .before .before .loop .inv .2 .sheet
+part-fill-start : tie.Need-part-fill-start
+part-fill-start c = omega (arith, whole (c .before))
 
-enum-known-next : tie.Need-enum-known-next Inv-loop μ-loop
-enum-known-next c = search needs
+part-fill-end : tie.Need-part-fill-end
+part-fill-end c = search needs
 
-enum-told : tie.Need-enum-told Inv-loop μ-loop
-enum-told c = search needs
+slice-aggregate-fill : tie.Need-slice-aggregate-fill
+slice-aggregate-fill c = search needs
 
-same-length-2 : tie.Need-same-length-2 Inv-loop μ-loop
-same-length-2 c = c .before .before .before .before .before .loop .inv .1
+fill-requires : tie.Need-fill-requires
+fill-requires c κs =
+    let e = c .before .before .before in
+    let s = e .before .before .before .before .args .sheet .now in
+    rw (lent-part 2 s) (omega (arith, length-drop 2 s, whole e), omega (arith, length-drop 2 s, whole e))
 
-returns-2 : tie.Need-returns-2 Inv-loop μ-loop
-returns-2 c =
-    let d = c .before .before in
-    let n = d .before .before .before in
-    run-done (good (n .before)) (n .loop .inv .2) _ (n .loop .inv .0) (sym (d .next-redex .ensures) ∙ ap nextOf (c .enum-told .given .1))
+slice-aggregate-run-on : tie.Need-slice-aggregate-run-on
+slice-aggregate-run-on c = search needs
 
--- The strategy's step, as the search found it.
-found : (c : tie.After-known-told Inv-loop μ-loop) → let x = c .before .next .given .0 in next (nodes-in (c .before .before .before .before .before .before .loop .sheet)) ≡ some (redex (x .0) (x .1 .0) (x .1 .1 .0) (x .1 .1 .1 .0))
-found c = sym (c .before .before .before .next-redex .ensures) ∙ ap nextOf (c .before .next .given .1)
+slice-aggregate-run-on-2 : tie.Need-slice-aggregate-run-on-2
+slice-aggregate-run-on-2 c = search needs
 
-apply-requires : tie.Need-apply-requires Inv-loop μ-loop
-apply-requires c κs =
-    let r = c .before .before .before .before .before .before .before .loop .inv .2 in
-    (r .sheet, next-here r (found (c .before)))
+run-on-requires : tie.Need-run-on-requires
+run-on-requires c κs =
+    let f = c .before .before .before .before in
+    let e = f .before .before .before .before in
+    let s = e .before .before .before .before .args .sheet .now in
+    let facts = sheet-facts s (good e) in
+    (good e, ((f .fill .kept .1 .0, subst (λ l. Sized 0 l (f .fill .last .1 .0)) (lent-part 2 s) (f .fill .ensures)), (refl, ones-bounds (nodes-in s) (omega (arith, facts .count, facts .used)), ones-high (used-in s) (facts .used))))
 
-add-count : tie.Need-add-count Inv-loop μ-loop
-add-count c = omega arith
+same-length-2 : tie.Need-same-length-2
+same-length-2 c = search needs
 
-loop-less : tie.Need-loop-less Inv-loop μ-loop
-loop-less c = omega arith
-
-loop-again : tie.Need-loop-again Inv-loop μ-loop
-unfolding stepped
-loop-again c =
-    let d = c .before .before in
-    let k = d .before .before in
-    let n = k .before .before .before .before .before .before in
-    (omega arith, d .apply .kept .0 ∙ n .loop .inv .1, subst (Reached _ (n .loop .count + 1)) (sym (d .apply .ensures)) (reached-more (n .loop .inv .2) (found k)))
-
-ended-requires : tie.Need-ended-requires Inv-loop μ-loop
-ended-requires c κs = c .before .before .loop .inv .2 .sheet
-
-same-length-3 : tie.Need-same-length-3 Inv-loop μ-loop
-same-length-3 c = c .before .before .before .loop .inv .1
-
-returns-3 : tie.Need-returns-3 Inv-loop μ-loop
-returns-3 c =
-    let n = c .before .before .before in
-    rw (c .ended .ensures) (run-ended (good (n .before)) (n .loop .inv .2) _ (omega arith))
+returns-2 : tie.Need-returns-2
+returns-2 c = search needs
 
 pub run-spec : {M : Type 1} → statement M
 run-spec =
     tie.close
     (tie.spec
-    Inv-loop
-    μ-loop
     is-sheet-requires
     same-length
     returns
-    loop-holds
-    next-redex-requires
-    enum-known-next
-    enum-told
+    sub-fill
+    part-fill-start
+    part-fill-end
+    slice-aggregate-fill
+    fill-requires
+    slice-aggregate-run-on
+    slice-aggregate-run-on-2
+    run-on-requires
     same-length-2
-    returns-2
-    apply-requires
-    add-count
-    loop-less
-    loop-again
-    ended-requires
-    same-length-3
-    returns-3)
+    returns-2)

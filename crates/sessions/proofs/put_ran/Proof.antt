@@ -27,17 +27,17 @@ few-here c = let start = c .before .before .before .before in omega (arith, coun
 lent-here : (c : tie.After-word-at) → length {A = ℕ} (take (c .word-at .result) (replicate 512 0)) ≡ c .word-at .result
 lent-here c = ap length (take-zeros (c .word-at .result) 512 (few-here c)) ∙ length-replicate (c .word-at .result) 0
 
+array-borrow-prefix-room : tie.Need-array-borrow-prefix-room
+array-borrow-prefix-room c = few-here c
+
+slice-aggregate-marks : tie.Need-slice-aggregate-marks
+slice-aggregate-marks c = sym (lent-here (c .before))
+
 run-requires : tie.Need-run-requires
 run-requires c κs = search needs
 
 enum-known-ran : tie.Need-enum-known-ran
 enum-known-ran c = search needs
-
-array-borrow-prefix-marks : tie.Need-array-borrow-prefix-marks
-array-borrow-prefix-marks c = few-here (c .before .before .before .before .before .before .before .before)
-
-slice-aggregate-put-told : tie.Need-slice-aggregate-put-told
-slice-aggregate-put-told c = sym (lent-here (c .before .before .before .before .before .before .before .before .before))
 
 put-told-requires : tie.Need-put-told-requires
 put-told-requires c κs =
@@ -46,12 +46,6 @@ put-told-requires c κs =
 
 enum-known-ran-2 : tie.Need-enum-known-ran-2
 enum-known-ran-2 c = search needs
-
-array-borrow-prefix-marks-2 : tie.Need-array-borrow-prefix-marks-2
-array-borrow-prefix-marks-2 c = few-here (c .before .before .before .before .before .before .before .before)
-
-slice-aggregate-put-told-2 : tie.Need-slice-aggregate-put-told-2
-slice-aggregate-put-told-2 c = sym (lent-here (c .before .before .before .before .before .before .before .before .before))
 
 put-told-requires-2 : tie.Need-put-told-requires-2
 put-told-requires-2 c κs =
@@ -75,9 +69,9 @@ unfolding desk-budget
 returns c =
     let word = c .before .before .before .before .before .before .before .before .before .before .before .before .before .before in
     let start = word .before .before .before .before in
-    let run = c .before .before .before .before .before .before .before .before .before .before .before .before .run in
+    let run = c .before .before .before .before .before .before .before .before .before .before .before .run in
     let sheet = run .last .0 in
-    let answer = ap (λ t. afterCall (ranOf t) sheet) (sym (c .before .before .before .before .before .before .before .before .ran .given .1)) ∙ run .ensures in
+    let answer = ap (λ t. afterCall (ranOf t) sheet) (sym (c .before .before .before .before .before .before .before .ran .given .1)) ∙ run .ensures in
     c .before .before .before .put-told .ensures
     ∙ ap (λ l. placed l (start .args .out .now)) (ran-accepted (start .args .book .now) sheet _ _ (word .word-at .result) 512 (count-here word) (few-here word) answer)
 
@@ -92,9 +86,9 @@ unfolding desk-budget
 returns-2 c =
     let word = c .before .before .before .before .before .before .before .before .before .before .before .before .before .before in
     let start = word .before .before .before .before in
-    let run = c .before .before .before .before .before .before .before .before .before .before .before .before .run in
+    let run = c .before .before .before .before .before .before .before .before .before .before .before .run in
     let sheet = run .last .0 in
-    let answer = ap (λ t. afterCall (ranOf t) sheet) (sym (c .before .before .before .before .before .before .before .before .ran2 .given .1)) ∙ run .ensures in
+    let answer = ap (λ t. afterCall (ranOf t) sheet) (sym (c .before .before .before .before .before .before .before .ran2 .given .1)) ∙ run .ensures in
     c .before .before .before .put-told2 .ensures
     ∙ ap (λ l. placed l (start .args .out .now)) (ran-accepted (start .args .book .now) sheet _ _ (word .word-at .result) 512 (count-here word) (few-here word) answer)
 
@@ -107,10 +101,10 @@ same-length-6 c = search needs
 returns-3 : tie.Need-returns-3
 unfolding desk-budget
 returns-3 c =
-    let start = c .before .before .before .before .before .before .before .before .before .before .before .before .before .before .before in
-    let run = c .before .before .before .before .before .before .before .before .before .run in
+    let start = c .before .before .before .before .before .before .before .before .before .before .before .before .before .before .before .before .before in
+    let run = c .before .before .before .before .before .before .before .before .before .before .run in
     let sheet = run .last .0 in
-    let answer = ap (λ t. afterCall (ranOf t) sheet) (sym (c .before .before .before .before .before .ran3 .given .1)) ∙ run .ensures in
+    let answer = ap (λ t. afterCall (ranOf t) sheet) (sym (c .before .before .before .before .before .before .ran3 .given .1)) ∙ run .ensures in
     c .before .before .put-refusal .ensures
     ∙ ap (λ l. placed l (start .args .out .now)) (ran-refused (start .args .book .now) sheet _ _ answer)
 
@@ -119,14 +113,12 @@ put-ran-spec =
     tie.close
     (tie.spec
     word-at-requires
+    array-borrow-prefix-room
+    slice-aggregate-marks
     run-requires
     enum-known-ran
-    array-borrow-prefix-marks
-    slice-aggregate-put-told
     put-told-requires
     enum-known-ran-2
-    array-borrow-prefix-marks-2
-    slice-aggregate-put-told-2
     put-told-requires-2
     enum-known-ran-3
     put-refusal-requires

@@ -1,8 +1,6 @@
 -- `sessions::put_refused` meets its contract, case by case.
-use mathlib.Core.List.{List, []}
-use mathlib.Core.Path.{refl, sym, ap, _∙_}
-use Prim.Native.Nat.{ℕ}
-use native.Mathlib.Omega.{arith}
+use mathlib.Core.List.{[]}
+use mathlib.Core.Path.{sym, ap, _∙_}
 use borrow.Author.Needs.{needs}
 use Rattle.model.specs.Desk.{printed}
 use Rattle.answers.specs.Meaning.{doneOf}

@@ -1,6 +1,5 @@
 -- `sessions::put_told` meets its contract: each answer of the report, and what is printed of it.
 use mathlib.Core.Path.{sym, ap, _∙_}
-use native.Mathlib.Omega.{arith}
 use borrow.Author.Needs.{needs}
 use Rattle.answers.specs.Meaning.{afterCall}
 use Rattle.reports.specs.Meaning.{reportedOf}

@@ -1,12 +1,9 @@
 -- `sessions::session` meets its contract: what is printed is what the definition prints, by the answers of the loader, of the keying and of
 -- the run.
-use mathlib.Core.Option.{none}
-use mathlib.Core.Path.{_≡_, sym, ap, _∙_}
+use mathlib.Core.Path.{sym, ap, _∙_}
 use Prim.Native.Nat.{ℕ}
-use native.Mathlib.Omega.{arith}
 use borrow.Author.Needs.{needs}
 use lib.ListN.{replicate, length-replicate}
-use Rattle.model.specs.Calls.{book-refusal}
 use Rattle.answers.specs.Meaning.{doneOf, afterCall}
 use Rattle.sessions.proofs.Laws.{load-refused, keys-refused, keys-accepted, loaded-good, session-short, session-printed}
 use Rattle.sessions.proofs.session.Statement.{statement}

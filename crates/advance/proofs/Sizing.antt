@@ -1,0 +1,93 @@
+-- The table of sizes after a step that keeps the number of nodes: outside the zone it is still right.
+use mathlib.Core.Bool.{true, false, _&&_}
+use mathlib.Core.List.{List, _++_, map}
+use mathlib.Core.Logic.{_⊎_, inl, inr, ⊎-elim}
+use mathlib.Core.Option.{some}
+use mathlib.Core.Path.{_≡_, refl, sym, ap, subst, _∙_}
+use Prim.Native.Nat.{ℕ, _+_, _-_, _≤_, _<_}
+use native.Mathlib.Omega.{arith}
+use borrow.Author.Tests.{eqb-true, eqb-false, ltb-true, ltb-false, lt-ltb}
+use lib.Dec.{eqb, ltb}
+use lib.ListN.{length, getD, drop, replicate, length-drop, length-map}
+use lib.Seq.{drop-append-add}
+use Rattle.model.specs.Base.{is-some}
+use Rattle.model.specs.Code.{Node, encode, decode, number-of, trees}
+use Rattle.model.specs.Forest.{first}
+use Rattle.model.specs.Rules.{step}
+use Rattle.model.specs.Sheet.{is-sheet, used-in, nodes-in}
+use Rattle.theory.specs.Logic.{true-false, either, and-split, and-join}
+use Rattle.theory.specs.Spans.{span}
+use Rattle.theory.specs.Shape.{shaped-trees}
+use Rattle.theory.specs.Sheets.{sheet-facts}
+use Rattle.theory.specs.Stretches.{stands}
+use Rattle.locality.specs.Zones.{Holds, tree-length, tree-end}
+use Rattle.locality.specs.Locality.{length-before, length-holding, length-at}
+use Rattle.sizes.specs.Tables.{Sized}
+use Rattle.zones.specs.Zoned.{after-step, Zoned}
+use Rattle.zones.proofs.Places.{size-here}
+use Rattle.zones.proofs.OnSheet as O
+use Rattle.zones.proofs.Zones as Z
+
+-- After the nodes stand zeros.
+zeros-here : (s : List ℕ) → is-sheet s ≡ true → (q : ℕ) → used-in s ≤ q → drop q (drop 2 s) ≡ drop (q - used-in s) (replicate (4096 - used-in s) 0)
+zeros-here s h q le =
+    let facts = sheet-facts s h in
+    let numbers = map number-of (nodes-in s) in
+    let sum : length numbers + (q - used-in s) ≡ q = omega (arith, length-map (nodes-in s) number-of, facts .count) in
+    ap (drop q) (stands s facts)
+    ∙ ap (λ k. drop k (numbers ++ replicate (4096 - used-in s) 0)) (sym sum)
+    ∙ drop-append-add numbers (replicate (4096 - used-in s) 0) (q - used-in s)
+
+same-length : (q : ℕ) (ns ms : List Node) → drop q ms ≡ drop q ns → tree-length q ms ≡ tree-length q ns
+unfolding tree-length
+same-length q ns ms e = ap (λ xs. length (encode (first 1 (decode xs)))) e
+
+module _ (s u : List ℕ) (h : is-sheet s ≡ true) (k : is-sheet u ≡ true) (r p i j : ℕ) (a : is-some (step r p i j (nodes-in s)) ≡ true) (same : nodes-in u ≡ after-step r p i j (nodes-in s)) {from old new : ℕ} (z : Zoned r p i j (nodes-in s) from old new) (low : 9 ≤ r) (top : r ≤ 12) where
+  one : trees (nodes-in s) ≡ some 1
+  one = shaped-trees (sheet-facts s h .shaped)
+
+  level : length (after-step r p i j (nodes-in s)) ≡ length (nodes-in s)
+  level = Z.level-length r p i j (nodes-in s) one (O.few s h r p i j a) a low top
+
+  used-same : used-in u ≡ used-in s
+  used-same = sym (sheet-facts u k .count) ∙ ap length same ∙ level ∙ sheet-facts s h .count
+
+  -- The trees outside the zone keep their lengths.
+  kept : (q : ℕ) → q < used-in s → (q < from) ⊎ (new ≤ q) → tree-length q (nodes-in u) ≡ tree-length q (nodes-in s)
+  kept q l side = ap (tree-length q) same ∙ go side
+    where
+      e : step r p i j (nodes-in s) ≡ some (after-step r p i j (nodes-in s))
+      e = O.did s h r p i j a
+
+      before : q < from → (q ≡ p) ⊎ (q ≡ p → ⊥) → tree-length q (after-step r p i j (nodes-in s)) ≡ tree-length q (nodes-in s)
+      before lt (inl x) =
+          let grown = length-at r p i j (nodes-in s) one e in
+          ap (λ n. tree-length n (after-step r p i j (nodes-in s))) x ∙ omega (arith, grown, level) ∙ ap (λ n. tree-length n (nodes-in s)) (sym x)
+      before lt (inr x) =
+          ⊎-elim
+          (λ y. let grown = length-holding r p i j (nodes-in s) one e q (ltb-true q p (and-split (ltb q p) (ltb p (tree-end q (nodes-in s))) y .0), ltb-true p (tree-end q (nodes-in s)) (and-split (ltb q p) (ltb p (tree-end q (nodes-in s))) y .1)) in omega (arith, grown, level))
+          (λ y. length-before r p i j (nodes-in s) one e q (omega (arith, z .before)) x (λ held. true-false (sym (and-join (lt-ltb q p (held .0)) (lt-ltb p (tree-end q (nodes-in s)) (held .1))) ∙ y)))
+          (either (ltb q p && ltb p (tree-end q (nodes-in s))))
+
+      go : (q < from) ⊎ (new ≤ q) → tree-length q (after-step r p i j (nodes-in s)) ≡ tree-length q (nodes-in s)
+      go (inl lt) = before lt (⊎-elim (λ x. inl (eqb-true q p x)) (λ x. inr (eqb-false q p x)) (either (eqb q p)))
+      go (inr le) =
+          let there = z .after q le (omega (arith, level, sheet-facts s h .count)) .0 in
+          let still : q + (old - new) ≡ q = omega (arith, z .level low top) in
+          same-length q (nodes-in s) (after-step r p i j (nodes-in s)) (there ∙ ap (λ n. drop n (nodes-in s)) still)
+
+  pub sized-outside : (t : List ℕ) → Sized 0 (drop 2 s) t → (q : ℕ) → q < length (drop 2 u) → (q < from) ⊎ (new ≤ q) → getD t q 0 ≡ span 1 (drop q (drop 2 u))
+  sized-outside t sized q l side =
+      let whole = sheet-facts s h .whole in
+      let there : q < length (drop 2 s) = omega (arith, length-drop 2 s, length-drop 2 u, sheet-facts u k .whole) in
+      sized q (omega arith) there
+      ∙ ⊎-elim
+      (λ x. let lt = ltb-true q (used-in s) x in size-here s h q lt ∙ sym (kept q lt side) ∙ sym (size-here u k q (omega (arith, used-same))))
+      (λ x. let ge = ltb-false q (used-in s) x in
+      ap (span 1) (zeros-here s h q ge ∙ ap (λ n. drop (q - n) (replicate (4096 - n) 0)) (sym used-same) ∙ sym (zeros-here u k q (omega (arith, used-same)))))
+      (either (ltb q (used-in s)))
+
+-- A table that is right before a place and from it on is right.
+pub sized-both : (from : ℕ) (l t : List ℕ) → Sized from l t → ((q : ℕ) → q < from → q < length l → getD t q 0 ≡ span 1 (drop q l)) → Sized 0 l t
+sized-both from l t right before q a b =
+    ⊎-elim (λ x. before q (ltb-true q from x) b) (λ x. right q (ltb-false q from x) b) (either (ltb q from))

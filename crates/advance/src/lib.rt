@@ -1,0 +1,142 @@
+// One step of a run by bounds: the sheet, the sizes of its trees and the bounds beside its places go on together.
+ghost use mathlib.Core.Path.{_≡_};
+ghost use mathlib.Core.Bool.{true};
+ghost use mathlib.Core.Logic.{_⊎_};
+ghost use Prim.Native.Nat.{ℕ, _≤_, _<_};
+ghost use lib.ListN.{length, getD, drop};
+ghost use Rattle.model.specs.Base.{«is-some»};
+ghost use Rattle.model.specs.Rules.{step};
+ghost use Rattle.model.specs.Sheet.{«is-sheet», «used-in», «nodes-in»};
+ghost use Rattle.theory.specs.Spans.{span};
+ghost use Rattle.sizes.specs.Tables.{Sized};
+ghost use Rattle.steps.specs.Results.{stepped};
+ghost use Rattle.bounds.specs.Tables.{Bounds, High};
+ghost use Rattle.zones.specs.Zoned.{Zoned};
+ghost use Rattle.advance.specs.Holders.{Holders};
+
+// The sizes after a step. Rules 9 to 12 keep every size outside the zone.
+fn resize(sheet: &[u16], sizes: &mut [u16], rule: usize, from: usize, to: usize)
+    requires { ⌜ (length (now sheet) ≡ 4098) × (length (now sizes) ≡ 4096) × (from ≤ to) × (to ≤ 4096) ⌝ }
+    requires { ⌜ (9 ≤ rule → rule ≤ 12 → (q : ℕ) → q < length (drop 2 (now sheet)) → (q < from) ⊎ (to ≤ q) → getD (now sizes) q 0 ≡ span 1 (drop q (drop 2 (now sheet)))) ⌝ }
+    ensures { λ r. ⌜ Sized 0 (drop 2 (now (sheet .entry))) (now (sizes .exit)) ⌝ }
+{
+    if rule <= 8 {
+        sizes::fill(&sheet[2..], sizes);
+        return;
+    }
+    if 13 <= rule {
+        sizes::fill(&sheet[2..], sizes);
+        return;
+    }
+    sizes::refill(&sheet[2..], sizes, from, to);
+}
+
+// What a step will change: its zone, and the two nearest places that hold its own.
+struct Plan {
+    from: usize,
+    old: usize,
+    new: usize,
+    inner: usize,
+    outer: usize,
+}
+
+fn look_ahead(sheet: &[u16], sizes: &[u16], rule: usize, place: usize, i: usize, j: usize) -> Plan
+    requires { ⌜ («is-sheet» (now sheet) ≡ true) × («is-some» (step rule place i j («nodes-in» (now sheet))) ≡ true) ⌝ }
+    requires { ⌜ (length (now sizes) ≡ 4096) × Sized 0 (drop 2 (now sheet)) (now sizes) ⌝ }
+    ensures { λ r. ⌜ Zoned rule place i j («nodes-in» (now (sheet .entry))) (r .from) (r .old) (r .new) ⌝ }
+    ensures { λ r. ⌜ Holders place (r .inner) (r .outer) («nodes-in» (now (sheet .entry))) ⌝ }
+{
+    let inner = sizes::holder(sizes, place, place);
+    let outer = sizes::holder(sizes, inner, place);
+    let zone = zones::zone_of(sheet, sizes, rule, place, i, j);
+    Plan {
+        from: zone.from,
+        old: zone.old,
+        new: zone.new,
+        inner: inner,
+        outer: outer,
+    }
+}
+
+// The greater of two numbers.
+fn greater(a: usize, b: usize) -> usize
+    ensures { λ r. ⌜ (a ≤ r) × (b ≤ r) ⌝ }
+{
+    if a < b {
+        return b;
+    }
+    a
+}
+
+// The lesser of two numbers.
+fn lesser(a: usize, b: usize) -> usize
+    ensures { λ r. ⌜ (r ≤ a) × (r ≤ b) × ((r ≡ a) ⊎ (r ≡ b)) ⌝ }
+{
+    if a < b {
+        return a;
+    }
+    b
+}
+
+// The places whose bounds a step has set back lie from one place up to another.
+struct Reach {
+    from: usize,
+    to: usize,
+}
+
+// The step on the sheet and the two tables.
+fn move_on(
+    sheet: &mut [u16],
+    sizes: &mut [u16],
+    low: &mut [u16],
+    rule: usize,
+    place: usize,
+    i: usize,
+    j: usize,
+) -> Reach
+    requires { ⌜ («is-sheet» (now sheet) ≡ true) × («is-some» (step rule place i j («nodes-in» (now sheet))) ≡ true) ⌝ }
+    requires { ⌜ (length (now sizes) ≡ 4096) × Sized 0 (drop 2 (now sheet)) (now sizes) ⌝ }
+    requires { ⌜ (length (now low) ≡ 4096) × Bounds («nodes-in» (now sheet)) (now low) × High rule 0 («used-in» (now sheet)) (now low) ⌝ }
+    ensures { λ r. ⌜ now (sheet .exit) ≡ stepped (now (sheet .entry)) rule place i j ⌝ }
+    ensures { λ r. ⌜ Sized 0 (drop 2 (now (sheet .exit))) (now (sizes .exit)) ⌝ }
+    ensures { λ r. ⌜ Bounds («nodes-in» (now (sheet .exit))) (now (low .exit)) × High 1 0 («used-in» (now (sheet .exit))) (now (low .exit)) ⌝ }
+    ensures { λ r. ⌜ (r .from ≤ r .to) × ((q : ℕ) → q < «used-in» (now (sheet .exit)) → (q < r .from) ⊎ (r .to ≤ q) → rule ≤ getD (now (low .exit)) q 0) ⌝ }
+{
+    let p = look_ahead(sheet, sizes, rule, place, i, j);
+    let from = p.from;
+    let new = p.new;
+    let outer = p.outer;
+    steps::apply(sheet, rule, place, i, j);
+    resize(sheet, sizes, rule, from, new);
+    renewal::renew(low, from, p.old, new, place, p.inner, outer);
+    let to = greater(place + 1, new);
+    Reach {
+        from: outer,
+        to: to,
+    }
+}
+
+// One step of a run by bounds: how high all bounds are after it.
+pub fn advance(
+    sheet: &mut [u16],
+    sizes: &mut [u16],
+    low: &mut [u16],
+    rule: usize,
+    place: usize,
+    i: usize,
+    j: usize,
+) -> usize
+    requires { ⌜ («is-sheet» (now sheet) ≡ true) × («is-some» (step rule place i j («nodes-in» (now sheet))) ≡ true) ⌝ }
+    requires { ⌜ (length (now sizes) ≡ 4096) × Sized 0 (drop 2 (now sheet)) (now sizes) ⌝ }
+    requires { ⌜ (length (now low) ≡ 4096) × Bounds («nodes-in» (now sheet)) (now low) × High rule 0 («used-in» (now sheet)) (now low) ⌝ }
+    ensures { λ r. ⌜ now (sheet .exit) ≡ stepped (now (sheet .entry)) rule place i j ⌝ }
+    ensures { λ r. ⌜ Sized 0 (drop 2 (now (sheet .exit))) (now (sizes .exit)) ⌝ }
+    ensures { λ r. ⌜ Bounds («nodes-in» (now (sheet .exit))) (now (low .exit)) × High r 0 («used-in» (now (sheet .exit))) (now (low .exit)) ⌝ }
+    ensures { λ r. ⌜ (1 ≤ r) × (r ≤ 15) ⌝ }
+{
+    let reach = move_on(sheet, sizes, low, rule, place, i, j);
+    let used = numbers::wide16(sheet[1]);
+    let to = lesser(reach.to, used);
+    let from = lesser(reach.from, to);
+    bounds::raise_all(sheet, sizes, low, from, to, rule)
+}

@@ -1,0 +1,134 @@
+// The strategy's search by bounds: beside each place a number below which no rule applies there, so that a place is tried again only
+// where its bound was lowered.
+ghost use mathlib.Core.Path.{_≡_};
+ghost use mathlib.Core.Bool.{true};
+ghost use mathlib.Core.Option.{none};
+ghost use Prim.Native.Nat.{ℕ, _+_, _≤_, _<_};
+ghost use lib.ListN.{length, getD, drop};
+ghost use Rattle.model.specs.Code.{decode};
+ghost use Rattle.model.specs.Strategy.{«least-i», «least-place», next};
+ghost use Rattle.model.specs.Sheet.{«is-sheet», «used-in», «nodes-in»};
+ghost use Rattle.sizes.specs.Tables.{Sized};
+ghost use Rattle.search.specs.Meaning.{spotOf, nextOf};
+ghost use Rattle.bounds.specs.Tables.{Bounds, High, Rises};
+ghost use Rattle.bounds.specs.Floors.{floorOf, ruleOf};
+use search::Next;
+use search::Spot;
+
+// Where the rule applies at a place whose bound has come to the rule; the bound rises past it where the rule does not apply, and past
+// all rules at a literal.
+fn try_at(sheet: &[u16], sizes: &[u16], low: &mut [u16], rule: usize, place: usize) -> Spot
+    requires { ⌜ (1 ≤ rule) × (rule ≤ 14) ⌝ }
+    requires { ⌜ («is-sheet» (now sheet) ≡ true) × (place < «used-in» (now sheet)) ⌝ }
+    requires { ⌜ (length (now sizes) ≡ 4096) × Sized 0 (drop 2 (now sheet)) (now sizes) ⌝ }
+    requires { ⌜ (length (now low) ≡ 4096) × (rule ≤ getD (now low) place 0) × Bounds («nodes-in» (now sheet)) (now low) ⌝ }
+    ensures { λ r. ⌜ spotOf rule place r ≡ «least-i» rule place (decode (drop place («nodes-in» (now (sheet .entry))))) ⌝ }
+    ensures { λ r. ⌜ Bounds («nodes-in» (now (sheet .entry))) (now (low .exit)) × Rises (now (low .entry)) (now (low .exit)) ⌝ }
+    ensures { λ r. ⌜ (spotOf rule place r ≡ none → rule < getD (now (low .exit)) place 0) ⌝ }
+{
+    if rule < numbers::wide16(low[place]) {
+        return Spot::Nowhere;
+    }
+    let from = 2 + place;
+    if nodes::is_literal(numbers::wide16(sheet[from])) {
+        low[place] = 15;
+        return Spot::Nowhere;
+    }
+    let spot = search::least_at(sheet, sizes, rule, place);
+    if let Spot::At(i, j) = spot {
+        return Spot::At(i, j);
+    }
+    low[place] = (rule + 1) as u16;
+    Spot::Nowhere
+}
+
+// The least place for a rule that all bounds have come to.
+fn least_place(sheet: &[u16], sizes: &[u16], low: &mut [u16], rule: usize) -> Next
+    requires { ⌜ (1 ≤ rule) × (rule ≤ 14) ⌝ }
+    requires { ⌜ «is-sheet» (now sheet) ≡ true ⌝ }
+    requires { ⌜ (length (now sizes) ≡ 4096) × Sized 0 (drop 2 (now sheet)) (now sizes) ⌝ }
+    requires { ⌜ (length (now low) ≡ 4096) × Bounds («nodes-in» (now sheet)) (now low) ⌝ }
+    requires { ⌜ High rule 0 («used-in» (now sheet)) (now low) ⌝ }
+    ensures { λ r. ⌜ nextOf r ≡ «least-place» rule («nodes-in» (now (sheet .entry))) ⌝ }
+    ensures { λ r. ⌜ Bounds («nodes-in» (now (sheet .entry))) (now (low .exit)) × High (floorOf rule r) 0 («used-in» (now (sheet .entry))) (now (low .exit)) ⌝ }
+{
+    let used = numbers::wide16(sheet[1]);
+    let mut place = 0;
+    while place < used {
+        let spot = try_at(sheet, sizes, low, rule, place);
+        if let Spot::At(i, j) = spot {
+            return Next::Redex(rule, place, i, j);
+        }
+        place += 1;
+    }
+    Next::Nothing
+}
+
+// The strategy's step, where all bounds have come to a rule.
+pub fn next_redex(sheet: &[u16], sizes: &[u16], low: &mut [u16], floor: usize) -> Next
+    requires { ⌜ (1 ≤ floor) × (floor ≤ 15) ⌝ }
+    requires { ⌜ «is-sheet» (now sheet) ≡ true ⌝ }
+    requires { ⌜ (length (now sizes) ≡ 4096) × Sized 0 (drop 2 (now sheet)) (now sizes) ⌝ }
+    requires { ⌜ (length (now low) ≡ 4096) × Bounds («nodes-in» (now sheet)) (now low) ⌝ }
+    requires { ⌜ High floor 0 («used-in» (now sheet)) (now low) ⌝ }
+    ensures { λ r. ⌜ nextOf r ≡ next («nodes-in» (now (sheet .entry))) ⌝ }
+    ensures { λ r. ⌜ Bounds («nodes-in» (now (sheet .entry))) (now (low .exit)) × High (ruleOf r) 0 («used-in» (now (sheet .entry))) (now (low .exit)) ⌝ }
+{
+    let mut rule = floor;
+    while rule <= 14 {
+        let found = least_place(sheet, sizes, low, rule);
+        if let Next::Redex(r, p, i, j) = found {
+            return Next::Redex(r, p, i, j);
+        }
+        rule += 1;
+    }
+    Next::Nothing
+}
+
+// The bound of a place rises up to a limit, or to the least rule below it that applies there: the number it has come to.
+fn raise(sheet: &[u16], sizes: &[u16], low: &mut [u16], place: usize, limit: usize) -> usize
+    requires { ⌜ (1 ≤ limit) × (limit ≤ 15) ⌝ }
+    requires { ⌜ («is-sheet» (now sheet) ≡ true) × (place < «used-in» (now sheet)) ⌝ }
+    requires { ⌜ (length (now sizes) ≡ 4096) × Sized 0 (drop 2 (now sheet)) (now sizes) ⌝ }
+    requires { ⌜ (length (now low) ≡ 4096) × (1 ≤ getD (now low) place 0) × Bounds («nodes-in» (now sheet)) (now low) ⌝ }
+    ensures { λ r. ⌜ (1 ≤ r) × (r ≤ limit) × (r ≤ getD (now (low .exit)) place 0) ⌝ }
+    ensures { λ r. ⌜ Bounds («nodes-in» (now (sheet .entry))) (now (low .exit)) × Rises (now (low .entry)) (now (low .exit)) ⌝ }
+{
+    if limit <= numbers::wide16(low[place]) {
+        return limit;
+    }
+    let mut rule = 1;
+    while rule < limit {
+        let spot = try_at(sheet, sizes, low, rule, place);
+        let Spot::Nowhere = spot else {
+            return rule;
+        };
+        rule += 1;
+    }
+    rule
+}
+
+// The same for the places from one up to another: the least number that one of them has come to.
+pub fn raise_all(
+    sheet: &[u16],
+    sizes: &[u16],
+    low: &mut [u16],
+    from: usize,
+    to: usize,
+    limit: usize,
+) -> usize
+    requires { ⌜ (1 ≤ limit) × (limit ≤ 15) ⌝ }
+    requires { ⌜ («is-sheet» (now sheet) ≡ true) × (from ≤ to) × (to ≤ «used-in» (now sheet)) ⌝ }
+    requires { ⌜ (length (now sizes) ≡ 4096) × Sized 0 (drop 2 (now sheet)) (now sizes) ⌝ }
+    requires { ⌜ (length (now low) ≡ 4096) × High 1 from to (now low) × Bounds («nodes-in» (now sheet)) (now low) ⌝ }
+    ensures { λ r. ⌜ (1 ≤ r) × (r ≤ limit) × High r from to (now (low .exit)) ⌝ }
+    ensures { λ r. ⌜ Bounds («nodes-in» (now (sheet .entry))) (now (low .exit)) × Rises (now (low .entry)) (now (low .exit)) ⌝ }
+{
+    let mut floor = limit;
+    let mut place = from;
+    while place < to {
+        floor = raise(sheet, sizes, low, place, floor);
+        place += 1;
+    }
+    floor
+}

@@ -1,0 +1,20 @@
+-- Places and zones; what stands at the places of a tree's children; what a step did, with its family.
+pub mod Zones
+pub mod Places
+pub mod Turned
+-- From the zone on the nodes are the old ones, moved.
+pub mod After
+-- No rule makes an option occur that did not.
+pub mod Mentions
+-- Forests that differ in one tree, and forests that look alike down to a level.
+pub mod Differ
+pub mod Alike
+pub mod Looks
+-- Nodes read onto such forests.
+pub mod Levels
+-- Before the zone rules do not come to apply.
+pub mod Before
+pub mod Front
+pub mod Sides
+-- The theorems.
+pub mod Locality

@@ -1,0 +1,115 @@
+-- Where the children look alike two levels down, a rule that does not apply to the one node does not apply to the other.
+use mathlib.Core.Bool.{Bool, true, false, _&&_, _||_, not}
+use mathlib.Core.Option.{Option, none, some}
+use mathlib.Core.Path.{_≡_, refl, sym, ap, ap₂, _∙_}
+use Prim.Native.Nat.{ℕ, suc}
+use lib.Dec.{eqb, leb}
+use Rattle.model.specs.Base.{only-if, then}
+use Rattle.model.specs.Literal.{Literal, option}
+use Rattle.model.specs.Forest.{Conn, same-conn, Forest, lit, node, _⊕_, size, first, after, literal-at, constant-at, mentions}
+use Rattle.model.specs.Rules.{neutral, deciding, absorb, omit, unwrap, spread, lift, merge, factor, Family, absorbs, omits, unwraps, spreads, lifts, merges, factors, change, Row, row-of, turn, rewrite}
+use Rattle.theory.specs.Logic.{none-some, and-split, and-join}
+use Rattle.locality.specs.Mentions.{both-ways}
+use Rattle.locality.specs.Alike.{Alike, alike-size, alike-covers, alike-first, alike-after, alike-literal, alike-constant, alike-literals, alike-unit, alike-groups, alike-shares, Conjunctions, neither, each, alike-conjunction}
+
+-- An answer that is missing wherever another one is.
+data Fades {A : Type 0} : Option A → Option A → Type 0 where
+  gone : {o : Option A} → Fades o none
+  kept : {a b : A} → Fades (some a) (some b)
+
+fades-none : {A : Type 0} {o p : Option A} → Fades o p → o ≡ none → p ≡ none
+fades-none gone e = refl
+fades-none kept e = none-some (sym e)
+
+-- By a test that follows; of one value that is read by both; of any values.
+fades-only : {A : Type 0} (t u : Bool) (x y : A) → (u ≡ true → t ≡ true) → Fades (only-if t x) (only-if u y)
+unfolding only-if
+fades-only t false x y h = gone
+fades-only t true x y h = rw (h refl) kept
+
+fades-same : {A : Type 0} (t u : Bool) (x y : A) → t ≡ u → Fades (only-if t x) (only-if u y)
+fades-same t u x y e = fades-only t u x y (λ h. e ∙ h)
+
+fades-then : {A B : Type 0} (o p : Option A) (f g : A → Option B) → o ≡ p → ((a : A) → Fades (f a) (g a)) → Fades (then o f) (then p g)
+unfolding then
+fades-then none p f g e h = rw (← e) gone
+fades-then (some a) p f g e h = rw (← e) (h a)
+
+fades-made : {A B : Type 0} {o p : Option A} (f g : A → B) → Fades o p → Fades (then o (λ a. some (f a))) (then p (λ a. some (g a)))
+unfolding then
+fades-made f g gone = gone
+fades-made f g kept = kept
+
+fades-when : {A B : Type 0} (t : Bool) (k m : A) (f : A → Option B) → Fades (f k) (f m) → Fades (then (only-if t k) f) (then (only-if t m) f)
+unfolding then only-if
+fades-when true k m f h = h
+fades-when false k m f h = gone
+
+fades-conjunction : {n : ℕ} {B : Type 0} {o p : Option Forest} (f g : Forest → Option B) → Conjunctions n o p → ((k m : Forest) → Alike n k m → Fades (f k) (g m)) → Fades (then o f) (then p g)
+unfolding then
+fades-conjunction f g neither h = gone
+fades-conjunction f g (each {k = k} {m = m} x) h = h k m x
+
+-- Family by family.
+module _ {n : ℕ} {k m : Forest} (x : Alike (suc (suc n)) k m) (c : Conn) (i j : ℕ) where
+  constant-fades : (b : Conn) (g h : Forest) → Fades (only-if (eqb j 0 && constant-at b (after i k)) g) (only-if (eqb j 0 && constant-at b (after i m)) h)
+  constant-fades b g h = fades-same _ _ g h (ap (λ t. eqb j 0 && t) (alike-constant b (alike-after i x)))
+
+  spread-fades : Fades (spread c i j k) (spread c i j m)
+  unfolding spread
+  spread-fades =
+      fades-then (literal-at (after i k)) (literal-at (after i m)) _ _ (alike-literal (alike-after i x)) (λ l.
+      let v = option l in
+      let others : (mentions v (first i m) || mentions v (after (suc i) m)) ≡ true → (mentions v (first i k) || mentions v (after (suc i) k)) ≡ true = both-ways (mentions v (first i m)) (mentions v (after (suc i) m)) (mentions v (first i k)) (mentions v (after (suc i) k)) (alike-covers (alike-first i x) v) (alike-covers (alike-after (suc i) x) v) in
+      fades-only (eqb j 0 && (mentions v (first i k) || mentions v (after (suc i) k))) (eqb j 0 && (mentions v (first i m) || mentions v (after (suc i) m))) _ _ (λ e.
+      let s = and-split (eqb j 0) _ e in and-join (s .0) (others (s .1))))
+
+  lift-fades : Fades (lift c i j k) (lift c i j m)
+  unfolding lift
+  lift-fades =
+      fades-conjunction _ _ (alike-conjunction (alike-after i x)) (λ a b y.
+      fades-then (literal-at (after j a)) (literal-at (after j b)) _ _ (alike-literal (alike-after j y)) (λ l. kept))
+
+  merge-fades : Fades (merge c i j k) (merge c i j m)
+  unfolding merge
+  merge-fades =
+      fades-conjunction _ _ (alike-conjunction (alike-after i x)) (λ a b y.
+      fades-same _ _ _ _ (ap₂ (λ s t. eqb j 0 && s && t) (alike-literals (alike-first i x)) (alike-literals (alike-after (suc i) x))))
+
+  factor-fades : Fades (factor c i j k) (factor c i j m)
+  unfolding factor
+  factor-fades =
+      fades-conjunction _ _ (alike-conjunction (alike-after i x)) (λ a b y.
+      fades-then (literal-at (after j a)) (literal-at (after j b)) _ _ (alike-literal (alike-after j y)) (λ l.
+      fades-same _ _ _ _
+      (ap₂ (λ s t. s && t)
+      (ap₂ (λ s t. s && t)
+      (ap₂ (λ s t. s && not t) (alike-literals (alike-first i x)) (alike-unit l (alike-first j y)))
+      (alike-shares l x))
+      (ap (leb 2) (alike-groups x)))))
+
+  change-fades : (w : Family) → Fades (change w c i j k) (change w c i j m)
+  unfolding change absorb omit unwrap
+  change-fades absorbs = constant-fades (deciding c) _ _
+  change-fades omits = constant-fades (neutral c) _ _
+  change-fades unwraps = fades-same _ _ _ _ (ap (λ s. eqb i 0 && eqb j 0 && eqb s 1) (alike-size x))
+  change-fades spreads = spread-fades
+  change-fades lifts = lift-fades
+  change-fades merges = merge-fades
+  change-fades factors = factor-fades
+
+  turn-fades : (w : Row) → Fades (turn w c i j k) (turn w c i j m)
+  unfolding turn
+  turn-fades w =
+      rw (alike-size x) (fades-when (same-conn (w .conn) c && leb (w .fewest) (size m)) k m (change (w .family) c i j) (change-fades (w .family)))
+
+-- The first trees of two forests look alike to the rules.
+pub data Look : Forest → Forest → Type 0 where
+  both-literals : {l b : Literal} {f g : Forest} → Look (lit l f) (lit b g)
+  both-groups : {n : ℕ} {c : Conn} {k m f g : Forest} → Alike (suc (suc n)) k m → Look (node c k f) (node c m g)
+
+pub look-quiet : {f g : Forest} → Look f g → (r i j : ℕ) → rewrite r i j f ≡ none → rewrite r i j g ≡ none
+unfolding rewrite
+look-quiet both-literals r i j e = refl
+look-quiet (both-groups {c = c} {f = f} {g = g} x) r i j e =
+    fades-none (fades-then (row-of r) (row-of r) _ _ refl (λ w. fades-made (λ a. a ⊕ f) (λ a. a ⊕ g) (turn-fades x c i j w))) e

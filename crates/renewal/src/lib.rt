@@ -1,0 +1,39 @@
+// The table of bounds after a step: entries move with their nodes, and those that the step may have made too high go back to 1.
+ghost use mathlib.Core.Path.{_≡_};
+ghost use Prim.Native.Nat.{ℕ, _+_, _-_, _≤_, _<_};
+ghost use lib.ListN.{length, getD};
+ghost use Rattle.renewal.specs.Renewed.{Renewed};
+
+// The entries from one place up to another become 1.
+fn put_ones(low: &mut [u16], from: usize, to: usize)
+    requires { ⌜ (from ≤ to) × (to ≤ length (now low)) × (to ≤ 4096) ⌝ }
+    ensures { λ r. ⌜ ((q : ℕ) → from ≤ q → q < to → getD (now (low .exit)) q 0 ≡ 1) ⌝ }
+    ensures { λ r. ⌜ ((q : ℕ) → q < from → getD (now (low .exit)) q 0 ≡ getD (now (low .entry)) q 0) × ((q : ℕ) → to ≤ q → getD (now (low .exit)) q 0 ≡ getD (now (low .entry)) q 0) ⌝ }
+{
+    let mut q = from;
+    while q < to {
+        low[q] = 1;
+        q += 1;
+    }
+}
+
+// The table after a step at a place: what stood from `old` on stands from `new` on.
+pub fn renew(
+    low: &mut [u16],
+    from: usize,
+    old: usize,
+    new: usize,
+    place: usize,
+    inner: usize,
+    outer: usize,
+)
+    requires { ⌜ (length (now low) ≡ 4096) × (from ≤ new) × (new ≤ old) × (old ≤ 4096) ⌝ }
+    requires { ⌜ (place < 4096) × (inner ≤ place) × (outer ≤ inner) ⌝ }
+    ensures { λ r. ⌜ Renewed from old new place inner outer (now (low .entry)) (now (low .exit)) ⌝ }
+{
+    shifts::remove(low, new, old - new);
+    put_ones(low, from, new);
+    low[place] = 1;
+    low[inner] = 1;
+    low[outer] = 1;
+}

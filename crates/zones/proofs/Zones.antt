@@ -1,0 +1,155 @@
+-- The zone of a step, family by family.
+use mathlib.Core.Bool.{true}
+use mathlib.Core.List.{List, []}
+use mathlib.Core.Logic.{⊎-elim}
+use mathlib.Core.Option.{some}
+use mathlib.Core.Path.{_≡_, refl, sym, ap, subst, _∙_}
+use Prim.Native.Nat.{ℕ, suc, _+_, _-_, _≤_, _<_}
+use native.Mathlib.Omega.{arith}
+use borrow.Author.Tests.{le-leb, lt-leb, leb-true, leb-false}
+use lib.Dec.{leb}
+use lib.ListN.{length, drop}
+use Rattle.model.specs.Base.{pick, is-some, maybe, then}
+use Rattle.model.specs.Literal.{Literal}
+use Rattle.model.specs.Forest.{and, Forest, node, lit, size, first, after, kids, _⊕_, conjunction-at, literal-at}
+use Rattle.model.specs.Code.{Node, encode, decode, trees}
+use Rattle.model.specs.Rules.{Family, absorbs, omits, unwraps, spreads, lifts, merges, factors, change, lift, step}
+use Rattle.theory.specs.Logic.{either, is-some-of, then-some}
+use Rattle.theory.specs.Forests.{conjunction-here, literal-here, size-after}
+use Rattle.theory.specs.Codes.{size-length, decode-encode}
+use Rattle.theory.specs.Bounds.{step-within}
+use Rattle.theory.specs.Turns.{family-at}
+use Rattle.locality.specs.Zones.{Zone, between, zone, tree-length, tree-end, child-place}
+use Rattle.locality.specs.Places.{read-here, length-here, child-here}
+use Rattle.locality.specs.Turned.{Turned, turned, old-here}
+use Rattle.locality.specs.Locality.{its-zone, step-extent, step-after}
+use Rattle.zones.specs.Zoned.{after-step, Zoned}
+
+-- The family of each range of rules.
+family-1 : (r : ℕ) → r ≤ 3 → family-at r ≡ absorbs
+unfolding family-at pick
+family-1 r b = rw (le-leb r 3 b)
+
+family-4 : (r : ℕ) → 4 ≤ r → r ≤ 6 → family-at r ≡ omits
+unfolding family-at pick
+family-4 r a b = rw (lt-leb r 3 (omega arith), le-leb r 6 b)
+
+family-7 : (r : ℕ) → 7 ≤ r → r ≤ 8 → family-at r ≡ unwraps
+unfolding family-at pick
+family-7 r a b = rw (lt-leb r 3 (omega arith), lt-leb r 6 (omega arith), le-leb r 8 b)
+
+family-9 : (r : ℕ) → 9 ≤ r → r ≤ 10 → family-at r ≡ spreads
+unfolding family-at pick
+family-9 r a b = rw (lt-leb r 3 (omega arith), lt-leb r 6 (omega arith), lt-leb r 8 (omega arith), le-leb r 10 b)
+
+family-11 : (r : ℕ) → 11 ≤ r → r ≤ 12 → family-at r ≡ lifts
+unfolding family-at pick
+family-11 r a b =
+    rw (lt-leb r 3 (omega arith), lt-leb r 6 (omega arith), lt-leb r 8 (omega arith), lt-leb r 10 (omega arith), le-leb r 12 b)
+
+lit-size : (l : Literal) (f : Forest) → 1 ≤ size (lit l f)
+unfolding size
+lit-size l f = omega arith
+
+module _ (r p i j : ℕ) (ns : List Node) {t : ℕ} (h : trees ns ≡ some t) (few : length ns ≤ 4096) (a : is-some (step r p i j ns) ≡ true) where
+  abbrev ms : List Node
+  ms = after-step r p i j ns
+
+  pub did : step r p i j ns ≡ some (after-step r p i j ns)
+  unfolding after-step maybe
+  did = let w = is-some-of (step r p i j ns) a in w .1 ∙ ap some (sym (ap (maybe ns (λ x. x)) (w .1)))
+
+  -- A zone that is the step's own, and not longer after it.
+  pub zoned : {from old new : ℕ} → zone (family-at r) p i j ns (after-step r p i j ns) ≡ between from old new → new ≤ old → (9 ≤ r → r ≤ 12 → old ≡ new) → Zoned r p i j ns from old new
+  zoned {from} {old} {new} e le level =
+      let x = step-extent r p i j ns h did in
+      let f : its-zone r p i j ns h did .from ≡ from = ap (λ z. z .from) e in
+      let o : its-zone r p i j ns h did .old ≡ old = ap (λ z. z .old) e in
+      let n : its-zone r p i j ns h did .new ≡ new = ap (λ z. z .new) e in
+      let y = x .order in
+      record {
+        place-from = omega (arith, y .place-from);
+        from-new = omega (arith, y .from-new);
+        new-old = le;
+        old-within = omega (arith, x .old-within);
+        before = omega (arith, f);
+        after = λ q l m. let sum : its-zone r p i j ns h did .old + (q - its-zone r p i j ns h did .new) ≡ q + (old - new) = omega arith in
+            (step-after r p i j ns h did q (omega arith) ∙ ap (λ k. drop k ns) sum, omega (arith, x .moved-by));
+        level = level;
+      }
+
+  it : Turned (family-at r) p i j ns (after-step r p i j ns)
+  it = turned r p i j ns h did
+
+  -- Child i is there, and the tree at the place has a node below its head.
+  pub child-there : (p < length ns) × (i < size (kids (decode (drop p ns))))
+  child-there = let w = step-within r p i j ns did in (w .0, w .1 .child)
+
+  tall : 2 ≤ tree-length p ns
+  unfolding kids
+  tall =
+      let w = it in
+      let there : i < size (w .children) = subst (λ f. i < size (kids f)) (read-here p ns (w .conn) (w .children) (w .rest) (old-here w)) (child-there .1) in
+      omega (arith, length-here p ns (w .conn) (w .children) (w .rest) (old-here w), size-length (w .children))
+
+  pub zone-1 : r ≤ 3 → Zoned r p i j ns p (tree-end p ns) (p + 2)
+  unfolding zone
+  zone-1 b = zoned (ap (λ x. zone x p i j ns ms) (family-1 r b)) (omega (arith, tall)) (λ x y. absurd (omega arith))
+
+  pub zone-4 : 4 ≤ r → r ≤ 6 → Zoned r p i j ns (child-place p i ns) (child-place p i ns + 1) (child-place p i ns)
+  unfolding zone
+  zone-4 a b = zoned (ap (λ x. zone x p i j ns ms) (family-4 r a b)) (omega arith) (λ x y. absurd (omega arith))
+
+  pub zone-7 : 7 ≤ r → r ≤ 8 → Zoned r p i j ns p (p + 1) p
+  unfolding zone
+  zone-7 a b = zoned (ap (λ x. zone x p i j ns ms) (family-7 r a b)) (omega arith) (λ x y. absurd (omega arith))
+
+  pub zone-9 : 9 ≤ r → r ≤ 10 → Zoned r p i j ns p (tree-end p ns) (tree-end p ns)
+  unfolding zone
+  zone-9 a b = zoned (ap (λ x. zone x p i j ns ms) (family-9 r a b)) (omega arith) (λ x y. refl)
+
+  pub zone-11 : 11 ≤ r → r ≤ 12 → let inner = child-place (child-place p i ns) j ns in Zoned r p i j ns (child-place p i ns) (inner + 1) (inner + 1)
+  unfolding zone
+  zone-11 a b = zoned (ap (λ x. zone x p i j ns ms) (family-11 r a b)) (omega arith) (λ x y. refl)
+
+  pub zone-13 : r ≡ 13 → Zoned r p i j ns (child-place p i ns) (child-place p i ns + 1) (child-place p i ns)
+  unfolding zone family-at pick
+  zone-13 e = zoned (ap (λ q. zone (family-at q) p i j ns ms) e) (omega arith) (λ x y. absurd (omega arith))
+
+  -- Rule 14 may make the nodes longer: from the place on nothing is said.
+  pub zone-14 : r ≡ 14 → length (after-step r p i j ns) ≤ 4096 → Zoned r p i j ns p 4096 4096
+  unfolding zone family-at pick
+  zone-14 e short =
+      let its : zone (family-at r) p i j ns ms ≡ zone factors p i j ns ms = ap (λ q. zone (family-at q) p i j ns ms) e in
+      record {
+        place-from = omega arith;
+        from-new = omega (arith, child-there .0);
+        new-old = omega arith;
+        old-within = omega arith;
+        before = omega (arith, ap (λ z. z .from) its);
+        after = λ q l m. absurd (omega arith);
+        level = λ x y. refl;
+      }
+
+  -- The inner child of rules 11 and 12 is there.
+  pub inner-there : 11 ≤ r → r ≤ 12 → j < size (kids (decode (drop (child-place p i ns) ns)))
+  unfolding change lift kids _⊕_
+  inner-there a b =
+      let w = it in
+      let made : change lifts (w .conn) i j (w .children) ≡ some (w .new) = ap (λ x. change x (w .conn) i j (w .children)) (sym (family-11 r a b)) ∙ w .made in
+      let c = then-some (conjunction-at (after i (w .children))) _ made in
+      let l = then-some (literal-at (after j (c .0))) _ (c .2) in
+      let few : j < size (c .0) = omega (arith, size-after j (c .0), ap size (literal-here j (c .0) (l .1)), lit-size (l .0) (after (suc j) (c .0))) in
+      let there : decode (drop (child-place p i ns) ns) ≡ after i (w .children) ⊕ w .rest = ap decode (child-here p ns (w .conn) (w .children) (w .rest) (old-here w) i .left) ∙ decode-encode (after i (w .children) ⊕ w .rest) in
+      let group : after i (w .children) ⊕ w .rest ≡ node and (c .0) (after (suc i) (w .children) ⊕ w .rest) = ap (λ f. f ⊕ w .rest) (conjunction-here i (w .children) (c .1)) in
+      subst (λ f. j < size (kids f)) (sym (there ∙ group)) few
+
+  -- Rules 9 to 12 keep the number of nodes.
+  pub level-length : 9 ≤ r → r ≤ 12 → length (after-step r p i j ns) ≡ length ns
+  unfolding zone
+  level-length a b =
+      let x = step-extent r p i j ns h did in
+      ⊎-elim
+      (λ e. let same = ap (λ y. zone y p i j ns ms) (family-9 r a (leb-true r 10 e)) in omega (arith, x .moved-by, ap (λ z. z .old) same, ap (λ z. z .new) same))
+      (λ e. let same = ap (λ y. zone y p i j ns ms) (family-11 r (leb-false r 10 e) b) in omega (arith, x .moved-by, ap (λ z. z .old) same, ap (λ z. z .new) same))
+      (either (leb r 10))
