@@ -1,0 +1,36 @@
+//! The library's calls on sheets, with safe wrappers.  No call has a condition that a slice
+//! does not meet.
+
+use crate::answers::Ran;
+
+extern "C" {
+    fn nd_load(book: *const u8, book_len: usize, sheet: *mut u16, sheet_len: usize) -> u64;
+    fn nd_run(sheet: *mut u16, sheet_len: usize, budget: u64) -> u64;
+    fn nd_report(sheet: *const u16, sheet_len: usize, out: *mut u8, out_len: usize) -> u64;
+}
+
+/// The loader: the refusal, 0 where the book is accepted.
+pub fn load(book: &[u8], sheet: &mut [u16]) -> u64 {
+    // SAFETY: both pointers are good for as many elements as their slices have, and the
+    // library touches no others.
+    unsafe { nd_load(book.as_ptr(), book.len(), sheet.as_mut_ptr(), sheet.len()) }
+}
+
+/// A run of a sheet.
+pub fn run(sheet: &mut [u16], budget: u64) -> Ran {
+    // SAFETY: as above.
+    let answer = unsafe { nd_run(sheet.as_mut_ptr(), sheet.len(), budget) };
+    assert_eq!(answer % 256, 0, "a run is refused");
+    Ran {
+        settled: (answer >> 8) % 2 == 1,
+        count: answer >> 9,
+    }
+}
+
+/// The report of a sheet: whether it is contradictory.
+pub fn report(sheet: &[u16], out: &mut [u8]) -> bool {
+    // SAFETY: as above.
+    let answer = unsafe { nd_report(sheet.as_ptr(), sheet.len(), out.as_mut_ptr(), out.len()) };
+    assert_eq!(answer % 256, 0, "a report is refused");
+    answer >> 8 == 1
+}

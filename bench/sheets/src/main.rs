@@ -1,0 +1,190 @@
+//! The time of loads, runs and reports on full-size books, through the library's C interface,
+//! next to plain Rust's in the same process.  Every answer is compared first; a difference
+//! stops the benchmark with the case printed.
+//!
+//!     tests/build-probe                                           at the repository's top
+//!     cd bench/sheets && cargo run --release --offline --locked -- [FLAGS]
+//!
+//!     --doc FILE          put the tables between the marks of this file too
+//!     --svg FILE          draw the plot
+//!     --patience SECONDS  stop a run of the library that would take longer (20)
+//!     --weights LIST      the weights, with commas (1024,2048,4096)
+//!     --only TEXT         only the families whose names hold this text
+//!     --seed NUMBER       of the random sheets (1)
+//!     --searches NUMBER   only compare the two searches on so many random sheets
+
+mod answers;
+mod bars;
+mod clauses;
+mod compare;
+mod document;
+mod families;
+mod ffi;
+mod measure;
+mod nests;
+mod nodes;
+mod plain;
+mod plot;
+#[path = "../../../tests/rust/src/random.rs"]
+#[allow(dead_code)]
+mod random;
+mod rows;
+mod searches;
+mod tables;
+mod toys;
+
+use random::Random;
+use rows::Row;
+use std::fs;
+
+/// The desk's budget, and the comb that it stops at.
+const BUDGET: u64 = 100_000;
+const STOPPED: usize = 2200;
+
+struct Flags {
+    doc: Option<String>,
+    svg: Option<String>,
+    patience: f64,
+    weights: Vec<usize>,
+    only: String,
+    seed: u64,
+    searches: Option<usize>,
+}
+
+fn flags() -> Flags {
+    let mut flags = Flags {
+        doc: None,
+        svg: None,
+        patience: 20.0,
+        weights: vec![1024, 2048, 4096],
+        only: String::new(),
+        seed: 1,
+        searches: None,
+    };
+    let mut words = std::env::args().skip(1);
+    while let Some(flag) = words.next() {
+        let word = words
+            .next()
+            .unwrap_or_else(|| panic!("{flag} wants a value"));
+        let number = || {
+            word.parse()
+                .unwrap_or_else(|_| panic!("{flag} wants a number"))
+        };
+        match flag.as_str() {
+            "--doc" => flags.doc = Some(word),
+            "--svg" => flags.svg = Some(word),
+            "--patience" => flags.patience = number() as f64,
+            "--weights" => {
+                let weights = word.split(',').map(|word| word.parse().expect("a weight"));
+                flags.weights = weights.collect();
+            }
+            "--only" => flags.only = word,
+            "--seed" => flags.seed = number() as u64,
+            "--searches" => flags.searches = Some(number()),
+            _ => panic!("no flag {flag}"),
+        }
+    }
+    flags
+}
+
+fn sheet_of(rules: &families::Rules) -> [u16; nodes::LENGTH] {
+    compare::loaded(&nodes::book(rules.options, &rules.bodies))
+}
+
+/// Weights of random sheets, most of them small; one sheet in so many has each.
+const SPREAD: [(usize, usize); 6] = [(12, 4), (20, 4), (40, 4), (100, 8), (250, 30), (800, 200)];
+
+/// The two searches on random sheets and on small books of each family, and steps of any kind;
+/// what was seen, as a sentence.
+fn searches(seed: u64, sheets: usize) -> String {
+    let random = &mut Random::new(seed);
+    let (mut followed, mut any) = ([0; 15], [0; 15]);
+    for (weight, share) in SPREAD {
+        searches::random_searches(random, sheets / share, weight, &mut followed);
+        searches::random_steps(random, sheets / share, weight.min(250), &mut any);
+    }
+    for family in families::families() {
+        for weight in [64, 100, 256] {
+            searches::follow(&sheet_of(&(family.make)(weight)), &mut followed);
+        }
+    }
+    format!(
+        "Searches by bounds and by every place agree on {} steps (rules 1 to 14: {}) of random \
+         sheets (seed {seed}) and small books of each family. After {} steps that need not be \
+         the strategy's (rules 1 to 14: {}) every bound is right.",
+        tables::count(followed.iter().sum()),
+        by_rule(followed),
+        tables::count(any.iter().sum()),
+        by_rule(any)
+    )
+}
+
+fn by_rule(steps: searches::Steps) -> String {
+    let steps = steps[1..].iter().map(|&steps| tables::count(steps));
+    steps.collect::<Vec<String>>().join(" / ")
+}
+
+/// All answers on random sheets, as a sentence.
+fn answers_agree(seed: u64) -> String {
+    let random = &mut Random::new(seed);
+    let mut steps = 0;
+    for (weight, count) in [(12, 200), (40, 200), (150, 100), (600, 30)] {
+        steps += compare::random_sheets(random, count, weight);
+    }
+    format!(
+        "Loads, runs and reports agree on 530 random sheets and {} steps.",
+        tables::count(steps)
+    )
+}
+
+/// Every family at every weight, then the comb that the desk stops at.
+fn all_rows(flags: &Flags, noise: &mut measure::Noise) -> Vec<Row> {
+    let mut rows = Vec::new();
+    let mut families = families::families();
+    families.retain(|family| family.name.contains(&flags.only));
+    for family in families {
+        for &weight in &flags.weights {
+            noise.sample();
+            let rules = (family.make)(weight);
+            let (name, ordinary) = (&family.name, family.ordinary);
+            let row = rows::measured(name, ordinary, weight, &rules, u64::MAX, flags.patience);
+            eprintln!(
+                "{name}, {weight}: {} steps, run {}",
+                row.steps,
+                tables::time(row.run[0])
+            );
+            rows.push(row);
+        }
+    }
+    let name = "comb, budget 100,000";
+    let rules = families::comb(STOPPED);
+    rows.push(rows::measured(
+        name,
+        false,
+        STOPPED,
+        &rules,
+        BUDGET,
+        f64::INFINITY,
+    ));
+    noise.sample();
+    rows
+}
+
+fn main() {
+    let flags = flags();
+    if let Some(sheets) = flags.searches {
+        println!("{}", searches(flags.seed, sheets));
+        return;
+    }
+    let agreed = [searches(flags.seed, 20_000), answers_agree(flags.seed)];
+    let noise = &mut measure::Noise::new();
+    let rows = all_rows(&flags, noise);
+    let text = document::measured(&rows, &agreed, noise, flags.patience);
+    println!("{text}");
+    if let Some(file) = &flags.doc {
+        document::put(file, &text);
+    }
+    if let Some(file) = &flags.svg {
+        fs::write(file, plot::svg(&rows)).expect("the plot is written");
+    }
+}

@@ -1,0 +1,154 @@
+//! The run by bounds. Each place has a bound below which no rule applies there; the search
+//! takes the least bound, tests that rule, and raises the bound where it does not apply. A step
+//! lowers the bounds of its zone, of its place and of the two nodes above, and no others.
+
+use super::flat::{fill_sizes, is_sheet, used, Flat, Sizes, MOST};
+use super::least::Tables;
+use super::steps::{apply, Zone};
+use crate::answers::{Ran, Redex};
+
+/// One more than the last rule: no rule applies.
+const NONE: u8 = 15;
+
+/// What the search knows. Every bound is at least `rule`, and those before `cursor` are more.
+pub struct Bounds {
+    pub low: [u8; MOST],
+    pub sizes: Sizes,
+    pub rule: u8,
+    pub cursor: usize,
+    tables: Tables,
+}
+
+/// The places whose bounds a step lowered: the zone and up to three single places.
+struct Lowered {
+    above: [Option<usize>; 2],
+    place: usize,
+    zone: Zone,
+}
+
+impl Bounds {
+    pub fn new(nodes: &[u16]) -> Bounds {
+        let mut sizes = [0; MOST];
+        fill_sizes(nodes, &mut sizes);
+        Bounds {
+            low: [1; MOST],
+            sizes,
+            rule: 1,
+            cursor: 0,
+            tables: Tables::new(),
+        }
+    }
+
+    /// The strategy's step.
+    pub fn find(&mut self, nodes: &[u16]) -> Option<Redex> {
+        let flat = Flat {
+            nodes,
+            sizes: &self.sizes,
+        };
+        loop {
+            if self.cursor == nodes.len() {
+                self.cursor = 0;
+                self.rule += 1;
+            }
+            if self.rule == NONE {
+                return None;
+            }
+            let (rule, place) = (usize::from(self.rule), self.cursor);
+            if self.low[place] == self.rule {
+                if let Some((i, j)) = self.tables.least(flat, rule, place) {
+                    return Some(Redex { rule, place, i, j });
+                }
+                self.low[place] += 1;
+            }
+            self.cursor += 1;
+        }
+    }
+
+    /// Does the step that was found.
+    pub fn step(&mut self, sheet: &mut [u16], redex: Redex) {
+        let before = usize::from(sheet[1]);
+        let flat = Flat {
+            nodes: used(sheet),
+            sizes: &self.sizes,
+        };
+        let parent = flat.parent(redex.place);
+        let above = [parent.and_then(|above| flat.parent(above)), parent];
+        let zone = apply(sheet, &self.sizes, redex);
+        self.resize(used(sheet), redex, zone);
+        let lowered = Lowered {
+            above,
+            place: redex.place,
+            zone,
+        };
+        self.lower(&lowered, before);
+        self.raise(used(sheet), &lowered);
+    }
+
+    /// The sizes after a step. A lift turns the sizes with the nodes, and the all-of that lost
+    /// the literal is one less; after any other rule they are made anew.
+    fn resize(&mut self, nodes: &[u16], redex: Redex, zone: Zone) {
+        if matches!(redex.rule, 11 | 12) {
+            self.sizes[zone.from..zone.new].rotate_right(1);
+            self.sizes[zone.from + 1] -= 1;
+        } else {
+            fill_sizes(nodes, &mut self.sizes);
+        }
+    }
+
+    /// The bounds after a step: they move with their nodes, and those lowered are 1.
+    fn lower(&mut self, lowered: &Lowered, before: usize) {
+        let Zone { from, old, new } = lowered.zone;
+        self.low.copy_within(old..before, new);
+        self.low[from..new].fill(1);
+        for place in lowered.above.into_iter().flatten().chain([lowered.place]) {
+            self.low[place] = 1;
+        }
+    }
+
+    /// Raises the lowered bounds up to the rule that was found, from the least place up, and
+    /// puts the search where it has to go on.
+    fn raise(&mut self, nodes: &[u16], lowered: &Lowered) {
+        let single = lowered.above.into_iter().flatten().chain([lowered.place]);
+        let zone = lowered.zone.from.max(lowered.place + 1)..lowered.zone.new;
+        let mut least = (self.rule, self.cursor);
+        for place in single.chain(zone) {
+            let low = self.raised(nodes, place);
+            least = least.min((low, place));
+        }
+        (self.rule, self.cursor) = least;
+    }
+
+    /// Raises one bound as far as no rule applies, at most to the rule that was found.
+    fn raised(&mut self, nodes: &[u16], place: usize) -> u8 {
+        let flat = Flat {
+            nodes,
+            sizes: &self.sizes,
+        };
+        let low = &mut self.low[place];
+        while *low < self.rule && self.tables.least(flat, usize::from(*low), place).is_none() {
+            *low += 1;
+        }
+        *low
+    }
+}
+
+/// A run.
+pub fn run(sheet: &mut [u16], budget: u64) -> Ran {
+    assert!(is_sheet(sheet));
+    let mut bounds = Bounds::new(used(sheet));
+    let mut count = 0;
+    while let Some(redex) = bounds.find(used(sheet)) {
+        if count == budget {
+            return Ran {
+                settled: false,
+                count,
+            };
+        }
+        bounds.step(sheet, redex);
+        count += 1;
+    }
+    Ran {
+        settled: true,
+        count,
+    }
+}

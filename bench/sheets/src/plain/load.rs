@@ -1,0 +1,114 @@
+//! The loader: the checks in document 01's order, then the sheet.
+
+use crate::nodes::{is_literal, node, LENGTH, ROOT};
+use std::collections::HashSet;
+
+const CODE: usize = 13;
+
+/// The refusal, 0 where the book is accepted and the sheet is filled.
+pub fn load(book: &[u8], sheet: &mut [u16]) -> u64 {
+    if sheet.len() != LENGTH {
+        return 11;
+    }
+    match checked(book) {
+        Err(refusal) => refusal,
+        Ok((options, rules, bodies)) => {
+            sheet[0] = options as u16;
+            sheet[1] = 1 + (bodies.len() / 2) as u16;
+            sheet[2] = node(ROOT, rules);
+            let filled = 3 + bodies.len() / 2;
+            for (place, bytes) in sheet[3..filled].iter_mut().zip(bodies.chunks_exact(2)) {
+                *place = number(bytes) as u16;
+            }
+            sheet[filled..].fill(0);
+            0
+        }
+    }
+}
+
+/// The numbers of options and of rules, and the bodies; or the refusal.
+fn checked(book: &[u8]) -> Result<(usize, usize, &[u8]), u64> {
+    let (head, rest) = book.split_at_checked(8).ok_or(1u64)?;
+    let [options, rules, total, zero] = [0, 2, 4, 6].map(|at| number(&head[at..]));
+    if options > 512 || rules > 4095 || total > 4095 || zero != 0 {
+        return Err(2);
+    }
+    if rest.len() != CODE * options + 4 * rules + 2 * total {
+        return Err(1);
+    }
+    let (codes, rest) = rest.split_at(CODE * options);
+    let (contents, bodies) = rest.split_at(4 * rules);
+    let refused = [
+        (3, !are_codes(codes, options)),
+        (4, !are_in_line(contents, total)),
+    ];
+    if let Some((refusal, _)) = refused.into_iter().find(|&(_, wrong)| wrong) {
+        return Err(refusal);
+    }
+    if !are_bodies(contents, bodies, options) {
+        return Err(5);
+    }
+    let nodes = bodies.chunks_exact(2).map(|bytes| number(bytes) as u16);
+    if 1 + total + nodes.filter(|&node| is_literal(node)).count() > 4096 {
+        return Err(6);
+    }
+    Ok((options, rules, bodies))
+}
+
+/// A 16-bit number, low byte first.
+fn number(bytes: &[u8]) -> usize {
+    usize::from(u16::from_le_bytes([bytes[0], bytes[1]]))
+}
+
+fn are_codes(codes: &[u8], options: usize) -> bool {
+    let mut seen = HashSet::with_capacity(options);
+    codes
+        .chunks_exact(CODE)
+        .all(|code| is_code(code) && seen.insert(code))
+}
+
+fn is_code(code: &[u8]) -> bool {
+    let is_character = |byte: &u8| byte.is_ascii_alphanumeric() || *byte == b'-';
+    let length = code.iter().take_while(|&byte| is_character(byte)).count();
+    length > 0 && code[length..].iter().all(|&byte| byte == 0)
+}
+
+/// No gap, no empty body, as many nodes as the head says.
+fn are_in_line(contents: &[u8], total: usize) -> bool {
+    let mut sum = 0;
+    for pair in contents.chunks_exact(4) {
+        let count = number(&pair[2..]);
+        if number(pair) != sum || count == 0 {
+            return false;
+        }
+        sum += count;
+    }
+    sum == total
+}
+
+fn are_bodies(contents: &[u8], bodies: &[u8], options: usize) -> bool {
+    let mut rest = bodies;
+    contents.chunks_exact(4).all(|pair| {
+        let (body, after) = rest.split_at(2 * number(&pair[2..]));
+        rest = after;
+        is_tree(body, options)
+    })
+}
+
+/// One tree: read from its start, a node takes the place of one tree and asks for its children.
+fn is_tree(body: &[u8], options: usize) -> bool {
+    let mut due = 1;
+    for bytes in body.chunks_exact(2) {
+        let node = number(bytes);
+        let value = node % 4096;
+        if due == 0 {
+            return false;
+        }
+        match node / 4096 {
+            1 | 2 if value < options => due -= 1,
+            3 | 4 => due = due - 1 + value,
+            _ => return false,
+        }
+    }
+    due == 0
+}

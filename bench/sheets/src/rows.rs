@@ -1,0 +1,146 @@
+//! The measurements of one book: every answer compared first, then every call timed.
+
+use crate::answers::Ran;
+use crate::compare::{after, loaded, ran, reported};
+use crate::families::Rules;
+use crate::ffi;
+use crate::measure::{medians, seconds};
+use crate::nodes::{book, LENGTH};
+use crate::plain::{bounds, load, parts, simple, sweep};
+
+/// The longest that the simplest search is waited for, in seconds.
+const SIMPLE: f64 = 1.0;
+
+/// One book's times, in seconds.
+pub struct Row {
+    pub name: String,
+    pub ordinary: bool,
+    pub weight: usize,
+    pub nodes: usize,
+    /// The steps of the whole run, and those that were timed.
+    pub steps: u64,
+    pub timed: u64,
+    /// The library and plain Rust.
+    pub load: [f64; 2],
+    pub run: [f64; 2],
+    /// The simplest search: the steps that were timed, and their time.
+    pub simple: (u64, f64),
+    /// The library, plain Rust by parts, plain Rust by sweeps.
+    pub before: [f64; 3],
+    pub after: [f64; 3],
+}
+
+impl Row {
+    /// The library's time of a step.
+    pub fn step(&self) -> Option<f64> {
+        (self.timed > 0).then(|| self.run[0] / self.timed as f64)
+    }
+
+    pub fn is_whole(&self) -> bool {
+        self.timed == self.steps
+    }
+}
+
+type Sheet = [u16; LENGTH];
+type Run = fn(&mut [u16], u64) -> Ran;
+type Report = fn(&[u16], &mut [u8]) -> bool;
+
+/// Measures a book; the library's run is stopped where it would take longer than `patience`.
+pub fn measured(
+    name: &str,
+    ordinary: bool,
+    weight: usize,
+    rules: &Rules,
+    budget: u64,
+    patience: f64,
+) -> Row {
+    let bytes = book(rules.options, &rules.bodies);
+    let sheet = loaded(&bytes);
+    let steps = after(bounds::run, &sheet, budget).0.count;
+    let timed = affordable(ffi::run, &sheet, steps, patience);
+    let simple_steps = affordable(simple::run, &sheet, steps, SIMPLE);
+    let settled = compared(&sheet, budget, steps, timed, simple_steps);
+    let due = |count| if count == steps { budget } else { count };
+    let [simple] = run_times([simple::run], &sheet, due(simple_steps));
+    Row {
+        name: name.to_string(),
+        ordinary,
+        weight,
+        nodes: usize::from(sheet[1]),
+        steps,
+        timed,
+        load: load_times(&bytes),
+        run: run_times([ffi::run, bounds::run], &sheet, due(timed)),
+        simple: (simple_steps, simple),
+        before: report_times(&sheet),
+        after: report_times(&settled),
+    }
+}
+
+/// How many of so many steps a run does in the time: all, or a round number of them.
+fn affordable(run: Run, sheet: &Sheet, steps: u64, time: f64) -> u64 {
+    let mut trial = 32;
+    while trial < steps {
+        let mut sheet = *sheet;
+        let took = seconds(|| run(&mut sheet, trial));
+        if took > 0.05 {
+            let step = took / trial as f64;
+            return if step * steps as f64 > time {
+                round(time / 2.0 / step)
+            } else {
+                steps
+            };
+        }
+        trial *= 2;
+    }
+    steps
+}
+
+/// The first digit, then zeros.
+fn round(number: f64) -> u64 {
+    let unit = 10f64.powf(number.max(1.0).log10().floor());
+    ((number / unit).floor() * unit).max(1.0) as u64
+}
+
+/// Compares all answers on the sheet; the sheet after the whole run.
+fn compared(sheet: &Sheet, budget: u64, steps: u64, timed: u64, simple_steps: u64) -> Sheet {
+    let due = |count| if count == steps { budget } else { count };
+    ran([ffi::run, bounds::run], sheet, due(timed));
+    ran([simple::run, bounds::run], sheet, due(simple_steps));
+    let settled = after(bounds::run, sheet, budget).1;
+    assert!(
+        reported(sheet, true) == reported(&settled, true),
+        "a run changed the report"
+    );
+    settled
+}
+
+fn load_times(bytes: &[u8]) -> [f64; 2] {
+    let mut sheets = [[0; LENGTH]; 2];
+    let [one, other] = &mut sheets;
+    let times = medians(vec![&mut || seconds(|| ffi::load(bytes, one)), &mut || {
+        seconds(|| load::load(bytes, other))
+    }]);
+    [times[0], times[1]]
+}
+
+fn run_times<const SIDES: usize>(runs: [Run; SIDES], sheet: &Sheet, budget: u64) -> [f64; SIDES] {
+    let mut calls = runs.map(|run| {
+        move || {
+            let mut sheet = *sheet;
+            seconds(|| run(&mut sheet, budget))
+        }
+    });
+    let sides = calls.iter_mut().map(|call| call as &mut dyn FnMut() -> f64);
+    medians(sides.collect()).try_into().expect("a time a side")
+}
+
+fn report_times(sheet: &Sheet) -> [f64; 3] {
+    let reports: [Report; 3] = [ffi::report, parts::report, sweep::report];
+    let mut calls = reports.map(|report| {
+        let mut out = vec![0; usize::from(sheet[0])];
+        move || seconds(|| report(sheet, &mut out))
+    });
+    let sides = calls.iter_mut().map(|call| call as &mut dyn FnMut() -> f64);
+    medians(sides.collect()).try_into().expect("a time a side")
+}

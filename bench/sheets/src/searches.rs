@@ -1,0 +1,131 @@
+//! The search by bounds against the simplest search, and its bounds against what they promise.
+
+use crate::answers::Redex;
+use crate::compare::{random_sheet, stop, Sheet};
+use crate::nodes::arity;
+use crate::plain::bounds::Bounds;
+use crate::plain::flat::{fill_sizes, used, Flat, MOST};
+use crate::plain::{rules, simple};
+use crate::random::Random;
+
+/// The steps of each rule.
+pub type Steps = [u64; 15];
+
+/// Follows both searches step by step on random sheets; adds up the steps.
+pub fn random_searches(random: &mut Random, count: usize, weight: usize, seen: &mut Steps) {
+    for _ in 0..count {
+        follow(&random_sheet(random, weight), seen);
+    }
+}
+
+/// Follows both searches from a sheet to its end.
+pub fn follow(start: &Sheet, seen: &mut Steps) {
+    let mut sheet = *start;
+    let mut bounds = Bounds::new(used(&sheet));
+    loop {
+        check_bounds(&bounds, &sheet, start);
+        check_order(&bounds, &sheet, start);
+        let due = simple::next(flat(&sheet, &bounds));
+        let found = bounds.find(used(&sheet));
+        if found != due {
+            let details = format!("at {sheet:x?}: by bounds {found:?}, due {due:?}");
+            stop("the searches differ", start, &details);
+        }
+        let Some(redex) = due else {
+            return;
+        };
+        bounds.step(&mut sheet, redex);
+        seen[redex.rule] += 1;
+    }
+}
+
+/// Does steps of any kind on random sheets, not the strategy's alone, each from bounds that are
+/// as high as they may be; adds up the steps.
+pub fn random_steps(random: &mut Random, count: usize, weight: usize, seen: &mut Steps) {
+    for _ in 0..count {
+        let mut sheet = random_sheet(random, weight);
+        for _ in 0..8 {
+            let before = sheet;
+            let mut bounds = Bounds::new(used(&sheet));
+            bounds.low = highest(flat(&sheet, &bounds));
+            let Some(redex) = any_step(random, flat(&sheet, &bounds)) else {
+                break;
+            };
+            bounds.step(&mut sheet, redex);
+            check_bounds(&bounds, &sheet, &before);
+            seen[redex.rule] += 1;
+        }
+    }
+}
+
+fn flat<'a>(sheet: &'a Sheet, bounds: &'a Bounds) -> Flat<'a> {
+    Flat {
+        nodes: used(sheet),
+        sizes: &bounds.sizes,
+    }
+}
+
+/// The lowest rule that applies at a place, 15 where none does.
+fn lowest(flat: Flat, place: usize) -> u8 {
+    let applies = |&rule: &usize| simple::least(flat, rule, place).is_some();
+    (1..15).find(applies).unwrap_or(15) as u8
+}
+
+/// The highest bounds that are right.
+fn highest(flat: Flat) -> [u8; MOST] {
+    let mut low = [1; MOST];
+    for (place, bound) in low.iter_mut().enumerate().take(flat.nodes.len()) {
+        *bound = lowest(flat, place);
+    }
+    low
+}
+
+/// Any step that applies; all rules that apply somewhere have the same chance.
+fn any_step(random: &mut Random, flat: Flat) -> Option<Redex> {
+    let by_rule: Vec<Vec<Redex>> = (1..15)
+        .map(|rule| steps_of(flat, rule))
+        .filter(|steps| !steps.is_empty())
+        .collect();
+    let steps = by_rule.get(random.below(by_rule.len().max(1)))?;
+    Some(random.pick(steps))
+}
+
+/// Every step of a rule that applies.
+fn steps_of(flat: Flat, rule: usize) -> Vec<Redex> {
+    let mut steps = Vec::new();
+    for place in (0..flat.nodes.len()).filter(|&place| rules::is_headed(flat, rule, place)) {
+        for (i, at) in flat.children(place).enumerate() {
+            let inner = 0..arity(flat.nodes[at]).max(1);
+            let applying = inner.filter(|&j| rules::applies(flat, rule, place, i, at, j));
+            steps.extend(applying.map(|j| Redex { rule, place, i, j }));
+        }
+    }
+    steps
+}
+
+/// No bound is above the lowest rule that applies at its place, and every size is right.
+fn check_bounds(bounds: &Bounds, sheet: &Sheet, start: &Sheet) {
+    let mut sizes = [0; MOST];
+    fill_sizes(used(sheet), &mut sizes);
+    for (place, &size) in sizes[..used(sheet).len()].iter().enumerate() {
+        let (low, lowest) = (bounds.low[place], lowest(flat(sheet, bounds), place));
+        if low > lowest || size != bounds.sizes[place] {
+            let details = format!(
+                "at {:x?}, place {place}: bound {low}, lowest {lowest}, size {} (due {size})",
+                used(sheet),
+                bounds.sizes[place]
+            );
+            stop("a bound is wrong", start, &details);
+        }
+    }
+}
+
+/// Every bound is at least the rule that the search is at, and more before its cursor.
+fn check_order(bounds: &Bounds, sheet: &Sheet, start: &Sheet) {
+    for (place, &low) in bounds.low[..used(sheet).len()].iter().enumerate() {
+        if low < bounds.rule || low == bounds.rule && place < bounds.cursor {
+            let details = format!("at {:x?}, place {place}: bound {low}", used(sheet));
+            stop("the search is past a bound", start, &details);
+        }
+    }
+}

@@ -1,0 +1,139 @@
+//! The measurements as Markdown.
+
+use crate::rows::Row;
+use std::fmt::Write;
+
+/// A time with its unit, to two or three digits.
+pub fn time(seconds: f64) -> String {
+    let (number, unit) = match seconds {
+        s if s < 1e-6 => (s * 1e9, "ns"),
+        s if s < 1e-3 => (s * 1e6, "µs"),
+        s if s < 1.0 => (s * 1e3, "ms"),
+        s => (s, "s"),
+    };
+    let digits = if number < 9.95 { 1 } else { 0 };
+    format!("{number:.digits$} {unit}")
+}
+
+/// A whole number with commas.
+pub fn count(number: u64) -> String {
+    let digits = number.to_string();
+    let mut text = String::new();
+    for (at, digit) in digits.chars().enumerate() {
+        if at > 0 && (digits.len() - at).is_multiple_of(3) {
+            text.push(',');
+        }
+        text.push(digit);
+    }
+    text
+}
+
+fn ratio(number: f64) -> String {
+    let digits = if number < 9.95 { 1 } else { 0 };
+    format!("{number:.digits$}")
+}
+
+/// The same family at half the weight.
+pub fn half<'a>(rows: &'a [Row], row: &Row) -> Option<&'a Row> {
+    rows.iter()
+        .find(|other| other.name == row.name && 2 * other.weight == row.weight)
+}
+
+/// How a time grew from half the weight.
+fn growth(rows: &[Row], row: &Row, of: impl Fn(&Row) -> Option<f64>) -> String {
+    let grown = half(rows, row).and_then(|half| Some(of(row)? / of(half)?));
+    grown.map_or(String::new(), ratio)
+}
+
+/// Name, weight and nodes; the name once a family.
+fn head(rows: &[Row], at: usize) -> String {
+    let row = &rows[at];
+    let is_first = at == 0 || rows[at - 1].name != row.name;
+    format!(
+        "| {} | {} | {} |",
+        if is_first { &row.name } else { "" },
+        count(row.weight as u64),
+        count(row.nodes as u64)
+    )
+}
+
+fn run_line(rows: &[Row], at: usize) -> String {
+    let row = &rows[at];
+    let steps = if row.is_whole() {
+        count(row.steps)
+    } else {
+        format!("first {} of {}", count(row.timed), count(row.steps))
+    };
+    let a_step = row.step().map_or(String::new(), time);
+    let simple = match row.simple {
+        (0, _) => String::new(),
+        (steps, seconds) => time(seconds / steps as f64),
+    };
+    format!(
+        "{} {steps} | {} | {a_step} | {} | {} | {} | {simple} |",
+        head(rows, at),
+        time(row.run[0]),
+        growth(rows, row, Row::step),
+        time(row.run[1]),
+        ratio(row.run[0] / row.run[1]),
+    )
+}
+
+/// The runs.
+pub fn runs(rows: &[Row]) -> String {
+    let mut text = String::from(
+        "| family | weight | nodes | steps | run | a step | growth | plain, by bounds | ratio \
+         | plain, simplest: a step |\n|---|--:|--:|--:|--:|--:|--:|--:|--:|--:|\n",
+    );
+    for at in 0..rows.len() {
+        writeln!(text, "{}", run_line(rows, at)).expect("a string");
+    }
+    text
+}
+
+fn report_cells(rows: &[Row], row: &Row, of: fn(&Row) -> [f64; 3]) -> String {
+    let [ours, parts, sweep] = of(row);
+    format!(
+        "{} | {} | {} | {} | {} |",
+        time(ours),
+        growth(rows, row, |row| Some(of(row)[0])),
+        time(parts),
+        ratio(ours / parts),
+        time(sweep)
+    )
+}
+
+/// The reports.
+pub fn reports(rows: &[Row]) -> String {
+    let mut text = String::from(
+        "| family | weight | nodes | report | growth | plain, by parts | ratio | plain, by \
+         sweeps | after the run | growth | plain, by parts | ratio | plain, by sweeps |\n\
+         |---|--:|--:|--:|--:|--:|--:|--:|--:|--:|--:|--:|--:|\n",
+    );
+    for (at, row) in rows.iter().enumerate() {
+        let before = report_cells(rows, row, |row| row.before);
+        let after = report_cells(rows, row, |row| row.after);
+        writeln!(text, "{} {before} {after}", head(rows, at)).expect("a string");
+    }
+    text
+}
+
+/// The loads.
+pub fn loads(rows: &[Row]) -> String {
+    let mut text = String::from(
+        "| family | weight | nodes | load | plain | ratio |\n|---|--:|--:|--:|--:|--:|\n",
+    );
+    for (at, row) in rows.iter().enumerate() {
+        let [ours, plain] = row.load;
+        writeln!(
+            text,
+            "{} {} | {} | {} |",
+            head(rows, at),
+            time(ours),
+            time(plain),
+            ratio(ours / plain)
+        )
+        .expect("a string");
+    }
+    text
+}
