@@ -16,13 +16,15 @@ use Rattle.theory.specs.Logic.{either}
 use Rattle.theory.specs.Turns.{family-at}
 use Rattle.locality.specs.Zones.{Quiet, Holds, Twice, zone, tree-end}
 use Rattle.locality.specs.Locality.{step-before}
+use Rattle.locality.specs.Families.{level-length}
 use Rattle.bounds.specs.Tables.{Bounds, High, Rises}
-use Rattle.renewal.specs.Renewed.{Renewed}
 use Rattle.zones.specs.Zoned.{after-step, Zoned}
 use Rattle.advance.specs.Holders.{Holders}
+use Rattle.advance.specs.Settled.{Spared, Settled}
+use Rattle.locality.specs.Inside.{spread-inside}
 use Rattle.advance.proofs.Quiets.{quiet-from, quiet-to}
 
-module _ (r p i j : ℕ) (ns : List Node) {t : ℕ} (h : trees ns ≡ some t) (e : step r p i j ns ≡ some (after-step r p i j ns)) {from old new inner outer : ℕ} (z : Zoned r p i j ns from old new) (w : Holders p inner outer ns) (low up : List ℕ) (n : Renewed from old new p inner outer low up) (few : length ns ≤ 4096) (small : from ≤ length ns) where
+module _ (r p i j : ℕ) (ns : List Node) {t : ℕ} (h : trees ns ≡ some t) (e : step r p i j ns ≡ some (after-step r p i j ns)) {from old new inner outer : ℕ} (z : Zoned r p i j ns from old new) (w : Holders p inner outer ns) (low up : List ℕ) (n : Settled r from old new p inner outer (after-step r p i j ns) low up) (few : length ns ≤ 4096) (small : from ≤ length ns) where
   abbrev ms : List Node
   ms = after-step r p i j ns
 
@@ -34,10 +36,11 @@ module _ (r p i j : ℕ) (ns : List Node) {t : ℕ} (h : trees ns ≡ some t) (e
       (λ x. ⊎-elim (λ y. inl (ap (λ k. getD up k 0) (eqb-true q inner y) ∙ n .at-inner)) (λ y. ⊎-elim (λ v. inl (ap (λ k. getD up k 0) (eqb-true q outer v) ∙ n .at-outer)) (λ v. inr (eqb-false q p x, eqb-false q inner y, eqb-false q outer v)) (either (eqb q outer))) (either (eqb q inner)))
       (either (eqb q p))
 
-  -- An entry is forgotten, or stayed before the zone, or moved with its node.
+  -- An entry is forgotten, or stayed before the zone, or was spared in it, or moved with its node.
   data Entry (q : ℕ) : Type 0 where
     forgotten : getD up q 0 ≡ 1 → Entry q
     stayed : q < from → (q ≡ p → ⊥) → (q ≡ inner → ⊥) → (q ≡ outer → ⊥) → getD up q 0 ≡ getD low q 0 → Entry q
+    kept : q < new → Spared r p q (after-step r p i j ns) low up → Entry q
     moved : new ≤ q → q + (old - new) < length ns → drop q (after-step r p i j ns) ≡ drop (q + (old - new)) ns → getD up q 0 ≡ getD low (q + (old - new)) 0 → Entry q
 
   entry : (q : ℕ) → q < length (after-step r p i j ns) → Entry q
@@ -46,7 +49,7 @@ module _ (r p i j : ℕ) (ns : List Node) {t : ℕ} (h : trees ns ≡ some t) (e
       go : (getD up q 0 ≡ 1) ⊎ ((q ≡ p → ⊥) × (q ≡ inner → ⊥) × (q ≡ outer → ⊥)) → (ltb q from ≡ true) ⊎ (ltb q from ≡ false) → (ltb q new ≡ true) ⊎ (ltb q new ≡ false) → Entry q
       go (inl x) a b = forgotten x
       go (inr x) (inl a) b = stayed (ltb-true q from a) (x .0) (x .1) (x .2) (n .before q (ltb-true q from a) (x .0) (x .1) (x .2))
-      go (inr x) (inr a) (inl b) = forgotten (n .zone q (ltb-false q from a) (ltb-true q new b))
+      go (inr x) (inr a) (inl b) = ⊎-elim (λ y. forgotten y) (λ y. kept (ltb-true q new b) y) (n .zone q (ltb-false q from a) (ltb-true q new b))
       go (inr x) (inr a) (inr b) =
           let w = z .after q (ltb-false q new b) l in
           moved (ltb-false q new b) (w .1) (w .0) (n .after q (ltb-false q new b) (omega (arith, w .1)) (x .0) (x .1) (x .2))
@@ -60,9 +63,22 @@ module _ (r p i j : ℕ) (ns : List Node) {t : ℕ} (h : trees ns ≡ some t) (e
           let was = quiet-from s q (decode (drop q ns)) (b q s (omega arith) one (omega arith)) in
           let deep : Holds q p ns → Twice q p ns = λ held. ⊎-elim (λ k. absurd (y k)) (λ k. ⊎-elim (λ k'. absurd (v k')) (λ k'. k') (k .1)) (w .nearest q held) in
           quiet-to s q (decode (drop q (after-step r p i j ns))) (step-before r p i j ns h e q s (omega (arith, z .before)) x deep was)
+      go (kept a y) =
+          let level = level-length r p i j ns h e (y .nine) (omega (arith, y .ten)) in
+          let was = quiet-from s q (decode (drop q ns)) (b q s (omega arith) one (omega (arith, y .same))) in
+          quiet-to s q (decode (drop q (after-step r p i j ns))) (spread-inside r p i j ns h e (y .nine) (y .ten) q s (y .later) (omega (arith, z .spread (y .nine) (y .ten) .1)) (y .bare) was)
       go (moved a within there same) =
           let was = quiet-from s (q + (old - new)) (decode (drop (q + (old - new)) ns)) (b (q + (old - new)) s within one (omega arith)) in
           quiet-to s q (decode (drop q (after-step r p i j ns))) (λ x y. ap (λ xs. rewrite s x y (decode xs)) there ∙ was x y)
+
+  -- Before all that was forgotten the entries stay as they were.
+  untouched : (q : ℕ) → q < outer → getD up q 0 ≡ getD low q 0
+  untouched q l =
+      n .before q (omega (arith, w .outer-before, w .inner-before, z .place-from)) (λ y. omega (arith, w .outer-before, w .inner-before)) (λ y. omega (arith, w .outer-before)) (λ y. omega arith)
+
+  -- There they are as high as they were before the step's place.
+  pub high-before : {f : ℕ} → High f 0 p low → High f 0 outer up
+  high-before high q a l = let k = high q a (omega (arith, w .outer-before, w .inner-before)) in omega (arith, untouched q l)
 
   -- All entries are 1 at least; outside the places that were forgotten all are as high as they were.
   module _ {f : ℕ} (one : 1 ≤ f) (high : High f 0 (length ns) low) where
@@ -72,13 +88,16 @@ module _ (r p i j : ℕ) (ns : List Node) {t : ℕ} (h : trees ns ≡ some t) (e
         go : Entry q → 1 ≤ getD up q 0
         go (forgotten x) = omega arith
         go (stayed b x y v same) = let k = high q a (omega arith) in omega arith
+        go (kept b y) =
+            let level = level-length r p i j ns h e (y .nine) (omega (arith, y .ten)) in
+            let k = high q a (omega arith) in
+            omega (arith, y .same)
         go (moved b within there same) = let k = high (q + (old - new)) (omega arith) within in omega arith
 
     pub high-outside : (q : ℕ) → q < length (after-step r p i j ns) → (q < outer) ⊎ ((p < q) × (new ≤ q)) → f ≤ getD up q 0
     high-outside q l (inl x) =
         let k = high q (omega arith) (omega (arith, w .outer-before, w .inner-before, z .place-from)) in
-        let same = n .before q (omega (arith, w .outer-before, w .inner-before, z .place-from)) (λ y. omega (arith, w .outer-before, w .inner-before)) (λ y. omega (arith, w .outer-before)) (λ y. omega arith) in
-        omega arith
+        omega (arith, untouched q x)
     high-outside q l (inr x) =
         let v = z .after q (x .1) l in
         let k = high (q + (old - new)) (omega arith) (v .1) in
@@ -98,3 +117,10 @@ high-all used from to first last t u rule f below a out rises high le q x l = go
     go c (inr y) (inl z) = high q (ltb-false q first y) (ltb-true q last z)
     go (inl c) (inr y) (inr z) = outside (inr (omega (arith, ltb-false q last z)))
     go (inr c) (inr y) (inr z) = absurd (omega (arith, ltb-false q last z))
+
+-- What lies before a cursor that is no further than the bounds that stayed is still past the floor.
+pub high-ahead : (from cursor : ℕ) (t u : List ℕ) (rule f : ℕ) → High (rule + 1) 0 from t → cursor ≤ from → Rises t u → f ≤ rule → High (f + 1) 0 cursor u
+high-ahead from cursor t u rule f high le rises below q a l =
+    let x = high q a (omega arith) in
+    let y = rises q in
+    omega arith

@@ -1,6 +1,6 @@
--- The table of sizes after a step that keeps the number of nodes: outside the zone it is still right.
+-- The table of sizes after a step: past all nodes it is still right, and outside the zone where the number of nodes stays.
 use mathlib.Core.Bool.{true, false, _&&_}
-use mathlib.Core.List.{List, _++_, map}
+use mathlib.Core.List.{List, _++_, map, append-assoc}
 use mathlib.Core.Logic.{_⊎_, inl, inr, ⊎-elim}
 use mathlib.Core.Option.{some}
 use mathlib.Core.Path.{_≡_, refl, sym, ap, subst, _∙_}
@@ -8,8 +8,8 @@ use Prim.Native.Nat.{ℕ, _+_, _-_, _≤_, _<_}
 use native.Mathlib.Omega.{arith}
 use borrow.Author.Tests.{eqb-true, eqb-false, ltb-true, ltb-false, lt-ltb}
 use lib.Dec.{eqb, ltb}
-use lib.ListN.{length, getD, drop, replicate, length-drop, length-map}
-use lib.Seq.{drop-append-add}
+use lib.ListN.{length, getD, drop, replicate, length-append, length-drop, length-map, length-replicate, replicate-append-replicate}
+use lib.Seq.{drop-at}
 use Rattle.model.specs.Base.{is-some}
 use Rattle.model.specs.Code.{Node, encode, decode, number-of, trees}
 use Rattle.model.specs.Forest.{first}
@@ -21,22 +21,36 @@ use Rattle.theory.specs.Shape.{shaped-trees}
 use Rattle.theory.specs.Sheets.{sheet-facts}
 use Rattle.theory.specs.Stretches.{stands}
 use Rattle.locality.specs.Zones.{Holds, tree-length, tree-end}
+use Rattle.locality.specs.Families.{level-length}
 use Rattle.locality.specs.Locality.{length-before, length-holding, length-at}
 use Rattle.sizes.specs.Tables.{Sized}
 use Rattle.zones.specs.Zoned.{after-step, Zoned}
 use Rattle.zones.proofs.Places.{size-here}
 use Rattle.zones.proofs.OnSheet as O
-use Rattle.zones.proofs.Zones as Z
+
+-- Of zeros that follow a list some are left from a place among them on.
+zeros-left : (xs : List ℕ) (gone left q : ℕ) → length xs + gone ≡ q → drop q (xs ++ replicate (gone + left) 0) ≡ replicate left 0
+zeros-left xs gone left q e =
+    ap (λ zs. drop q (xs ++ zs)) (sym (replicate-append-replicate gone left 0))
+    ∙ ap (drop q) (sym (append-assoc xs (replicate gone 0) (replicate left 0)))
+    ∙ drop-at (xs ++ replicate gone 0) (replicate left 0) q (omega (arith, length-append xs (replicate gone 0), length-replicate {A = ℕ} gone 0))
 
 -- After the nodes stand zeros.
-zeros-here : (s : List ℕ) → is-sheet s ≡ true → (q : ℕ) → used-in s ≤ q → drop q (drop 2 s) ≡ drop (q - used-in s) (replicate (4096 - used-in s) 0)
-zeros-here s h q le =
+zeros-here : (s : List ℕ) → is-sheet s ≡ true → (q : ℕ) → used-in s ≤ q → q ≤ 4096 → drop q (drop 2 s) ≡ replicate (4096 - q) 0
+zeros-here s h q le small =
     let facts = sheet-facts s h in
     let numbers = map number-of (nodes-in s) in
-    let sum : length numbers + (q - used-in s) ≡ q = omega (arith, length-map (nodes-in s) number-of, facts .count) in
+    let sum : (q - used-in s) + (4096 - q) ≡ 4096 - used-in s = omega arith in
     ap (drop q) (stands s facts)
-    ∙ ap (λ k. drop k (numbers ++ replicate (4096 - used-in s) 0)) (sym sum)
-    ∙ drop-append-add numbers (replicate (4096 - used-in s) 0) (q - used-in s)
+    ∙ ap (λ n. drop q (numbers ++ replicate n 0)) (sym sum)
+    ∙ zeros-left numbers (q - used-in s) (4096 - q) q (omega (arith, length-map (nodes-in s) number-of, facts .count))
+
+-- Past the nodes of two sheets the sizes of the one are those of the other.
+pub sized-past : (s u : List ℕ) → is-sheet s ≡ true → is-sheet u ≡ true → (t : List ℕ) → Sized 0 (drop 2 s) t → (most : ℕ) → used-in s ≤ most → used-in u ≤ most → Sized most (drop 2 u) t
+sized-past s u h k t sized most a b q le l =
+    let short : q < 4096 = omega (arith, length-drop 2 u, sheet-facts u k .whole) in
+    let there : q < length (drop 2 s) = omega (arith, length-drop 2 s, sheet-facts s h .whole) in
+    sized q (omega arith) there ∙ ap (span 1) (zeros-here s h q (omega arith) (omega arith) ∙ sym (zeros-here u k q (omega arith) (omega arith)))
 
 same-length : (q : ℕ) (ns ms : List Node) → drop q ms ≡ drop q ns → tree-length q ms ≡ tree-length q ns
 unfolding tree-length
@@ -47,7 +61,7 @@ module _ (s u : List ℕ) (h : is-sheet s ≡ true) (k : is-sheet u ≡ true) (r
   one = shaped-trees (sheet-facts s h .shaped)
 
   level : length (after-step r p i j (nodes-in s)) ≡ length (nodes-in s)
-  level = Z.level-length r p i j (nodes-in s) one (O.few s h r p i j a) a low top
+  level = level-length r p i j (nodes-in s) one (O.did s h r p i j a) low top
 
   used-same : used-in u ≡ used-in s
   used-same = sym (sheet-facts u k .count) ∙ ap length same ∙ level ∙ sheet-facts s h .count
@@ -80,11 +94,10 @@ module _ (s u : List ℕ) (h : is-sheet s ≡ true) (k : is-sheet u ≡ true) (r
   sized-outside t sized q l side =
       let whole = sheet-facts s h .whole in
       let there : q < length (drop 2 s) = omega (arith, length-drop 2 s, length-drop 2 u, sheet-facts u k .whole) in
-      sized q (omega arith) there
-      ∙ ⊎-elim
-      (λ x. let lt = ltb-true q (used-in s) x in size-here s h q lt ∙ sym (kept q lt side) ∙ sym (size-here u k q (omega (arith, used-same))))
-      (λ x. let ge = ltb-false q (used-in s) x in
-      ap (span 1) (zeros-here s h q ge ∙ ap (λ n. drop (q - n) (replicate (4096 - n) 0)) (sym used-same) ∙ sym (zeros-here u k q (omega (arith, used-same)))))
+      ⊎-elim
+      (λ x. let lt = ltb-true q (used-in s) x in
+      sized q (omega arith) there ∙ size-here s h q lt ∙ sym (kept q lt side) ∙ sym (size-here u k q (omega (arith, used-same))))
+      (λ x. sized-past s u h k t sized (used-in s) (omega arith) (omega (arith, used-same)) q (ltb-false q (used-in s) x) l)
       (either (ltb q (used-in s)))
 
 -- A table that is right before a place and from it on is right.

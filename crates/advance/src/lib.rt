@@ -2,7 +2,7 @@
 ghost use mathlib.Core.Path.{_≡_};
 ghost use mathlib.Core.Bool.{true};
 ghost use mathlib.Core.Logic.{_⊎_};
-ghost use Prim.Native.Nat.{ℕ, _≤_, _<_};
+ghost use Prim.Native.Nat.{ℕ, _+_, _≤_, _<_};
 ghost use lib.ListN.{length, getD, drop};
 ghost use Rattle.model.specs.Base.{«is-some»};
 ghost use Rattle.model.specs.Rules.{step};
@@ -13,19 +13,22 @@ ghost use Rattle.steps.specs.Results.{stepped};
 ghost use Rattle.bounds.specs.Tables.{Bounds, High};
 ghost use Rattle.zones.specs.Zoned.{Zoned};
 ghost use Rattle.advance.specs.Holders.{Holders};
+ghost use Rattle.advance.specs.Settled.{Settled};
 
-// The sizes after a step. Rules 9 to 12 keep every size outside the zone.
-fn resize(sheet: &[u16], sizes: &mut [u16], rule: usize, from: usize, to: usize)
+// The sizes after a step. Rules 9 and 10 keep every size, rules 11 and 12 those outside the zone; the others keep those past all
+// nodes, old and new.
+fn resize(sheet: &[u16], sizes: &mut [u16], rule: usize, from: usize, to: usize, most: usize)
     requires { ⌜ (length (now sheet) ≡ 4098) × (length (now sizes) ≡ 4096) × (from ≤ to) × (to ≤ 4096) ⌝ }
-    requires { ⌜ (9 ≤ rule → rule ≤ 12 → (q : ℕ) → q < length (drop 2 (now sheet)) → (q < from) ⊎ (to ≤ q) → getD (now sizes) q 0 ≡ span 1 (drop q (drop 2 (now sheet)))) ⌝ }
+    requires { ⌜ (9 ≤ rule → rule ≤ 10 → Sized 0 (drop 2 (now sheet)) (now sizes)) ⌝ }
+    requires { ⌜ (11 ≤ rule → rule ≤ 12 → (q : ℕ) → q < length (drop 2 (now sheet)) → (q < from) ⊎ (to ≤ q) → getD (now sizes) q 0 ≡ span 1 (drop q (drop 2 (now sheet)))) ⌝ }
+    requires { ⌜ (most ≤ 4096) × Sized most (drop 2 (now sheet)) (now sizes) ⌝ }
     ensures { λ r. ⌜ Sized 0 (drop 2 (now (sheet .entry))) (now (sizes .exit)) ⌝ }
 {
-    if rule <= 8 {
-        sizes::fill(&sheet[2..], sizes);
+    if rule <= 8 || 13 <= rule {
+        sizes::refill(&sheet[2..], sizes, 0, most);
         return;
     }
-    if 13 <= rule {
-        sizes::fill(&sheet[2..], sizes);
+    if rule <= 10 {
         return;
     }
     sizes::refill(&sheet[2..], sizes, from, to);
@@ -58,9 +61,43 @@ fn look_ahead(sheet: &[u16], sizes: &[u16], rule: usize, place: usize, i: usize,
     }
 }
 
+// The bounds after a step, whose sheet and sizes are there: those of the zone go back to 1. Rules 9 and 10 move no node and make
+// constants of literals, so that of their zone those go back alone whose node has a constant among its children.
+fn settle(sheet: &[u16], sizes: &[u16], low: &mut [u16], rule: usize, place: usize, plan: Plan)
+    requires { ⌜ «is-sheet» (now sheet) ≡ true ⌝ }
+    requires { ⌜ (length (now sizes) ≡ 4096) × Sized 0 (drop 2 (now sheet)) (now sizes) ⌝ }
+    requires { ⌜ (length (now low) ≡ 4096) × (plan .from ≤ plan .new) × (plan .new ≤ plan .old) × (plan .old ≤ 4096) ⌝ }
+    requires { ⌜ (place < 4096) × (plan .inner ≤ place) × (plan .outer ≤ plan .inner) ⌝ }
+    requires { ⌜ (9 ≤ rule → rule ≤ 10 → (plan .from ≡ place) × (place < plan .new) × (plan .new ≤ «used-in» (now sheet))) ⌝ }
+    ensures { λ r. ⌜ Settled rule (plan .from) (plan .old) (plan .new) place (plan .inner) (plan .outer) («nodes-in» (now (sheet .entry))) (now (low .entry)) (now (low .exit)) ⌝ }
+{
+    if 9 <= rule && rule <= 10 {
+        renewal::renew(
+            low,
+            plan.new,
+            plan.old,
+            plan.new,
+            place,
+            plan.inner,
+            plan.outer,
+        );
+        touched::set_back(sheet, sizes, low, place + 1, plan.new);
+        return;
+    }
+    renewal::renew(
+        low,
+        plan.from,
+        plan.old,
+        plan.new,
+        place,
+        plan.inner,
+        plan.outer,
+    );
+}
+
 // The greater of two numbers.
 fn greater(a: usize, b: usize) -> usize
-    ensures { λ r. ⌜ (a ≤ r) × (b ≤ r) ⌝ }
+    ensures { λ r. ⌜ (a ≤ r) × (b ≤ r) × ((r ≡ a) ⊎ (r ≡ b)) ⌝ }
 {
     if a < b {
         return b;
@@ -97,18 +134,22 @@ fn move_on(
     requires { ⌜ («is-sheet» (now sheet) ≡ true) × («is-some» (step rule place i j («nodes-in» (now sheet))) ≡ true) ⌝ }
     requires { ⌜ (length (now sizes) ≡ 4096) × Sized 0 (drop 2 (now sheet)) (now sizes) ⌝ }
     requires { ⌜ (length (now low) ≡ 4096) × Bounds («nodes-in» (now sheet)) (now low) × High rule 0 («used-in» (now sheet)) (now low) ⌝ }
+    requires { ⌜ High (rule + 1) 0 place (now low) ⌝ }
     ensures { λ r. ⌜ now (sheet .exit) ≡ stepped (now (sheet .entry)) rule place i j ⌝ }
     ensures { λ r. ⌜ Sized 0 (drop 2 (now (sheet .exit))) (now (sizes .exit)) ⌝ }
     ensures { λ r. ⌜ Bounds («nodes-in» (now (sheet .exit))) (now (low .exit)) × High 1 0 («used-in» (now (sheet .exit))) (now (low .exit)) ⌝ }
+    ensures { λ r. ⌜ High (rule + 1) 0 (r .from) (now (low .exit)) ⌝ }
     ensures { λ r. ⌜ (r .from ≤ r .to) × ((q : ℕ) → q < «used-in» (now (sheet .exit)) → (q < r .from) ⊎ (r .to ≤ q) → rule ≤ getD (now (low .exit)) q 0) ⌝ }
 {
     let p = look_ahead(sheet, sizes, rule, place, i, j);
     let from = p.from;
     let new = p.new;
     let outer = p.outer;
+    let before = numbers::wide16(sheet[1]);
     steps::apply(sheet, rule, place, i, j);
-    resize(sheet, sizes, rule, from, new);
-    renewal::renew(low, from, p.old, new, place, p.inner, outer);
+    let most = greater(before, numbers::wide16(sheet[1]));
+    resize(sheet, sizes, rule, from, new, most);
+    settle(sheet, sizes, low, rule, place, p);
     let to = greater(place + 1, new);
     Reach {
         from: outer,
@@ -116,7 +157,13 @@ fn move_on(
     }
 }
 
-// One step of a run by bounds: how high all bounds are after it.
+// Where the search for the next step begins: all bounds have come to the floor, and those before the cursor are past it.
+pub struct Ahead {
+    pub floor: usize,
+    pub cursor: usize,
+}
+
+// One step of a run by bounds.
 pub fn advance(
     sheet: &mut [u16],
     sizes: &mut [u16],
@@ -125,18 +172,24 @@ pub fn advance(
     place: usize,
     i: usize,
     j: usize,
-) -> usize
+) -> Ahead
     requires { ⌜ («is-sheet» (now sheet) ≡ true) × («is-some» (step rule place i j («nodes-in» (now sheet))) ≡ true) ⌝ }
     requires { ⌜ (length (now sizes) ≡ 4096) × Sized 0 (drop 2 (now sheet)) (now sizes) ⌝ }
     requires { ⌜ (length (now low) ≡ 4096) × Bounds («nodes-in» (now sheet)) (now low) × High rule 0 («used-in» (now sheet)) (now low) ⌝ }
+    requires { ⌜ High (rule + 1) 0 place (now low) ⌝ }
     ensures { λ r. ⌜ now (sheet .exit) ≡ stepped (now (sheet .entry)) rule place i j ⌝ }
     ensures { λ r. ⌜ Sized 0 (drop 2 (now (sheet .exit))) (now (sizes .exit)) ⌝ }
-    ensures { λ r. ⌜ Bounds («nodes-in» (now (sheet .exit))) (now (low .exit)) × High r 0 («used-in» (now (sheet .exit))) (now (low .exit)) ⌝ }
-    ensures { λ r. ⌜ (1 ≤ r) × (r ≤ 15) ⌝ }
+    ensures { λ r. ⌜ Bounds («nodes-in» (now (sheet .exit))) (now (low .exit)) × High (r .floor) 0 («used-in» (now (sheet .exit))) (now (low .exit)) ⌝ }
+    ensures { λ r. ⌜ (1 ≤ r .floor) × (r .floor ≤ 15) ⌝ }
+    ensures { λ r. ⌜ (r .cursor ≤ «used-in» (now (sheet .exit))) × High (r .floor + 1) 0 (r .cursor) (now (low .exit)) ⌝ }
 {
     let reach = move_on(sheet, sizes, low, rule, place, i, j);
     let used = numbers::wide16(sheet[1]);
     let to = lesser(reach.to, used);
     let from = lesser(reach.from, to);
-    bounds::raise_all(sheet, sizes, low, from, to, rule)
+    let floor = bounds::raise_all(sheet, sizes, low, from, to, rule);
+    Ahead {
+        floor: floor,
+        cursor: from,
+    }
 }

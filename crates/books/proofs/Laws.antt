@@ -5,14 +5,14 @@ use mathlib.Core.Option.{Option, none, some}
 use mathlib.Core.Path.{_≡_, refl, sym, ap, _∙_}
 use Prim.Native.Nat.{ℕ, _+_, _-_, _*_, _≤_, _<_}
 use native.Mathlib.Omega.{arith}
-use borrow.Author.Tests.{leb-true, le-leb, lt-leb, eqb-true, eq-eqb, ne-eqb, lt-ltb, le-ltb}
+use borrow.Author.Tests.{leb-true, le-leb, lt-leb}
 use lib.Dec.{eqb, leb}
 use lib.ListN.{length, take, drop, length-map}
 use borrow.Rule.Slice.PartAt.{part-to-end}
 use Rattle.model.specs.Base.{all, only-if, first-of, is-some, maybe}
 use Rattle.model.specs.Code.{literals, weight, node-of, head}
 use Rattle.model.specs.Book.{word, words, entries, pieces, cut, codes-ok, option-of-code, in-line, body-ok, options-of, rules-of, size-of, head-in-limits, codes-end, contents-end, length-due, codes-of, contents-of, numbers-of, bodies-of, book-nodes}
-use Rattle.model.specs.Calls.{Refusal, code-refused, contents-refused, body-refused, weight-refused, option-refused, Answer, refused, accepted, answer, book-refusal, checkOf, lookupOf}
+use Rattle.model.specs.Calls.{Refusal, code-refused, contents-refused, body-refused, weight-refused, option-refused, refused, accepted, answer, book-refusal, checkOf, lookupOf}
 use Rattle.answers.specs.declared.Refusal.{Refusal as Why}
 use Rattle.answers.specs.declared.Done.{Done}
 use Rattle.answers.specs.declared.Done.the-variants.{Accepted, Refused}

@@ -35,7 +35,7 @@ fn check_parts(book: &[u8], n: usize, m: usize, t: usize) -> Done
 {
     let contents = 8 + 13 * n;
     let bodies = contents + 4 * m;
-    if !codes::are_codes(&book[8..], n) {
+    if !chains::are_codes(&book[8..], n) {
         return Done::Refused(Refusal::Code);
     }
     if !bodies::are_in_line(&book[contents..], m, t) {

@@ -129,10 +129,14 @@ module _ (s t : List ℕ) (h : is-sheet s ≡ true) (place x : ℕ) (long : plac
   literal-rises le q =
       ⊎-elim (λ w. omega (arith, w .1, ap (λ k. getD t k 0) (w .0))) (λ w. omega (arith, w .1)) (stored t place x q long)
 
+-- Where the bounds before a place are past a rule, it applies nowhere before that place.
+pub high-before : (r : ℕ) (ns : List Node) (t : List ℕ) (to : ℕ) → 1 ≤ r → to ≤ length ns → Bounds ns t → High (r + 1) 0 to t → (q : ℕ) → q < to → none ≡ least-i r q (decode (drop q ns))
+high-before r ns t to low within b h q l = let x = h q (omega arith) l in b q r (omega arith) low (omega arith)
+
 -- Where every bound is past a rule, it applies nowhere.
 pub high-none : (r : ℕ) (ns : List Node) (t : List ℕ) → 1 ≤ r → Bounds ns t → High (r + 1) 0 (length ns) t → none ≡ least-place r ns
 high-none r ns t low b h =
-    p-none r ns (λ p l. let x = h p (omega arith) l in b p r l low (omega arith))
+    p-none r ns (high-before r ns t (length ns) low (omega arith) b h)
 
 -- A step that a rule's search finds is one of that rule.
 pub rule-found : (r : ℕ) (ns : List Node) {x : Redex} → least-place r ns ≡ some x → x .rule ≡ r

@@ -11,3 +11,8 @@ floorOf rule V₁.Nothing = rule + 1
 abbrev pub ruleOf : N.Next → ℕ
 ruleOf (V₁.Redex r p i j) = r
 ruleOf V₁.Nothing = 15
+
+-- The place that was found; where there is none, the first.
+abbrev pub placeOf : N.Next → ℕ
+placeOf (V₁.Redex r p i j) = p
+placeOf V₁.Nothing = 0

@@ -11,7 +11,7 @@ ghost use Rattle.model.specs.Sheet.{«is-sheet», «used-in», «nodes-in»};
 ghost use Rattle.sizes.specs.Tables.{Sized};
 ghost use Rattle.search.specs.Meaning.{spotOf, nextOf};
 ghost use Rattle.bounds.specs.Tables.{Bounds, High, Rises};
-ghost use Rattle.bounds.specs.Floors.{floorOf, ruleOf};
+ghost use Rattle.bounds.specs.Floors.{floorOf, ruleOf, placeOf};
 use search::Next;
 use search::Spot;
 
@@ -42,18 +42,20 @@ fn try_at(sheet: &[u16], sizes: &[u16], low: &mut [u16], rule: usize, place: usi
     Spot::Nowhere
 }
 
-// The least place for a rule that all bounds have come to.
-fn least_place(sheet: &[u16], sizes: &[u16], low: &mut [u16], rule: usize) -> Next
+// The least place for a rule that all bounds have come to, from a start on before which all are past it.
+fn least_place(sheet: &[u16], sizes: &[u16], low: &mut [u16], rule: usize, start: usize) -> Next
     requires { ⌜ (1 ≤ rule) × (rule ≤ 14) ⌝ }
     requires { ⌜ «is-sheet» (now sheet) ≡ true ⌝ }
     requires { ⌜ (length (now sizes) ≡ 4096) × Sized 0 (drop 2 (now sheet)) (now sizes) ⌝ }
     requires { ⌜ (length (now low) ≡ 4096) × Bounds («nodes-in» (now sheet)) (now low) ⌝ }
     requires { ⌜ High rule 0 («used-in» (now sheet)) (now low) ⌝ }
+    requires { ⌜ (start ≤ «used-in» (now sheet)) × High (rule + 1) 0 start (now low) ⌝ }
     ensures { λ r. ⌜ nextOf r ≡ «least-place» rule («nodes-in» (now (sheet .entry))) ⌝ }
     ensures { λ r. ⌜ Bounds («nodes-in» (now (sheet .entry))) (now (low .exit)) × High (floorOf rule r) 0 («used-in» (now (sheet .entry))) (now (low .exit)) ⌝ }
+    ensures { λ r. ⌜ High (rule + 1) 0 (placeOf r) (now (low .exit)) ⌝ }
 {
     let used = numbers::wide16(sheet[1]);
-    let mut place = 0;
+    let mut place = start;
     while place < used {
         let spot = try_at(sheet, sizes, low, rule, place);
         if let Spot::At(i, j) = spot {
@@ -64,23 +66,33 @@ fn least_place(sheet: &[u16], sizes: &[u16], low: &mut [u16], rule: usize) -> Ne
     Next::Nothing
 }
 
-// The strategy's step, where all bounds have come to a rule.
-pub fn next_redex(sheet: &[u16], sizes: &[u16], low: &mut [u16], floor: usize) -> Next
+// The strategy's step, where all bounds have come to a rule, and those before a cursor are past it.
+pub fn next_redex(
+    sheet: &[u16],
+    sizes: &[u16],
+    low: &mut [u16],
+    floor: usize,
+    cursor: usize,
+) -> Next
     requires { ⌜ (1 ≤ floor) × (floor ≤ 15) ⌝ }
     requires { ⌜ «is-sheet» (now sheet) ≡ true ⌝ }
     requires { ⌜ (length (now sizes) ≡ 4096) × Sized 0 (drop 2 (now sheet)) (now sizes) ⌝ }
     requires { ⌜ (length (now low) ≡ 4096) × Bounds («nodes-in» (now sheet)) (now low) ⌝ }
     requires { ⌜ High floor 0 («used-in» (now sheet)) (now low) ⌝ }
+    requires { ⌜ (cursor ≤ «used-in» (now sheet)) × High (floor + 1) 0 cursor (now low) ⌝ }
     ensures { λ r. ⌜ nextOf r ≡ next («nodes-in» (now (sheet .entry))) ⌝ }
     ensures { λ r. ⌜ Bounds («nodes-in» (now (sheet .entry))) (now (low .exit)) × High (ruleOf r) 0 («used-in» (now (sheet .entry))) (now (low .exit)) ⌝ }
+    ensures { λ r. ⌜ High (ruleOf r + 1) 0 (placeOf r) (now (low .exit)) ⌝ }
 {
     let mut rule = floor;
+    let mut start = cursor;
     while rule <= 14 {
-        let found = least_place(sheet, sizes, low, rule);
+        let found = least_place(sheet, sizes, low, rule, start);
         if let Next::Redex(r, p, i, j) = found {
             return Next::Redex(r, p, i, j);
         }
         rule += 1;
+        start = 0;
     }
     Next::Nothing
 }

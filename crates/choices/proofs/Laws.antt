@@ -3,7 +3,6 @@ use mathlib.Core.Bool.{Bool, true, false}
 use mathlib.Core.List.{List, [], _∷_, _++_, map, map-append, append-assoc}
 use mathlib.Core.Path.{_≡_, refl, sym, ap, ap₂, _∙_}
 use Prim.Native.Nat.{ℕ, zero, suc, _+_, _-_, _*_, _≤_, _<_}
-use native.Mathlib.Numerals.{add-one}
 use native.Mathlib.Omega.{arith}
 use borrow.Author.Tests.{lt-ltb, le-ltb}
 use borrow.Rule.Slice.PartAt.{part-to-end}
@@ -11,13 +10,13 @@ use lib.ListN.{length, getD, take, drop, set, replicate, length-append, length-m
 use lib.Seq.{set-at}
 use Rattle.model.specs.Base.{first-of, only-if}
 use Rattle.model.specs.Literal.{Literal}
-use Rattle.model.specs.Forest.{Forest, root, size}
+use Rattle.model.specs.Forest.{root, size}
 use Rattle.model.specs.Code.{Node, leaf, head, encode, literals, weight, number, conn-kind, number-of, node-of}
 use Rattle.model.specs.Sheet.{options-in, used-in, numbers-in, nodes-in, is-sheet, sheet-of, chosen}
 use Rattle.model.specs.Calls.{refused, accepted, sheet-refused, option-refused, full-refused, outcome, literal, chooseOf}
 use Rattle.answers.specs.Meaning.{afterCall}
 use Rattle.theory.specs.Shape.{Shaped, shaped-flat}
-use Rattle.theory.specs.Sheets.{Sheet-facts, sheet-facts, sheet-is}
+use Rattle.theory.specs.Sheets.{sheet-facts, sheet-is}
 use Rattle.theory.specs.Codes.{size-length}
 use Rattle.theory.specs.Choice.{chosen-flat}
 

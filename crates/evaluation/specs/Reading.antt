@@ -1,11 +1,11 @@
--- What the evaluation of a sheet reads: numbers as nodes, and 64 evaluations side by side in the bits of one number.
+-- What the evaluation of a sheet reads: numbers as nodes.
 use mathlib.Core.Bool.{Bool, true}
-use mathlib.Core.List.{List, [], _∷_, map}
+use mathlib.Core.List.{List, _∷_, map}
 use mathlib.Core.Option.{some}
 use mathlib.Core.Path.{_≡_}
-use Prim.Native.Nat.{ℕ, zero, suc, _+_, _-_, _*_, _/_, _%_, _<_}
+use Prim.Native.Nat.{ℕ, _+_, _-_, _*_, _<_}
 use lib.Dec.{eqb}
-use lib.ListN.{length, getD, set, take, drop}
+use lib.ListN.{length, getD, take, drop}
 use Rattle.model.specs.Base.{pick}
 use Rattle.model.specs.Forest.{or, root}
 use Rattle.model.specs.Code.{kind, value, node-of, decode, trees}
@@ -14,23 +14,9 @@ use Rattle.theory.specs.Evaluation.{fails}
 use Rattle.theory.specs.Tables.{set-of}
 use Rattle.theory.specs.Values.{fails-all}
 
--- The bit of a number at a place, counted from the lowest.
-unfoldable pub bit : ℕ → ℕ → Bool
-bit zero x = eqb (x % 2) 1
-bit (suc j) x = bit j (x / 2)
-
 -- The place in a table of the literal that a number of kind 1 or 2 is.
 unfoldable pub place-at : ℕ → ℕ
 place-at x = 2 * value x + kind x - 1
-
--- A table with all literals failing whose places leave a remainder by 64; the places are counted from n on.
-unfoldable pub folded : List ℕ → ℕ → ℕ → List ℕ
-folded [] n j = []
-folded (x ∷ t) n j = pick (eqb j (n % 64)) 1 x ∷ folded t (suc n) j
-
--- The table of a trial: the literal at place 64 * block + j fails too; for block 17 each whose place leaves the remainder j does.
-unfoldable pub trial : List ℕ → ℕ → ℕ → List ℕ
-trial t block j = pick (eqb block 17) (folded t 0 j) (set t (64 * block + j) 1)
 
 -- The values of trees under a table of failed literals, after one node more before them, by its number.
 unfoldable pub with-node : List ℕ → ℕ → List Bool → List Bool

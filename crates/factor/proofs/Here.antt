@@ -1,17 +1,17 @@
 -- What is asked of the first tree of a run of numbers, test by test.
-use mathlib.Core.Bool.{Bool, true, false}
-use mathlib.Core.List.{List, [], _∷_, _++_}
+use mathlib.Core.Bool.{true, false}
+use mathlib.Core.List.{List}
 use mathlib.Core.Path.{_≡_}
-use Prim.Native.Nat.{ℕ, _+_, _-_, _≤_, _<_}
+use Prim.Native.Nat.{ℕ, _≤_, _<_}
 use borrow.Author.Tests.{le-leb, lt-leb, lt-ltb, le-ltb, eqb-true, eq-eqb, ne-eqb}
 use lib.Dec.{eqb, ltb}
-use lib.ListN.{getD, take, drop}
+use lib.ListN.{getD, drop}
 use Rattle.model.specs.Base.{pick}
 use Rattle.model.specs.Code.{kind, value}
 use Rattle.theory.specs.Logic.{and-split}
 use Rattle.theory.specs.Scan.{is-literal}
 use Rattle.theory.specs.Spans.{span, child-at}
-use Rattle.factor.specs.Walks.{unit-place, among, unit-of, shares-here, kept, less-unit}
+use Rattle.factor.specs.Walks.{unit-place, among, unit-of, shares-here}
 
 -- Whether it shares a number.
 module _ (a : ℕ) (l : List ℕ) where
@@ -46,16 +46,6 @@ module _ (j : ℕ) (l : List ℕ) where
       pub unit-new : span j (drop 1 l) ≤ unit-place (getD l (child-at j l) 0) j (drop 1 l) → unit-of j l ≡ getD l (child-at j l) 0
       unfolding unit-of pick among
       unit-new k = rw (lt-leb (value (getD l 0 0)) j h, e, le-ltb (unit-place (getD l (child-at j l) 0) j (drop 1 l)) (span j (drop 1 l)) k)
-
--- A group without its first child that is the number itself: the parts of its numbers, by where they begin and end.
-pub less-unit-parts : (a : ℕ) (l : List ℕ) {m u e : ℕ} → m ≡ value (getD l 0 0) → u ≡ unit-place a m (drop 1 l) → e ≡ child-at m l → less-unit a l ≡ (getD l 0 0 - 1) ∷ (take (1 + u - 1) (drop 1 l) ++ take (e - (1 + u + 1)) (drop (1 + u + 1) l))
-unfolding less-unit
-less-unit-parts a l p q r = rw (r, q, p)
-
--- What is kept of it, by the two tests.
-pub kept-is : (g : Bool) (a : ℕ) (l : List ℕ) {b t : Bool} → is-literal (getD l 0 0) ≡ t → g ≡ b → kept g a l ≡ pick t (pick b [] (getD l 0 0 ∷ [])) (pick b (less-unit a l) [])
-unfolding kept
-kept-is g a l p q = rw (p, q)
 
 -- A group that shares a number is a conjunction that has it among its children.
 pub shares-group : (a : ℕ) (l : List ℕ) → shares-here a l ≡ true → is-literal (getD l 0 0) ≡ false → (kind (getD l 0 0) ≡ 3) × (among a (value (getD l 0 0)) (drop 1 l) ≡ true)

@@ -1,9 +1,6 @@
 pub mod Walk
-pub mod Append
 pub mod Here
-pub mod Gather
 pub mod Codes
 pub mod Trees
 pub mod Sizes
 pub mod Asking
-pub mod Turning

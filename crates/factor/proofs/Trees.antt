@@ -1,38 +1,37 @@
 -- What walks over numbers find where they are those of a forest, before any others.
 use mathlib.Core.Bool.{Bool, true, false, _&&_, _||_}
-use mathlib.Core.List.{List, [], _∷_, _++_, append-assoc}
-use mathlib.Core.Path.{_≡_, refl, sym, ap, ap₂, _∙_}
-use Prim.Native.Nat.{ℕ, suc, _+_, _-_}
+use mathlib.Core.List.{List, _∷_, _++_}
+use mathlib.Core.Path.{_≡_, refl, sym, ap, _∙_}
+use Prim.Native.Nat.{ℕ, suc, _+_}
 use native.Mathlib.Omega.{arith}
 use borrow.Author.Tests.{lt-ltb, le-ltb}
 use lib.Dec.{ltb}
-use lib.ListN.{length, take, drop, length-map, length-append}
-use lib.Seq.{take-at, drop-at}
+use lib.ListN.{length, drop, length-map, length-append}
+use lib.Seq.{drop-at}
 use Rattle.model.specs.Base.{pick}
 use Rattle.model.specs.Literal.{Literal, same}
 use Rattle.model.specs.Forest.{Conn, and, or, root, same-conn, Forest, nil, lit, node, _⊕_, size, has-unit}
-use Rattle.model.specs.Code.{leaf, head, encode, number, conn-kind, number-of}
-use Rattle.model.specs.Rules.{without-unit, shares, units, groups-without, groups}
-use Rattle.theory.specs.Logic.{true-false, and-split, or-neither}
+use Rattle.model.specs.Code.{leaf, head, encode, conn-kind, number-of}
+use Rattle.model.specs.Rules.{without-unit, shares, groups}
+use Rattle.theory.specs.Logic.{true-false, or-neither}
 use Rattle.theory.specs.Literals.{same-is}
-use Rattle.theory.specs.Forests.{size-⊕}
 use Rattle.theory.specs.Numbers.{fits, amount, kind-number, value-number}
 use Rattle.theory.specs.Scan.{is-literal}
 use Rattle.theory.specs.Spans.{span-encode}
 use Rattle.theory.specs.Flat.{Fits, fits-lit}
 use Rattle.theory.specs.Children.{code}
-use Rattle.factor.specs.Walks.{walk, unit-place, among, shares-here, all-share, group-here, groups-in, less-unit, gathered}
+use Rattle.factor.specs.Walks.{walk, unit-place, among, shares-here, all-share, group-here, groups-in}
 use Rattle.theory.specs.Leaves.{leaf-literal, head-inner, leaf-test, head-unlike}
 use Rattle.factor.proofs.Codes.{fits-parts, code-⊕, code-lit, code-node, lit-before, node-before, lit-span, node-span}
-use Rattle.factor.proofs.Here.{shares-literal, less-unit-parts, kept-is}
+use Rattle.factor.proofs.Here.{shares-literal}
 
 -- One tree of a walk.
 module _ {A : Type 0} (f : List ℕ → A → A) (e : A) (n : ℕ) (s : List ℕ) where
-  walk-lit : (x : Literal) → fits (leaf x) ≡ true → walk f e (suc n) (number-of (leaf x) ∷ s) ≡ f (number-of (leaf x) ∷ s) (walk f e n s)
+  pub walk-lit : (x : Literal) → fits (leaf x) ≡ true → walk f e (suc n) (number-of (leaf x) ∷ s) ≡ f (number-of (leaf x) ∷ s) (walk f e n s)
   unfolding walk
   walk-lit x h = ap (λ m. f (number-of (leaf x) ∷ s) (walk f e n (drop m (number-of (leaf x) ∷ s)))) (lit-span x s h)
 
-  walk-node : (c : Conn) (k : Forest) → fits (head c (size k)) ≡ true → Fits k → walk f e (suc n) (number-of (head c (size k)) ∷ (code k ++ s)) ≡ f (number-of (head c (size k)) ∷ (code k ++ s)) (walk f e n s)
+  pub walk-node : (c : Conn) (k : Forest) → fits (head c (size k)) ≡ true → Fits k → walk f e (suc n) (number-of (head c (size k)) ∷ (code k ++ s)) ≡ f (number-of (head c (size k)) ∷ (code k ++ s)) (walk f e n s)
   unfolding walk
   walk-node c k h w =
       let l = number-of (head c (size k)) ∷ (code k ++ s) in
@@ -50,7 +49,7 @@ module _ (a : Literal) (fit : fits (leaf a) ≡ true) where
   unit-node c k n s h w = walk-node _ 0 n s c k h w ∙ rw (head-unlike c (size k) a h fit, node-span c k s h w)
 
   -- The trees before it and after it.
-  record Cut (f : Forest) (r : List ℕ) : Type 0 where
+  pub record Cut (f : Forest) (r : List ℕ) : Type 0 where
     pub before : Forest
     pub later : Forest
     pub whole : f ≡ before ⊕ lit a later
@@ -93,7 +92,7 @@ module _ (a : Literal) (fit : fits (leaf a) ≡ true) where
             ∙ rw (w .place, code-node c k (w .before)) (omega (arith, length-append (code k) (code (w .before))));
       }
 
-  cut : (f : Forest) (r : List ℕ) → Fits f → has-unit a f ≡ true → Cut f r
+  pub cut : (f : Forest) (r : List ℕ) → Fits f → has-unit a f ≡ true → Cut f r
   unfolding has-unit
   cut nil r w h = true-false (sym h)
   cut (lit x f) r w h = let s = fits-lit x f w in go (same a x) refl h (s .0) (cut f r (s .1))
@@ -199,74 +198,3 @@ groups-trees (lit x f) r w =
 groups-trees (node c k f) r w =
     let s = fits-parts c k f w in
     ap (groups-in (suc (size f))) (node-before c k f r) ∙ groups-node c k (size f) (code f ++ r) (s .0) (s .1) ∙ ap suc (groups-trees f r (s .2))
-
--- What is kept of trees: the literals, or the groups, each without its first copy of the number.
-module _ (g : Bool) (a : ℕ) where
-  gathered-lit : (x : Literal) (n : ℕ) (s : List ℕ) → fits (leaf x) ≡ true → gathered g a (suc n) (number-of (leaf x) ∷ s) ≡ pick g [] (number-of (leaf x) ∷ []) ++ gathered g a n s
-  unfolding gathered pick
-  gathered-lit x n s h = walk-lit _ [] n s x h ∙ ap (λ t. t ++ gathered g a n s) (kept-is g a (number-of (leaf x) ∷ s) (leaf-literal x h) refl)
-
-  gathered-node : (c : Conn) (k : Forest) (n : ℕ) (s : List ℕ) → fits (head c (size k)) ≡ true → Fits k → gathered g a (suc n) (number-of (head c (size k)) ∷ (code k ++ s)) ≡ pick g (less-unit a (number-of (head c (size k)) ∷ (code k ++ s))) [] ++ gathered g a n s
-  unfolding gathered pick
-  gathered-node c k n s h w =
-      walk-node _ [] n s c k h w ∙ ap (λ t. t ++ gathered g a n s) (kept-is g a (number-of (head c (size k)) ∷ (code k ++ s)) (head-inner c (size k) h) refl)
-
-  gathered-nil : (r : List ℕ) → gathered g a 0 r ≡ code nil
-  unfolding gathered walk encode
-  gathered-nil r = refl
-
-pub units-trees : (a : ℕ) (f : Forest) (r : List ℕ) → Fits f → gathered false a (size f) (code f ++ r) ≡ code (units f)
-unfolding units size pick
-units-trees a nil r w = gathered-nil false a (code nil ++ r)
-units-trees a (lit x f) r w =
-    let s = fits-lit x f w in
-    ap (gathered false a (suc (size f))) (lit-before x f r)
-    ∙ gathered-lit false a x (size f) (code f ++ r) (s .0)
-    ∙ ap (λ t. number-of (leaf x) ∷ t) (units-trees a f r (s .1))
-    ∙ sym (code-lit x (units f))
-units-trees a (node c k f) r w =
-    let s = fits-parts c k f w in
-    ap (gathered false a (suc (size f))) (node-before c k f r)
-    ∙ gathered-node false a c k (size f) (code f ++ r) (s .0) (s .1)
-    ∙ units-trees a f r (s .2)
-
-module _ (a : Literal) (fit : fits (leaf a) ≡ true) where
-  less-trees : (c : Conn) (k : Forest) (s : List ℕ) → fits (head c (size k)) ≡ true → Fits k → has-unit a k ≡ true → less-unit (number-of (leaf a)) (number-of (head c (size k)) ∷ (code k ++ s)) ≡ number-of (head c (size (without-unit a k))) ∷ code (without-unit a k)
-  unfolding number-of number fits amount size
-  less-trees c k s h w e =
-      let d = cut a fit k s w e in
-      let p = d .before in
-      let q = d .later in
-      let x = number-of (leaf a) in
-      let y = number-of (head c (size k)) in
-      let l = y ∷ (code k ++ s) in
-      let u = length (code p) in
-      let parts = less-unit-parts x l {m = size k} {u = u} {e = suc (length (code k))} (sym (value-number (conn-kind c) (size k) h)) (sym (d .place)) (omega (arith, span-encode k s w, length-map (encode k) number-of)) in
-      let all : code k ≡ code p ++ (x ∷ code q) = ap code (d .whole) ∙ code-⊕ p (lit a q) ∙ ap (λ t. code p ++ t) (code-lit a q) in
-      let long : length (code k) ≡ u + (1 + length (code q)) = omega (arith, ap length all, length-append (code p) (x ∷ code q)) in
-      let spread : code k ++ s ≡ code p ++ (x ∷ (code q ++ s)) = ap (λ t. t ++ s) all ∙ append-assoc (code p) (x ∷ code q) s in
-      let upto : List ℕ = y ∷ (code p ++ (x ∷ [])) in
-      let cut-after : l ≡ upto ++ (code q ++ s) = ap (λ t. y ∷ t) (spread ∙ sym (append-assoc (code p) (x ∷ []) (code q ++ s))) in
-      let left : take (1 + u - 1) (code k ++ s) ≡ code p = ap (take (1 + u - 1)) spread ∙ take-at (code p) (x ∷ (code q ++ s)) (1 + u - 1) (omega arith) in
-      let rest : drop (1 + u + 1) l ≡ code q ++ s = ap (drop (1 + u + 1)) cut-after ∙ drop-at upto (code q ++ s) (1 + u + 1) (omega (arith, length-append (code p) (x ∷ []))) in
-      let right : take (suc (length (code k)) - (1 + u + 1)) (drop (1 + u + 1) l) ≡ code q = ap (take (suc (length (code k)) - (1 + u + 1))) rest ∙ take-at (code q) s (suc (length (code k)) - (1 + u + 1)) (omega arith) in
-      let fewer : y - 1 ≡ number-of (head c (size (without-unit a k))) = omega (arith, ap size (d .whole), size-⊕ p (lit a q), ap size (d .less), size-⊕ p q) in
-      parts ∙ ap₂ (λ z t. z ∷ t) fewer (ap₂ _++_ left right ∙ sym (ap code (d .less) ∙ code-⊕ p q))
-
-  pub groups-kept : (f : Forest) (r : List ℕ) → Fits f → shares a f ≡ true → gathered true (number-of (leaf a)) (size f) (code f ++ r) ≡ code (groups-without a f)
-  unfolding shares groups-without size pick
-  groups-kept nil r w h = gathered-nil true (number-of (leaf a)) (code nil ++ r)
-  groups-kept (lit x f) r w h =
-      let s = fits-lit x f w in
-      ap (gathered true (number-of (leaf a)) (suc (size f))) (lit-before x f r)
-      ∙ gathered-lit true (number-of (leaf a)) x (size f) (code f ++ r) (s .0)
-      ∙ groups-kept f r (s .1) h
-  groups-kept (node and k f) r w h =
-      let s = fits-parts and k f w in
-      let t = and-split (has-unit a k) (shares a f) h in
-      ap (gathered true (number-of (leaf a)) (suc (size f))) (node-before and k f r)
-      ∙ gathered-node true (number-of (leaf a)) and k (size f) (code f ++ r) (s .0) (s .1)
-      ∙ ap₂ _++_ (less-trees and k (code f ++ r) (s .0) (s .1) (t .0)) (groups-kept f r (s .2) (t .1))
-      ∙ sym (code-node and (without-unit a k) (groups-without a f))
-  groups-kept (node or k f) r w h = true-false (sym h)
-  groups-kept (node root k f) r w h = true-false (sym h)

@@ -1,6 +1,6 @@
 -- Walks over trees on a run of numbers, one tree further at a time.
-use mathlib.Core.Bool.{Bool, true, false, _&&_}
-use mathlib.Core.List.{List, [], _∷_, _++_}
+use mathlib.Core.Bool.{true, false, _&&_}
+use mathlib.Core.List.{List, [], _∷_}
 use mathlib.Core.Path.{_≡_, refl, ap, ap₂, _∙_}
 use Prim.Native.Nat.{ℕ, zero, suc, _+_, _-_, _≤_, _<_}
 use native.Mathlib.Omega.{arith}
@@ -12,7 +12,7 @@ use Rattle.model.specs.Base.{pick}
 use Rattle.theory.specs.Logic.{pick-true, pick-false}
 use Rattle.theory.specs.Spans.{span}
 use Rattle.theory.specs.Children.{first-left}
-use Rattle.factor.specs.Walks.{next, walk, unit-place, shares-here, all-share, group-here, groups-in, sharing, kept, gathered}
+use Rattle.factor.specs.Walks.{next, walk, unit-place, shares-here, all-share, group-here, groups-in, sharing}
 
 module _ {A : Type 0} (f : List ℕ → A → A) (e : A) where
   walk-first : (n : ℕ) (s : List ℕ) → 1 ≤ length s → walk f e (suc n) s ≡ f s (walk f e n (next s))
@@ -20,7 +20,7 @@ module _ {A : Type 0} (f : List ℕ → A → A) (e : A) where
   walk-first n [] h = absurd (omega arith)
   walk-first n (x ∷ xs) h = refl
 
-  walk-none : (s : List ℕ) → walk f e 0 s ≡ e
+  pub walk-none : (s : List ℕ) → walk f e 0 s ≡ e
   unfolding walk
   walk-none s = refl
 
@@ -30,14 +30,14 @@ module _ {A : Type 0} (f : List ℕ → A → A) (e : A) where
   walk-over (suc n) = refl
 
   -- From a place of a list on: the tree that stands there, and those after it.
-  walk-step : (n i : ℕ) (l : List ℕ) → 0 < n → i < length l → walk f e n (drop i l) ≡ f (drop i l) (walk f e (n - 1) (drop (i + span 1 (drop i l)) l))
+  pub walk-step : (n i : ℕ) (l : List ℕ) → 0 < n → i < length l → walk f e n (drop i l) ≡ f (drop i l) (walk f e (n - 1) (drop (i + span 1 (drop i l)) l))
   walk-step zero i l h k = absurd (omega arith)
   walk-step (suc n) i l h k =
       let one : n ≡ suc n - 1 = omega arith in
       walk-first n (drop i l) (omega (arith, length-drop i l))
       ∙ ap₂ (λ m s. f (drop i l) (walk f e m s)) one (drop-drop (span 1 (drop i l)) i l)
 
-  walk-end : (n i : ℕ) (l : List ℕ) → length l ≤ i → walk f e n (drop i l) ≡ e
+  pub walk-end : (n i : ℕ) (l : List ℕ) → length l ≤ i → walk f e n (drop i l) ≡ e
   walk-end n i l h = ap (walk f e n) (drop-of-length-le l h) ∙ walk-over n
 
 -- The place of the first tree that is a number itself.
@@ -87,20 +87,6 @@ module _ (n i : ℕ) (l : List ℕ) where
   pub groups-step : 0 < n → i < length l → groups-in n (drop i l) ≡ group-here (getD l i 0) + groups-in (n - 1) (drop (i + span 1 (drop i l)) l)
   unfolding groups-in
   groups-step h k = rw (← first-left i l) (walk-step _ 0 n i l h k)
-
--- What is kept of trees.
-module _ (b : Bool) (a n i : ℕ) (l : List ℕ) where
-  pub gathered-none : n ≡ 0 → gathered b a n (drop i l) ≡ []
-  unfolding gathered
-  gathered-none h = ap (λ m. gathered b a m (drop i l)) h ∙ walk-none _ [] (drop i l)
-
-  pub gathered-end : length l ≤ i → gathered b a n (drop i l) ≡ []
-  unfolding gathered
-  gathered-end h = walk-end _ [] n i l h
-
-  pub gathered-step : 0 < n → i < length l → gathered b a n (drop i l) ≡ kept b a (drop i l) ++ gathered b a (n - 1) (drop (i + span 1 (drop i l)) l)
-  unfolding gathered
-  gathered-step h k = walk-step _ [] n i l h k
 
 module _ (a n i : ℕ) (l : List ℕ) (h : 0 < n) (k : i < length l) where
   pub share-fails : shares-here a (drop i l) ≡ false → all-share a n (drop i l) ≡ false

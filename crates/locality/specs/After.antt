@@ -5,34 +5,22 @@ use Prim.Native.Nat.{ℕ, suc, _+_, _-_, _≤_}
 use native.Mathlib.Omega.{arith}
 use lib.Dec.{eqb}
 use lib.ListN.{length, length-append}
-use Rattle.model.specs.Literal.{Literal}
-use Rattle.model.specs.Forest.{Conn, and, Forest, nil, lit, node, _⊕_, first, after, literal-at, conjunction-at}
+use Rattle.model.specs.Forest.{and, Forest, nil, lit, node, _⊕_, first, after, literal-at, conjunction-at}
 use Rattle.model.specs.Code.{Node, leaf, encode}
 use Rattle.model.specs.Rules.{neutral, assigned, absorb, omit, unwrap, spread, lift, merge, Family, absorbs, omits, unwraps, spreads, lifts, merges, factors, change}
 use Rattle.theory.specs.Logic.{some-inj, and-split, only-some, then-some}
-use Rattle.theory.specs.Forests.{nil-⊕, ⊕-nil, ⊕-assoc, literal-here, conjunction-here, constant-here, cut-at, assigned-lit}
+use Rattle.theory.specs.Forests.{nil-⊕, ⊕-nil, ⊕-assoc, literal-here, conjunction-here, constant-here, cut-at}
 use Rattle.theory.specs.Codes.{encode-⊕}
 use Rattle.locality.specs.Zones.{tree-end, child-place, Zone, zone}
 use Rattle.locality.specs.Places.{Rest, rest-of, rest-one, rest-as, further, past-trees, past-children, child-offset, length-here, child-here, end-here}
 use Rattle.locality.specs.Turned.{Turned, old-here, new-here}
+use Rattle.locality.specs.Assigned.{assigned-length}
 
 -- The old nodes from one place on and the new ones from another are the same.
 pub record Moved (old new : ℕ) (ns ms : List Node) : Type 0 where
   pub kept : List Node
   pub old-part : Rest old ns kept
   pub new-part : Rest new ms kept
-
--- Constants in place of literals: as many nodes.
-assigned-length : (c : Conn) (l : Literal) (f : Forest) → length (encode (assigned c l f)) ≡ length (encode f)
-unfolding assigned encode
-assigned-length c l nil = refl
-assigned-length c l (lit x f) =
-    let r = assigned-length c l f in
-    assigned-lit (λ g. length (encode g) ≡ suc (length (encode f))) c l x f (λ e. ap suc r) (λ e. ap suc r) (λ e o. ap suc r)
-assigned-length c l (node d k f) =
-    let r = assigned-length c l k in
-    let s = assigned-length c l f in
-    ap suc (omega (arith, length-append (encode (assigned c l k)) (encode (assigned c l f)), length-append (encode k) (encode f)))
 
 module _ {x : Family} {p i j : ℕ} {ns ms : List Node} (w : Turned x p i j ns ms) where
   -- What stands at the place of child i, and after the tree.

@@ -10,6 +10,7 @@ use lib.Dec.{eqb}
 use Rattle.model.specs.Literal.{Literal, option, same}
 use Rattle.model.specs.Forest.{Conn, and, or, root, same-conn, Forest, nil, lit, node, size, first, after, literal-at, conjunction-at, constant-at, literals-only, has-unit, mentions}
 use Rattle.model.specs.Rules.{shares, groups}
+use Rattle.theory.specs.Logic.{or-right}
 use Rattle.locality.specs.Mentions.{Covers, both-ways, keep-first}
 use Rattle.locality.specs.Differ.{Differ, to-literal, to-group, past-literal, past-group, inside}
 
@@ -19,6 +20,7 @@ pub data Alike : ℕ → Forest → Forest → Type 0 where
   groups-alike : {n : ℕ} {c : Conn} {k m f g : Forest} → Alike n k m → Alike (suc n) f g → Alike (suc n) (node c k f) (node c m g)
   deep-groups : {c b : Conn} {k m f g : Forest} → Covers k m → Alike zero f g → Alike zero (node c k f) (node b m g)
   deep-literal : {c : Conn} {l : Literal} {k f g : Forest} → mentions (option l) k ≡ true → Alike zero f g → Alike zero (node c k f) (lit l g)
+  deep-constant : {c : Conn} {l : Literal} {f g : Forest} → Alike zero f g → Alike zero (lit l f) (node c nil g)
 
 pub alike-self : (n : ℕ) (f : Forest) → Alike n f f
 alike-self n nil = no-trees
@@ -34,6 +36,7 @@ alike-size (one-literal x) = ap suc (alike-size x)
 alike-size (groups-alike y x) = ap suc (alike-size x)
 alike-size (deep-groups h x) = ap suc (alike-size x)
 alike-size (deep-literal e x) = ap suc (alike-size x)
+alike-size (deep-constant x) = ap suc (alike-size x)
 
 pub alike-covers : {n : ℕ} {f g : Forest} → Alike n f g → Covers f g
 unfolding mentions
@@ -45,6 +48,7 @@ alike-covers (deep-groups {k = k} {m = m} {f = f} {g = g} h x) v e =
     both-ways (mentions v m) (mentions v g) (mentions v k) (mentions v f) (h v) (alike-covers x v) e
 alike-covers (deep-literal {l = l} {k = k} {f = f} {g = g} h x) v e =
     both-ways (eqb v (option l)) (mentions v g) (mentions v k) (mentions v f) (λ s. rw (eqb-true v (option l) s) h) (alike-covers x v) e
+alike-covers (deep-constant {l = l} x) v e = or-right (eqb v (option l)) (alike-covers x v e)
 
 -- Cut after as many trees.
 pub alike-first : (i : ℕ) {n : ℕ} {f g : Forest} → Alike n f g → Alike n (first i f) (first i g)
@@ -55,6 +59,7 @@ alike-first (suc i) (one-literal x) = one-literal (alike-first i x)
 alike-first (suc i) (groups-alike y x) = groups-alike y (alike-first i x)
 alike-first (suc i) (deep-groups h x) = deep-groups h (alike-first i x)
 alike-first (suc i) (deep-literal e x) = deep-literal e (alike-first i x)
+alike-first (suc i) (deep-constant x) = deep-constant (alike-first i x)
 
 pub alike-after : (i : ℕ) {n : ℕ} {f g : Forest} → Alike n f g → Alike n (after i f) (after i g)
 unfolding after
@@ -64,6 +69,7 @@ alike-after (suc i) (one-literal x) = alike-after i x
 alike-after (suc i) (groups-alike y x) = alike-after i x
 alike-after (suc i) (deep-groups h x) = alike-after i x
 alike-after (suc i) (deep-literal e x) = alike-after i x
+alike-after (suc i) (deep-constant x) = alike-after i x
 
 -- What the rules read of forests that look alike one level down.
 module _ {n : ℕ} where

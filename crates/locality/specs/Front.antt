@@ -1,7 +1,7 @@
 -- In the children before the one that a step is about, every tree is as before.
 use mathlib.Core.List.{List, _++_}
 use mathlib.Core.Path.{_≡_, refl, sym, ap, _∙_}
-use Prim.Native.Nat.{ℕ, suc, zero, _+_, _-_, _<_}
+use Prim.Native.Nat.{ℕ, suc, zero, _+_, _-_, _≤_, _<_}
 use native.Mathlib.Omega.{arith}
 use lib.ListN.{length, drop}
 use lib.Seq.{drop-append-le, drop-drop}
@@ -11,6 +11,7 @@ use Rattle.model.specs.Rules.{Family}
 use Rattle.theory.specs.Forests.{⊕-assoc}
 use Rattle.theory.specs.Codes.{encode-⊕, decode-encode, decode-encode-++, encode-decode, trees-code, trees-drop}
 use Rattle.locality.specs.Zones.{Quiet}
+use Rattle.locality.specs.Places.{Rest, rest-as, further, past-head}
 use Rattle.locality.specs.Turned.{Turned, old-here, new-here}
 use Rattle.locality.specs.Alike.{alike-self}
 use Rattle.locality.specs.Looks.{Look, both-literals, both-groups}
@@ -39,12 +40,19 @@ part-read a f n =
     ∙ decode-encode-++ (decode (drop n (encode a))) (encode f)
     ∙ ap (λ g. decode (drop n (encode a)) ⊕ g) (decode-encode f)
 
-read-front : (c : Conn) (a d f : Forest) (n : ℕ) → n < length (encode a) → decode (drop (suc n) (encode (node c (a ⊕ d) f))) ≡ decode (drop n (encode a)) ⊕ (d ⊕ f)
-unfolding encode
-read-front c a d f n h =
-    ap (λ xs. decode (drop n xs)) (sym (encode-⊕ (a ⊕ d) f) ∙ ap encode (⊕-assoc a d f) ∙ encode-⊕ a (d ⊕ f))
-    ∙ ap decode (drop-append-le n (encode a) (encode (d ⊕ f)) (omega arith))
-    ∙ part-read a (d ⊕ f) n
+-- What is read at a place among trees, of which the first stands at an earlier place.
+pub part-here : (a f : Forest) {p : ℕ} {ns : List Node} → Rest p ns (encode (a ⊕ f)) → (q : ℕ) → p ≤ q → q < p + length (encode a) → decode (drop q ns) ≡ decode (drop (q - p) (encode a)) ⊕ f
+part-here a f {p} {ns} r q from within =
+    let sum : p + (q - p) ≡ q = omega arith in
+    ap (λ n. decode (drop n ns)) (sym sum)
+    ∙ ap decode (sym (drop-drop (q - p) p ns))
+    ∙ ap (λ xs. decode (drop (q - p) xs)) (r .left ∙ encode-⊕ a f)
+    ∙ ap decode (drop-append-le (q - p) (encode a) (encode f) (omega arith))
+    ∙ part-read a f (q - p)
+
+-- The first of a head's children stand after it.
+pub below-head : {p : ℕ} {ns : List Node} (c : Conn) (a d f : Forest) → Rest p ns (encode (node c (a ⊕ d) f)) → Rest (p + 1) ns (encode (a ⊕ (d ⊕ f)))
+below-head c a d f r = rest-as (further r (past-head c (a ⊕ d) f)) refl (ap encode (⊕-assoc a d f))
 
 same-front : (ns : List Node) (n : ℕ) → n < length ns → (f g : Forest) → first 1 (decode (drop n ns) ⊕ f) ≡ first 1 (decode (drop n ns) ⊕ g)
 unfolding decode
@@ -53,28 +61,21 @@ same-front ns n h f g = let x = node-at ns n h in rw (x .1) (first-push (x .0) (
 -- A step that keeps the first children a, at a place among them.
 module _ {x : Family} {p i j : ℕ} {ns ms : List Node} (w : Turned x p i j ns ms) (a d v : Forest) (e : w .children ≡ a ⊕ d) (t : w .new ≡ node (w .conn) (a ⊕ v) nil) (q : ℕ) (later : p < q) (early : q < p + suc (length (encode a))) where
   abbrev offset : ℕ
-  offset = q - suc p
+  offset = q - (p + 1)
 
   offset-within : offset < length (encode a)
   offset-within = omega arith
 
-  offset-sum : p + suc offset ≡ q
-  offset-sum = omega arith
-
   read-old : decode (drop q ns) ≡ decode (drop offset (encode a)) ⊕ (d ⊕ w .rest)
   read-old =
-      ap (λ m. decode (drop m ns)) (sym offset-sum)
-      ∙ ap decode (sym (drop-drop (suc offset) p ns))
-      ∙ ap (λ xs. decode (drop (suc offset) xs)) (old-here w .left ∙ ap (λ k. encode (node (w .conn) k (w .rest))) e)
-      ∙ read-front (w .conn) a d (w .rest) offset offset-within
+      let old = rest-as (old-here w) refl (ap (λ k. encode (node (w .conn) k (w .rest))) e) in
+      part-here a (d ⊕ w .rest) (below-head (w .conn) a d (w .rest) old) q (omega arith) (omega arith)
 
   read-new : decode (drop q ms) ≡ decode (drop offset (encode a)) ⊕ (v ⊕ w .rest)
   unfolding _⊕_
   read-new =
-      ap (λ m. decode (drop m ms)) (sym offset-sum)
-      ∙ ap decode (sym (drop-drop (suc offset) p ms))
-      ∙ ap (λ xs. decode (drop (suc offset) xs)) (new-here w .left ∙ ap (λ g. encode (g ⊕ w .rest)) t)
-      ∙ read-front (w .conn) a v (w .rest) offset offset-within
+      let new = rest-as (new-here w) refl (ap (λ g. encode (g ⊕ w .rest)) t) in
+      part-here a (v ⊕ w .rest) (below-head (w .conn) a v (w .rest) new) q (omega arith) (omega arith)
 
   pub front-quiet : (s : ℕ) → Quiet s q ns → Quiet s q ms
   front-quiet s =

@@ -12,9 +12,14 @@ pub mod Alike
 pub mod Looks
 -- Nodes read onto such forests.
 pub mod Levels
+-- Trees in which a literal is assigned.
+pub mod Assigned
 -- Before the zone rules do not come to apply.
 pub mod Before
 pub mod Front
 pub mod Sides
 -- The theorems.
 pub mod Locality
+pub mod Families
+-- Inside the tree of a step of rule 9 or 10, but where a child became a constant, rules do not come to apply.
+pub mod Inside

@@ -30,9 +30,13 @@ pub further : {p n : ℕ} {xs ys zs : List Node} → Rest p xs ys → Rest n ys 
 further {p} {n} {xs} r s =
     record { left = sym (drop-drop n p xs) ∙ ap (drop n) (r .left) ∙ s .left; long = let a = r .long in let b = s .long in omega arith }
 
--- Codes without their first trees, and without a head and its first children.
+-- Codes without their first trees, without a head, and without a head and its first children.
 pub past-trees : (a f : Forest) → Rest (length (encode a)) (encode (a ⊕ f)) (encode f)
 past-trees a f = rw (encode-⊕ a f) (rest-of (length (encode a)) (encode a) (encode f) refl)
+
+pub past-head : (c : Conn) (k f : Forest) → Rest 1 (encode (node c k f)) (encode (k ⊕ f))
+unfolding encode
+past-head c k f = rest-as (rest-one _ _) refl (sym (encode-⊕ k f))
 
 pub past-children : (c : Conn) (a d f : Forest) → Rest (suc (length (encode a))) (encode (node c (a ⊕ d) f)) (encode (d ⊕ f))
 unfolding encode

@@ -1,10 +1,10 @@
 -- The table of a sheet's parts as it is filled: a conjunction passed, one part more.
-use mathlib.Core.Bool.{Bool, true, false, _||_}
-use mathlib.Core.List.{List, [], _∷_, map}
+use mathlib.Core.Bool.{true, _||_}
+use mathlib.Core.List.{List, _∷_, map}
 use mathlib.Core.Logic.{_⊎_, inl, inr, ⊎-elim}
 use mathlib.Core.Option.{some}
-use mathlib.Core.Path.{_≡_, refl, sym, ap, _∙_}
-use Prim.Native.Nat.{ℕ, zero, suc, _+_, _-_, _≤_, _<_}
+use mathlib.Core.Path.{_≡_, sym, ap, _∙_}
+use Prim.Native.Nat.{ℕ, suc, _+_, _-_, _≤_, _<_}
 use native.Mathlib.Omega.{arith}
 use borrow.Author.Tests.{ltb-true, ltb-false}
 use lib.Dec.{ltb}
@@ -15,11 +15,10 @@ use Rattle.model.specs.Sheet.{is-sheet, used-in, numbers-in, nodes-in}
 use Rattle.theory.specs.Logic.{true-false, either, or-split, or-left, or-right}
 use Rattle.theory.specs.Lists.{map-drop}
 use Rattle.theory.specs.Codes.{trees-drop}
-use Rattle.theory.specs.Scan.{is-literal}
 use Rattle.theory.specs.Spans.{span, span-within}
 use Rattle.theory.specs.Shape.{shaped-trees}
 use Rattle.theory.specs.Sheets.{sheet-facts, sheet-shaped}
-use Rattle.evaluation.specs.Reading.{place-at, tree-fails, Spells-tree}
+use Rattle.evaluation.specs.Reading.{tree-fails}
 use Rattle.parts.specs.Parts.{stretch, Claimed, Part, Part-fails, Parted}
 use Rattle.parts.proofs.Trees.{drop-take, conjunction-fails, none-fails, first-one, first-or-later, first-some}
 use Rattle.parts.proofs.Tables.{same-or-not, literal-place, zeros}

@@ -1,27 +1,20 @@
 -- The tables of a sheet as they are filled: one number more, one part more.
-use mathlib.Core.Bool.{Bool, true, false, _||_}
-use mathlib.Core.List.{List, [], _∷_, map}
+use mathlib.Core.Bool.{true, false}
+use mathlib.Core.List.{List}
 use mathlib.Core.Logic.{_⊎_, inl, inr, ⊎-elim}
-use mathlib.Core.Option.{some}
 use mathlib.Core.Path.{_≡_, refl, sym, ap, _∙_}
 use Prim.Native.Nat.{ℕ, zero, suc, _+_, _-_, _≤_, _<_}
 use native.Mathlib.Omega.{arith}
-use borrow.Author.Tests.{eqb-true, eqb-false, ltb-true, ltb-false, eq-eqb, ne-eqb}
-use lib.Dec.{eqb, ltb}
-use lib.ListN.{length, getD, set, take, drop, replicate, length-set, length-drop, length-replicate}
-use lib.Seq.{take-take, drop-drop, drop-cons, getD-take, getD-drop, length-take-le, getD-set-same, getD-set-other}
-use Rattle.model.specs.Code.{kind, trees, node-of, number-of}
-use Rattle.model.specs.Sheet.{is-sheet, used-in, numbers-in, nodes-in}
-use Rattle.theory.specs.Logic.{either, true-false, or-split, or-left, or-right}
-use Rattle.theory.specs.Lists.{map-drop}
-use Rattle.theory.specs.Codes.{trees-drop}
+use borrow.Author.Tests.{eqb-true, eqb-false}
+use lib.Dec.{eqb}
+use lib.ListN.{length, getD, set, drop, replicate, length-set, length-replicate}
+use lib.Seq.{getD-take, getD-drop, getD-set-same, getD-set-other}
+use Rattle.model.specs.Sheet.{is-sheet, used-in, numbers-in}
+use Rattle.theory.specs.Logic.{either, true-false}
 use Rattle.theory.specs.Scan.{is-literal}
-use Rattle.theory.specs.Spans.{span, span-within}
-use Rattle.theory.specs.Sheets.{sheet-facts}
-use Rattle.evaluation.specs.Reading.{place-at, tree-fails, Spells-tree}
+use Rattle.evaluation.specs.Reading.{place-at}
 use Rattle.evaluation.proofs.Nodes.{numbers-long, sheet-tree}
-use Rattle.parts.specs.Parts.{stretch, Claimed, Part, Parted, Occurs, Latest, Linked}
-use Rattle.parts.proofs.Trees.{drop-take, conjunction-fails, none-fails, first-one, first-or-later, first-some}
+use Rattle.parts.specs.Parts.{Claimed, Occurs, Latest, Linked}
 
 -- Two numbers, the same or not; and a number below the next is below or the same.
 pub same-or-not : (m n : ℕ) → (m ≡ n) ⊎ (m ≡ n → ⊥)

@@ -1,20 +1,18 @@
 -- Laws of the trees that numbers spell: the first of them, what a conjunction at their head says, and that a tree's value depends
 -- on its own literals only.
 use mathlib.Core.Bool.{Bool, true, false, _||_}
-use mathlib.Core.List.{List, [], _∷_, _++_, map, append-nil}
-use mathlib.Core.Logic.{_⊎_, inl, inr, ⊎-elim}
+use mathlib.Core.List.{List, [], _∷_, map, append-nil}
+use mathlib.Core.Logic.{_⊎_, ⊎-elim}
 use mathlib.Core.Option.{some}
 use mathlib.Core.Path.{_≡_, refl, sym, ap, ap₂, _∙_}
-use Prim.Native.Nat.{ℕ, zero, suc, _+_, _-_, _≤_, _<_}
+use Prim.Native.Nat.{ℕ, zero, suc, _-_, _≤_, _<_}
 use native.Mathlib.Omega.{arith}
-use borrow.Author.Tests.{eqb-true}
 use lib.Dec.{eqb}
-use lib.ListN.{length, getD, take, drop, length-drop}
-use lib.Seq.{take-take, drop-drop, getD-take, getD-drop, length-take-le}
+use lib.ListN.{length, getD, take, drop}
 use Rattle.model.specs.Base.{all, pick}
 use Rattle.model.specs.Forest.{and, root, Forest, nil, lit, node, size, first, after, _⊕_}
 use Rattle.model.specs.Code.{Node, leaf, head, kind, value, encode, push, decode, trees, node-of, number-of}
-use Rattle.theory.specs.Logic.{either, true-false}
+use Rattle.theory.specs.Logic.{either}
 use Rattle.theory.specs.Lists.{all-map, all-from, map-back}
 use Rattle.theory.specs.Forests.{first-after, size-first}
 use Rattle.theory.specs.Codes.{encode-decode, decode-encode, trees-code}

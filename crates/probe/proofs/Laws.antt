@@ -1,18 +1,17 @@
 -- An outcome told apart, and the bounds by which each value fits beside the refusal.
-use mathlib.Core.Bool.{Bool, true, false, not}
+use mathlib.Core.Bool.{true}
 use mathlib.Core.List.{List}
 use mathlib.Core.Option.{Option, none, some}
-use mathlib.Core.Path.{_≡_, refl, sym, ap, _∙_}
+use mathlib.Core.Path.{_≡_, refl, ap, _∙_}
 use Prim.Native.Nat.{ℕ, _*_, _≤_, _<_}
-use native.Mathlib.Nat.{mul-le-mul-left, mul-le-mul-right}
+use native.Mathlib.Nat.{mul-le-mul-right}
 use native.Mathlib.Omega.{arith}
 use borrow.Author.Tests.{eqb-true, not-false}
-use lib.Dec.{eqb}
-use lib.ListN.{length, getD}
+use lib.ListN.{length}
 use Rattle.model.specs.Code.{value, weight}
 use Rattle.model.specs.Sheet.{options-in, used-in, nodes-in, is-sheet}
 use Rattle.model.specs.Book.{options-of, written}
-use Rattle.model.specs.Calls.{Refusal, sheet-refused, output-refused, Answer, refused, accepted, Outcome, outcome, book-refusal, writeOf, Ran, runOf}
+use Rattle.model.specs.Calls.{Refusal, sheet-refused, Answer, accepted, Outcome, outcome, book-refusal, writeOf, Ran, runOf}
 use Rattle.model.specs.History.{cube, run, if-accepted, choice-of, steps-of-call}
 use Rattle.theory.specs.Logic.{first-none, only-none}
 use Rattle.theory.specs.Sheets.{sheet-shaped, sheet-weight}

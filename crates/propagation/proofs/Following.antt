@@ -13,18 +13,20 @@ use lib.Seq.{getD-set-other}
 use Rattle.model.specs.Literal.{Literal, complement, option}
 use Rattle.model.specs.Forest.{root}
 use Rattle.model.specs.Code.{decode}
-use Rattle.model.specs.Sheet.{is-sheet, options-in, nodes-in, numbers-in, used-in}
+use Rattle.model.specs.Sheet.{is-sheet, options-in, nodes-in, numbers-in}
+use Rattle.model.specs.Calls.{report-in}
 use Rattle.theory.specs.Logic.{true-false, either, fails-if}
 use Rattle.theory.specs.Scan.{is-literal}
 use Rattle.theory.specs.Sheets.{sheet-facts}
 use Rattle.theory.specs.Evaluation.{fails}
-use Rattle.theory.specs.Tables.{place-of, set-of, forced-by, place-below, Has-report, sheet-report, sheet-failed}
+use Rattle.theory.specs.Tables.{place-of, set-of, forced-by, place-below, Has-report, report-conflict, sheet-report, sheet-failed}
 use Rattle.evaluation.specs.Reading.{place-at, tree-fails}
-use Rattle.parts.specs.Parts.{stretch, Part, Part-fails, Parted, Occurs}
+use Rattle.parts.specs.Parts.{stretch, Part-fails, Parted, Occurs}
 use Rattle.parts.proofs.Trees.{same-fails}
-use Rattle.parts.proofs.Tables.{same-or-not, below-next}
+use Rattle.parts.proofs.Tables.{below-next}
 use Rattle.parts.proofs.Finding.{stretch-number, stretch-long}
-use Rattle.propagation.specs.Trails.{opposite, Fallen, Watching, Watched, Reached}
+use Rattle.breaking.specs.Breaking.{opposite}
+use Rattle.propagation.specs.Trails.{Fallen, Quiet, Watching, Watched, Reached}
 use Rattle.propagation.proofs.Learning.{opposite-place}
 use Rattle.propagation.proofs.Looking.{part-inside}
 
@@ -88,13 +90,20 @@ as-tree : (s t : List ℕ) → fails (set-of t) root (decode (nodes-in s)) ≡ t
 unfolding tree-fails nodes-in
 as-tree s t = refl
 
--- A contradictory sheet's report needs no more.
-pub fallen-report : {s t : List ℕ} {n : ℕ} → is-sheet s ≡ true → Fallen s t n → Has-report s t
-fallen-report {s} {t} sheet w = sheet-failed s sheet t (as-tree s t ∙ w .falls) (w .right)
+-- A table that has the report, and whether the sheet is contradictory.
+abbrev Reported : List ℕ → List ℕ → Bool → Type 0
+Reported s t b = Has-report s t × (b ≡ report-in s .contradictory)
 
--- At the end of the trail every part is calm.
+reported : (s t : List ℕ) {b : Bool} → tree-fails t (numbers-in s) ≡ b → Has-report s t → Reported s t b
+reported s t e has = (has, sym (report-conflict s t has ∙ as-tree s t ∙ e))
+
+-- A contradictory sheet's report needs no more.
+pub fallen-report : {s t : List ℕ} {n : ℕ} → is-sheet s ≡ true → Fallen s t n → Reported s t true
+fallen-report {s} {t} sheet w = reported s t (w .falls) (sheet-failed s sheet t (as-tree s t ∙ w .falls) (w .right))
+
+-- At the end of the trail every part is quiet.
 module _ {s ends homes : List ℕ} (sheet : is-sheet s ≡ true) (table : Parted s ends homes) {seen t trail : List ℕ} {n small large : ℕ} (v : Following s ends seen t trail n small large) (end : n ≤ large) where
-  quiet : (i : ℕ) → (getD ends i 0 ≡ 0 → ⊥) → (q m : ℕ) → q < 1024 → i ≤ m → m < getD ends i 0 → Occurs s q m → tree-fails (set t q 1) (stretch i (getD ends i 0) s) ≡ true → getD t (opposite q) 0 ≡ 1
+  quiet : (i : ℕ) → (getD ends i 0 ≡ 0 → ⊥) → Quiet s i (getD ends i 0) t
   quiet i d =
       let p = table .part i d in
       let far = part-inside sheet p in
@@ -105,10 +114,13 @@ module _ {s ends homes : List ℕ} (sheet : is-sheet s ≡ true) (table : Parted
       (λ g. let w = v .many h (omega arith) i m a b o d (ltb-false (getD ends i 0) (i + 16) g, omega (arith, p .begins, far .1)) in omega arith)
       (either (ltb (getD ends i 0) (i + 16))))
 
-  -- Unless the sheet fails anyway, a literal under which it fails is known.
-  module _ (still : tree-fails t (numbers-in s) ≡ false) (l : Literal) (near : place-of l < 1024) (new : set-of t (complement l) ≡ false) where
+  -- So the sheet does not fail, and a literal under which it fails is known.
+  standing-yet : tree-fails t (numbers-in s) ≡ false
+  standing-yet = fails-if (tree-fails t (numbers-in s)) (λ fall. let found = table .whole t fall in true-false (sym (found .2) ∙ quiet (found .0) (found .1) .stands))
+
+  module _ (l : Literal) (near : place-of l < 1024) (new : set-of t (complement l) ≡ false) where
     unforced : tree-fails (set t (place-of l) 1) (numbers-in s) ≡ true → ⊥
-    unforced fall = true-false (sym (table .part i d .counts t (sym same ∙ found .2)) ∙ still)
+    unforced fall = true-false (sym (sym same ∙ found .2) ∙ quiet i d .stands)
       where
         found : Part-fails s ends (set t (place-of l) 1)
         found = table .whole (set t (place-of l) 1) fall
@@ -132,26 +144,23 @@ module _ {s ends homes : List ℕ} (sheet : is-sheet s ≡ true) (table : Parted
               literal = rw here at lit;
               same = ap place-at (sym here) ∙ e;
             } in
-            true-false (sym (known-complement t l (quiet i d (place-of l) (i + j) near (omega arith) (omega arith) occurs (found .2))) ∙ new)))
+            true-false (sym (known-complement t l (quiet i d .known (place-of l) (i + j) near (omega arith) (omega arith) occurs (found .2))) ∙ new)))
 
         same : tree-fails (set t (place-of l) 1) (stretch i (getD ends i 0) s) ≡ tree-fails t (stretch i (getD ends i 0) s)
         same = same-fails (set t (place-of l) 1) t (stretch i (getD ends i 0) s) agree
 
-  unforced-all : tree-fails t (numbers-in s) ≡ false → (l : Literal) → option l < options-in s → forced-by (decode (nodes-in s)) t l ≡ false
+  unforced-all : (l : Literal) → option l < options-in s → forced-by (decode (nodes-in s)) t l ≡ false
   unfolding forced-by
-  unforced-all still l few = go (set-of t (complement l)) refl
+  unforced-all l few = go (set-of t (complement l)) refl
     where
       small-place : place-of l < 1024
       small-place = omega (arith, place-below (options-in s) l few, sheet-facts s sheet .options)
 
       go : (b : Bool) → set-of t (complement l) ≡ b → (not b && fails (set-of (set t (place-of l) 1)) root (decode (nodes-in s))) ≡ false
       go true e = refl
-      go false e = fails-if _ (λ f. unforced still l small-place e (sym (as-tree s (set t (place-of l) 1)) ∙ f))
+      go false e = fails-if _ (λ f. unforced l small-place e (sym (as-tree s (set t (place-of l) 1)) ∙ f))
 
-  pub followed : Has-report s t
+  pub followed : Reported s t false
   followed =
       let facts = v .watching .facts in
-      ⊎-elim
-      (λ e. sheet-failed s sheet t (as-tree s t ∙ e) (facts .right))
-      (λ e. sheet-report s sheet t (omega (arith, facts .long, sheet-facts s sheet .options)) (facts .right) (unforced-all e))
-      (either (tree-fails t (numbers-in s)))
+      reported s t standing-yet (sheet-report s sheet t (omega (arith, facts .long, sheet-facts s sheet .options)) (facts .right) unforced-all)

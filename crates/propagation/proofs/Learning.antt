@@ -1,31 +1,30 @@
 -- Laws of tables and trails: nothing learned, one literal learned, one growth after another; and what a part's calm depends on.
-use mathlib.Core.Bool.{Bool, true, false, not, _&&_, _||_}
+use mathlib.Core.Bool.{Bool, true, false, not}
 use mathlib.Core.List.{List, [], _∷_}
 use mathlib.Core.Logic.{_⊎_, inl, inr, ⊎-elim}
 use mathlib.Core.Path.{_≡_, refl, sym, ap, _∙_}
 use Prim.Native.Nat.{ℕ, zero, suc, _+_, _-_, _*_, _/_, _%_, _≤_, _<_}
-use native.Mathlib.Numerals.{add-one}
 use native.Mathlib.Omega.{arith}
-use borrow.Author.Tests.{eqb-true, eqb-false, eq-eqb, ne-eqb, not-true}
+use borrow.Author.Tests.{eqb-true, eqb-false, eq-eqb, ne-eqb}
 use lib.Dec.{eqb}
 use lib.ListN.{length, getD, set, length-set}
-use lib.Seq.{getD-set-same, getD-set-other}
+use lib.Seq.{getD-set-same, getD-set-other, set-out}
 use Rattle.model.specs.Base.{pick}
 use Rattle.model.specs.Literal.{Literal, pos, neg, complement}
-use Rattle.model.specs.Forest.{root, Forest}
+use Rattle.model.specs.Forest.{root}
 use Rattle.model.specs.Clauses.{clauses, Contradictory, Derived}
 use Rattle.model.specs.Code.{decode}
-use Rattle.model.specs.Sheet.{nodes-in, numbers-in, used-in}
-use Rattle.theory.specs.Logic.{true-false, either, and-split, same-test}
+use Rattle.model.specs.Sheet.{nodes-in, numbers-in}
+use Rattle.theory.specs.Logic.{same-test}
 use Rattle.theory.specs.Scan.{is-literal}
-use Rattle.theory.specs.Evaluation.{fails}
-use Rattle.theory.specs.Tables.{place-of, set-of, Right, forced-derived, fact-right}
+use Rattle.theory.specs.Tables.{place-of, forced-derived, fact-right}
 use Rattle.evaluation.specs.Reading.{place-at, tree-fails}
 use Rattle.parts.specs.Parts.{stretch, Part, Occurs}
 use Rattle.parts.proofs.Trees.{same-fails}
 use Rattle.parts.proofs.Tables.{same-or-not}
 use Rattle.parts.proofs.Finding.{stretch-number, stretch-long}
-use Rattle.propagation.specs.Trails.{opposite, unset, fresh, Facts, Grown, Untouched, Calm}
+use Rattle.breaking.specs.Breaking.{opposite}
+use Rattle.propagation.specs.Trails.{unset, fresh, Facts, Grown, Untouched, Quiet, Calm, Settled}
 
 pub opposite-below : (n k : ℕ) → k < 2 * n → opposite k < 2 * n
 unfolding opposite pick
@@ -120,27 +119,30 @@ module _ {s t trail : List ℕ} {n : ℕ} (w : Facts s t trail n) {k : ℕ} (sma
       below : {h : ℕ} → (h ≡ n → ⊥) → h < n + 1 → h < n
       below d m = omega arith
 
--- What is known after a literal was tried on an earlier table, found or not.
-module _ {s t₀ trail₀ : List ℕ} {n₀ : ℕ} {t trail : List ℕ} {n : ℕ} (v : Facts s t₀ trail₀ n₀) (w : Facts s t trail n) {k : ℕ} (small : k < 1024) where
-  Known : List ℕ → List ℕ → ℕ → Bool → Type 0
-  Known t′ trail′ n′ found = Facts s t′ trail′ n′ × Grown t trail n t′ trail′ n′ × (found ≡ true → getD t′ (opposite k) 0 ≡ 1)
+-- What is known after a literal was learned that an earlier table forces.
+module _ {s t₀ trail₀ : List ℕ} {n₀ : ℕ} {t trail : List ℕ} {n : ℕ} (v : Facts s t₀ trail₀ n₀) (w : Facts s t trail n) {k : ℕ} (small : k < 1024) (forced : tree-fails (set t₀ k 1) (numbers-in s) ≡ true) where
+  Known : List ℕ → List ℕ → ℕ → Type 0
+  Known t′ trail′ n′ = Facts s t′ trail′ n′ × Grown t trail n t′ trail′ n′ × (getD t′ (opposite k) 0 ≡ 1)
 
-  learned-new : eqb (getD t (opposite k) 0) 1 ≡ false → tree-fails (set t₀ k 1) (numbers-in s) ≡ true → Known (set t (opposite k) 1) (set trail n (opposite k)) (n + 1) true
+  learned-new : eqb (getD t (opposite k) 0) 1 ≡ false → Known (set t (opposite k) 1) (set trail n (opposite k)) (n + 1)
   unfolding Known tree-fails nodes-in
-  learned-new e forced =
+  learned-new e =
       let near : opposite k < length t = rw (w .long) (opposite-below 512 k small) in
       let space : n < length trail = rw (w .wide) (still-room w small e) in
       let long = v .long in
-      (facts-more w small e (λ d l p. forced-derived (decode (nodes-in s)) t₀ l (omega arith) (v .right) (rw p forced) d), grown-one t trail n (opposite k) near space, λ f. getD-set-same t (opposite k) 1 0 near)
+      (facts-more w small e (λ d l p. forced-derived (decode (nodes-in s)) t₀ l (omega arith) (v .right) (rw p forced) d), grown-one t trail n (opposite k) near space, getD-set-same t (opposite k) 1 0 near)
 
-  pub learned : (found : Bool) → (found ≡ true → tree-fails (set t₀ k 1) (numbers-in s) ≡ true) → {t′ trail′ : List ℕ} {n′ : ℕ} → n′ ≡ pick (fresh t k found) (n + 1) n → t′ ≡ pick (fresh t k found) (set t (opposite k) 1) t → trail′ ≡ pick (fresh t k found) (set trail n (opposite k)) trail → Facts s t′ trail′ n′ × Grown t trail n t′ trail′ n′ × (found ≡ true → getD t′ (opposite k) 0 ≡ 1)
+  pub learned : {t′ trail′ : List ℕ} {n′ : ℕ} → n′ ≡ pick (fresh t k) (n + 1) n → t′ ≡ pick (fresh t k) (set t (opposite k) 1) t → trail′ ≡ pick (fresh t k) (set trail n (opposite k)) trail → Facts s t′ trail′ n′ × Grown t trail n t′ trail′ n′ × (getD t′ (opposite k) 0 ≡ 1)
   unfolding fresh pick Known
-  learned false forced a b c = rw (a, b, c) (w, grown-none t trail n, λ e. true-false (sym e))
-  learned true forced {t′} {trail′} {n′} a b c = go (eqb (getD t (opposite k) 0) 1) refl a b c
+  learned {t′} {trail′} {n′} a b c = go (eqb (getD t (opposite k) 0) 1) refl a b c
     where
-      go : (o : Bool) → eqb (getD t (opposite k) 0) 1 ≡ o → n′ ≡ pick (not o) (n + 1) n → t′ ≡ pick (not o) (set t (opposite k) 1) t → trail′ ≡ pick (not o) (set trail n (opposite k)) trail → Known t′ trail′ n′ true
-      go true e p q r = rw (p, q, r) (w, grown-none t trail n, λ f. eqb-true (getD t (opposite k) 0) 1 e)
-      go false e p q r = rw (p, q, r) (learned-new e (forced refl))
+      go : (o : Bool) → eqb (getD t (opposite k) 0) 1 ≡ o → n′ ≡ pick (not o) (n + 1) n → t′ ≡ pick (not o) (set t (opposite k) 1) t → trail′ ≡ pick (not o) (set trail n (opposite k)) trail → Known t′ trail′ n′
+      go true e p q r = rw (p, q, r) (w, grown-none t trail n, eqb-true (getD t (opposite k) 0) 1 e)
+      go false e p q r = rw (p, q, r) (learned-new e)
+
+-- A table has no place 1,024.
+pub as-it-is : (t : List ℕ) → length t ≡ 1024 → set t 1024 1 ≡ t
+as-it-is t long = set-out t 1024 1 (omega arith)
 
 -- A part that was not touched has its values on the grown table.
 module _ {s t trail : List ℕ} {n : ℕ} {t′ trail′ : List ℕ} {n′ : ℕ} (g : Grown t trail n t′ trail′ n′) (long : length t ≡ 1024) (long′ : length t′ ≡ 1024) {i e : ℕ} (part : Part s i e) (within : e ≤ length s) where
@@ -171,10 +173,25 @@ module _ {s t trail : List ℕ} {n : ℕ} {t′ trail′ : List ℕ} {n′ : ℕ
           ∙ sym (ap (λ b. eqb b 1) (getD-set-other t q p 1 0 other)))
           (same-or-not p q)
 
-  -- So a part that was calm is.
-  pub calm-on : {k c : ℕ} → c ≤ n → Calm k s i e c t trail n → Calm k s i e c t′ trail′ n′
-  calm-on {k} {c} below calm free q m small from to occurs fall =
+  untouched-as-it-is : Untouched s i e n trail′ n′ → tree-fails t′ (stretch i e s) ≡ tree-fails t (stretch i e s)
+  untouched-as-it-is calm =
+      sym (ap (λ u. tree-fails u (stretch i e s)) (as-it-is t′ long′)) ∙ untouched-same calm 1024 ∙ ap (λ u. tree-fails u (stretch i e s)) (as-it-is t long)
+
+  -- So a part that was quiet is, and one that was calm.
+  pub settled-quiet : Untouched s i e n trail′ n′ → Settled s i e t t′ → Quiet s i e t′
+  settled-quiet calm v =
+      record {
+        stands = untouched-as-it-is calm ∙ v .stands;
+        known = λ q m small from to occurs fall. v .known q small (sym (untouched-same calm q) ∙ fall);
+      }
+
+  pub calm-on : {c : ℕ} → c ≤ n → Calm s i e c t trail n → Calm s i e c t′ trail′ n′
+  calm-on {c} below calm free =
       let more = g .more in
       let before : Untouched s i e c trail n = λ h m′ a b d f o. free h m′ a (omega arith) d f (rw (g .old h b) o) in
       let after : Untouched s i e n trail′ n′ = λ h m′ a b d f o. free h m′ (omega arith) b d f o in
-      g .keeps (opposite q) (calm before q m small from to occurs (sym (untouched-same after q) ∙ fall))
+      let was = calm before in
+      record {
+        stands = untouched-as-it-is after ∙ was .stands;
+        known = λ q m small from to occurs fall. g .keeps (opposite q) (was .known q m small from to occurs (sym (untouched-same after q) ∙ fall));
+      }

@@ -2,4 +2,4 @@ pub mod Learning
 pub mod Looking
 pub mod Watching
 pub mod Following
-pub mod Opening
+pub mod Literals

@@ -1,8 +1,8 @@
 -- Laws of watching parts: one part looked at, and a trail that is followed.
-use mathlib.Core.Bool.{true, false}
+use mathlib.Core.Bool.{true}
 use mathlib.Core.List.{List}
 use mathlib.Core.Logic.{_⊎_, inl, inr, ⊎-elim}
-use mathlib.Core.Path.{_≡_, refl, sym, ap, _∙_}
+use mathlib.Core.Path.{_≡_, refl, ap, _∙_}
 use Prim.Native.Nat.{ℕ, zero, suc, _+_, _-_, _≤_, _<_}
 use native.Mathlib.Omega.{arith}
 use borrow.Author.Tests.{ltb-true, ltb-false}
@@ -10,13 +10,12 @@ use lib.Dec.{ltb}
 use lib.ListN.{length, getD, set, replicate, length-set, length-replicate}
 use lib.Seq.{getD-set-same, getD-set-other}
 use Rattle.model.specs.Base.{pick}
-use Rattle.model.specs.Sheet.{is-sheet, used-in}
+use Rattle.model.specs.Sheet.{is-sheet}
 use Rattle.theory.specs.Logic.{either}
 use Rattle.theory.specs.Tables.{right-none}
-use Rattle.evaluation.specs.Reading.{tree-fails}
-use Rattle.parts.specs.Parts.{Part, Parted, Occurs, Latest, Linked}
+use Rattle.parts.specs.Parts.{Parted, Occurs, Linked}
 use Rattle.parts.proofs.Tables.{same-or-not, zeros, below-next}
-use Rattle.propagation.specs.Trails.{unset, Facts, Grown, Calm, Looked, Ends, Watching, Sized, Since, Watched, Reached}
+use Rattle.propagation.specs.Trails.{unset, Looked, Ends, Watching, Since, Watched, Reached}
 use Rattle.propagation.proofs.Learning.{grown-none, grown-both, calm-on}
 use Rattle.propagation.proofs.Looking.{part-inside}
 

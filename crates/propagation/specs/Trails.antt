@@ -1,9 +1,9 @@
 -- A table of failed literals with the trail of what was added to it, and parts that force nothing more.
-use mathlib.Core.Bool.{Bool, true, false, not, _&&_}
+use mathlib.Core.Bool.{Bool, true, false, not}
 use mathlib.Core.List.{List, [], _∷_}
 use mathlib.Core.Logic.{_⊎_}
 use mathlib.Core.Path.{_≡_}
-use Prim.Native.Nat.{ℕ, zero, suc, _+_, _-_, _*_, _%_, _≤_, _<_}
+use Prim.Native.Nat.{ℕ, zero, suc, _+_, _≤_, _<_}
 use lib.Dec.{eqb}
 use lib.ListN.{length, getD, set}
 use Rattle.model.specs.Base.{pick}
@@ -13,20 +13,17 @@ use Rattle.model.specs.Code.{decode}
 use Rattle.model.specs.Sheet.{nodes-in, numbers-in}
 use Rattle.theory.specs.Tables.{Right}
 use Rattle.evaluation.specs.Reading.{tree-fails}
+use Rattle.breaking.specs.Breaking.{opposite}
 use Rattle.parts.specs.Parts.{stretch, Part, Occurs}
-
--- The place of the complement.
-unfoldable pub opposite : ℕ → ℕ
-opposite k = pick (eqb (k % 2) 0) (k + 1) (k - 1)
 
 -- The places that hold no 1.
 unfoldable pub unset : List ℕ → ℕ
 unset [] = zero
 unset (x ∷ t) = pick (eqb x 1) (unset t) (suc (unset t))
 
--- A literal that was found to be forced is no fact yet.
-unfoldable pub fresh : List ℕ → ℕ → Bool → Bool
-fresh t k found = found && not (eqb (getD t (opposite k) 0) 1)
+-- A literal is no fact yet.
+unfoldable pub fresh : List ℕ → ℕ → Bool
+fresh t k = not (eqb (getD t (opposite k) 0) 1)
 
 -- A table and its trail hold facts of a sheet, and the trail has room for whatever can still fail.
 pub record Facts (s t trail : List ℕ) (n : ℕ) : Type 0 where
@@ -47,9 +44,14 @@ pub record Grown (t trail : List ℕ) (n : ℕ) (t′ trail′ : List ℕ) (n′
 abbrev pub Untouched : List ℕ → ℕ → ℕ → ℕ → List ℕ → ℕ → Type 0
 Untouched s i e c trail n = (h m : ℕ) → c ≤ h → h < n → i ≤ m → m < e → Occurs s (getD trail h 0) m → ⊥
 
--- What the part between them forces, of the literals below a bound that stand in it, is known, unless the trail touched it since.
-abbrev pub Calm : ℕ → List ℕ → ℕ → ℕ → ℕ → List ℕ → List ℕ → ℕ → Type 0
-Calm k s i e c t trail n = Untouched s i e c trail n → (q m : ℕ) → q < k → i ≤ m → m < e → Occurs s q m → tree-fails (set t q 1) (stretch i e s) ≡ true → getD t (opposite q) 0 ≡ 1
+-- The part between them does not fail, and what it forces, of the literals that stand in it, is known.
+pub record Quiet (s : List ℕ) (i e : ℕ) (t : List ℕ) : Type 0 where
+  pub stands : tree-fails t (stretch i e s) ≡ false
+  pub known : (q m : ℕ) → q < 1024 → i ≤ m → m < e → Occurs s q m → tree-fails (set t q 1) (stretch i e s) ≡ true → getD t (opposite q) 0 ≡ 1
+
+-- It is quiet, unless the trail touched it since it had c literals.
+abbrev pub Calm : List ℕ → ℕ → ℕ → ℕ → List ℕ → List ℕ → ℕ → Type 0
+Calm s i e c t trail n = Untouched s i e c trail n → Quiet s i e t
 
 -- The sheet fails under a table of facts, so that it is contradictory. A number that no trail is as long as says so.
 pub record Fallen (s t : List ℕ) (n : ℕ) : Type 0 where
@@ -61,17 +63,24 @@ pub record Fallen (s t : List ℕ) (n : ℕ) : Type 0 where
 abbrev pub Unforced : List ℕ → ℕ → ℕ → List ℕ → Type 0
 Unforced s i e t = (q : ℕ) → tree-fails (set t q 1) (stretch i e s) ≡ false
 
--- A part was tried with each literal of a block: what it forces is known.
-pub record Tried (s : List ℕ) (i e block : ℕ) (t trail : List ℕ) (n : ℕ) (t′ trail′ : List ℕ) (n′ : ℕ) : Type 0 where
-  pub facts : Facts s t′ trail′ n′
-  pub grown : Grown t trail n t′ trail′ n′
-  pub known : (j : ℕ) → j < 64 → tree-fails (set t (64 * block + j) 1) (stretch i e s) ≡ true → getD t′ (opposite (64 * block + j)) 0 ≡ 1
+-- What the literals of a part tell, by a number: it forces the literal at that place and no other; it fails as it is; or it forces
+-- nothing.
+pub record Lone (s : List ℕ) (i e : ℕ) (t : List ℕ) (r : ℕ) : Type 0 where
+  pub one : r < 1024 → tree-fails (set t r 1) (stretch i e s) ≡ true
+  pub only : r < 1024 → (q : ℕ) → tree-fails (set t q 1) (stretch i e s) ≡ true → q ≡ r
+  pub all : r ≡ 1024 → tree-fails t (stretch i e s) ≡ true
+  pub none : r ≡ 1025 → Unforced s i e t
+
+-- A part does not fail under one table, and what it forces there is known in another.
+pub record Settled (s : List ℕ) (i e : ℕ) (t t′ : List ℕ) : Type 0 where
+  pub stands : tree-fails t (stretch i e s) ≡ false
+  pub known : (q : ℕ) → q < 1024 → tree-fails (set t q 1) (stretch i e s) ≡ true → getD t′ (opposite q) 0 ≡ 1
 
 -- A part was looked at.
 pub record Looked (s : List ℕ) (i e : ℕ) (t trail : List ℕ) (n : ℕ) (t′ trail′ : List ℕ) (n′ : ℕ) : Type 0 where
   pub facts : Facts s t′ trail′ n′
   pub grown : Grown t trail n t′ trail′ n′
-  pub calm : Calm 1024 s i e n t′ trail′ n′
+  pub calm : Calm s i e n t′ trail′ n′
 
 -- The ends in a table are those of parts.
 pub record Ends (s ends : List ℕ) : Type 0 where
@@ -83,7 +92,7 @@ pub record Watching (s ends : List ℕ) (to : ℕ) (seen t trail : List ℕ) (n 
   pub facts : Facts s t trail n
   pub long : length seen ≡ 4098
   pub most : (i : ℕ) → getD seen i 0 ≤ n
-  pub calm : (i : ℕ) → i < to → (getD ends i 0 ≡ 0 → ⊥) → Calm 1024 s i (getD ends i 0) (getD seen i 0) t trail n
+  pub calm : (i : ℕ) → i < to → (getD ends i 0 ≡ 0 → ⊥) → Calm s i (getD ends i 0) (getD seen i 0) t trail n
 
 -- The sizes from one on and below another.
 abbrev pub Sized : ℕ → ℕ → ℕ → ℕ → Type 0

@@ -7,9 +7,11 @@ ghost use Prim.Native.Nat.{_+_, _≤_, _<_};
 ghost use lib.ListN.{length, getD, set, replicate};
 ghost use Rattle.model.specs.Base.{pick};
 ghost use Rattle.model.specs.Sheet.{«is-sheet»};
+ghost use Rattle.model.specs.Calls.{«report-in»};
 ghost use Rattle.theory.specs.Tables.{«Has-report»};
+ghost use Rattle.breaking.specs.Breaking.{opposite};
 ghost use Rattle.parts.specs.Parts.{Part, Parted, Linked};
-ghost use Rattle.propagation.specs.Trails.{opposite, unset, fresh, Facts, Fallen, Unforced, Tried, Looked, Ends, Watching, Since, Watched, Reached};
+ghost use Rattle.propagation.specs.Trails.{unset, fresh, Facts, Fallen, Lone, Looked, Ends, Watching, Since, Watched, Reached};
 
 // The place of the complement of the literal at a place.
 fn opposite_of(k: usize) -> usize
@@ -19,17 +21,14 @@ fn opposite_of(k: usize) -> usize
     if k % 2 == 0 { k + 1 } else { k - 1 }
 }
 
-// The literal at a place, where it was found to be forced, becomes a fact: its complement fails, and joins the trail where it did
-// not fail before. The trail's new length.
-fn learn(found: bool, k: usize, failed: &mut [u8], trail: &mut [u16], known: usize) -> usize
+// The literal at a place is forced, so it becomes a fact: its complement fails, and joins the trail where it did not fail before.
+// The trail's new length.
+fn learn(k: usize, failed: &mut [u8], trail: &mut [u16], known: usize) -> usize
     requires { ⌜ (k < 1024) × (length (now failed) ≡ 1024) × (length (now trail) ≡ 1024) × (known + unset (now failed) ≡ 1024) ⌝ }
-    ensures { λ r. ⌜ r ≡ pick (fresh (now (failed .entry)) k found) (known + 1) known ⌝ }
-    ensures { λ r. ⌜ now (failed .exit) ≡ pick (fresh (now (failed .entry)) k found) (set (now (failed .entry)) (opposite k) 1) (now (failed .entry)) ⌝ }
-    ensures { λ r. ⌜ now (trail .exit) ≡ pick (fresh (now (failed .entry)) k found) (set (now (trail .entry)) known (opposite k)) (now (trail .entry)) ⌝ }
+    ensures { λ r. ⌜ r ≡ pick (fresh (now (failed .entry)) k) (known + 1) known ⌝ }
+    ensures { λ r. ⌜ now (failed .exit) ≡ pick (fresh (now (failed .entry)) k) (set (now (failed .entry)) (opposite k) 1) (now (failed .entry)) ⌝ }
+    ensures { λ r. ⌜ now (trail .exit) ≡ pick (fresh (now (failed .entry)) k) (set (now (trail .entry)) known (opposite k)) (now (trail .entry)) ⌝ }
 {
-    if !found {
-        return known;
-    }
     let other = opposite_of(k);
     if failed[other] == 1 {
         return known;
@@ -39,64 +38,64 @@ fn learn(found: bool, k: usize, failed: &mut [u8], trail: &mut [u16], known: usi
     known + 1
 }
 
-// Each literal of a block of 64 places that a part forces becomes known.
-fn look_in(
-    sheet: &[u16],
-    from: usize,
-    to: usize,
-    block: usize,
-    failed: &mut [u8],
-    trail: &mut [u16],
-    known: usize,
-    stack: &mut [u64],
-) -> usize
-    requires { ⌜ («is-sheet» (now sheet) ≡ true) × Part (now sheet) from to × Facts (now sheet) (now failed) (now trail) known × (length (now stack) ≡ 4096) × (block < 16) ⌝ }
-    ensures { λ r. ⌜ Tried (now (sheet .entry)) from to block (now (failed .entry)) (now (trail .entry)) known (now (failed .exit)) (now (trail .exit)) r ⌝ }
-{
-    let mut rest = evaluation::tree_fails_with(&sheet[from..to], failed, block, stack);
-    let mut grown = known;
-    if rest == 0 {
-        return grown;
-    }
-    let mut k = 64 * block;
-    let end = k + 64;
-    while k < end {
-        grown = learn(rest % 2 == 1, k, failed, trail, grown);
-        rest = rest / 2;
-        k += 1;
-    }
-    grown
-}
-
-// Whether a part is a disjunction that begins with literals two of which, unlike one another, do not fail: it forces nothing then.
-fn is_open(sheet: &[u16], from: usize, to: usize, failed: &[u8]) -> bool
+// What a part forces that is a literal, or a disjunction that begins with literals: 1,025 where two of them, unlike one another, do
+// not fail, so that it forces nothing. Of literals alone: the place of the only one that does not fail, which may stand there more
+// than once, or 1,024 where all fail. 1,026 of any other part.
+fn lone(sheet: &[u16], from: usize, to: usize, failed: &[u8]) -> usize
     requires { ⌜ («is-sheet» (now sheet) ≡ true) × Part (now sheet) from to × (length (now failed) ≡ 1024) ⌝ }
-    ensures { λ r. ⌜ (r ≡ true → Unforced (now (sheet .entry)) from to (now (failed .entry))) ⌝ }
+    ensures { λ r. ⌜ Lone (now (sheet .entry)) from to (now (failed .entry)) r ⌝ }
 {
-    if nodes::kind_of(numbers::wide16(sheet[from])) != 4 {
-        return false;
-    }
     let mut free = 1024;
-    let mut i = from + 1;
+    let mut i = from;
+    if nodes::kind_of(numbers::wide16(sheet[from])) == 4 {
+        i += 1;
+    }
     while i < to {
         let x = numbers::wide16(sheet[i]);
         if !nodes::is_literal(x) {
-            return false;
+            return 1026;
         }
         let place = evaluation::place_of(x);
         if failed[place] != 1 {
             if free != 1024 && free != place {
-                return true;
+                return 1025;
             }
             free = place;
         }
         i += 1;
     }
-    false
+    free
 }
 
-// The same for all blocks in which the part has literals, unless it fails for no sixteen of them at once. A part that fails as it is
-// makes the sheet contradictory: 1,025.
+// Each literal that a part forces becomes known; the literals that break it are found in one pass. A part that fails as it is makes
+// the sheet contradictory: 1,025.
+fn look_inside(
+    sheet: &[u16],
+    from: usize,
+    to: usize,
+    failed: &mut [u8],
+    trail: &mut [u16],
+    known: usize,
+    places: &mut [u16],
+    firsts: &mut [u16],
+) -> usize
+    requires { ⌜ («is-sheet» (now sheet) ≡ true) × Part (now sheet) from to × Facts (now sheet) (now failed) (now trail) known × (length (now places) ≡ 4096) × (length (now firsts) ≡ 4096) ⌝ }
+    ensures { λ r. ⌜ Looked (now (sheet .entry)) from to (now (failed .entry)) (now (trail .entry)) known (now (failed .exit)) (now (trail .exit)) r ⊎ Fallen (now (sheet .entry)) (now (failed .exit)) r ⌝ }
+{
+    let n = breaking::breaking(&sheet[from..to], failed, places, firsts);
+    if 4096 < n {
+        return 1025;
+    }
+    let mut grown = known;
+    let mut k = 0;
+    while k < n {
+        grown = learn(numbers::wide16(places[k]), failed, trail, grown);
+        k += 1;
+    }
+    grown
+}
+
+// The same, without that pass where the part's literals tell enough.
 fn look(
     sheet: &[u16],
     from: usize,
@@ -104,31 +103,23 @@ fn look(
     failed: &mut [u8],
     trail: &mut [u16],
     known: usize,
-    stack: &mut [u64],
+    places: &mut [u16],
+    firsts: &mut [u16],
 ) -> usize
-    requires { ⌜ («is-sheet» (now sheet) ≡ true) × Part (now sheet) from to × Facts (now sheet) (now failed) (now trail) known × (length (now stack) ≡ 4096) ⌝ }
+    requires { ⌜ («is-sheet» (now sheet) ≡ true) × Part (now sheet) from to × Facts (now sheet) (now failed) (now trail) known × (length (now places) ≡ 4096) × (length (now firsts) ≡ 4096) ⌝ }
     ensures { λ r. ⌜ Looked (now (sheet .entry)) from to (now (failed .entry)) (now (trail .entry)) known (now (failed .exit)) (now (trail .exit)) r ⊎ Fallen (now (sheet .entry)) (now (failed .exit)) r ⌝ }
 {
-    if is_open(sheet, from, to, failed) {
-        return known;
+    let free = lone(sheet, from, to, failed);
+    if free < 1024 {
+        return learn(free, failed, trail, known);
     }
-    if evaluation::tree_fails_with(&sheet[from..to], failed, 17, stack) == 0 {
-        return known;
-    }
-    if evaluation::tree_fails_with(&sheet[from..to], failed, 16, stack) % 2 == 1 {
+    if free == 1024 {
         return 1025;
     }
-    let mut blocks = evaluation::blocks_of(&sheet[from..to]);
-    let mut grown = known;
-    let mut block = 0;
-    while block < 16 {
-        if blocks % 2 == 1 {
-            grown = look_in(sheet, from, to, block, failed, trail, grown, stack);
-        }
-        blocks = blocks / 2;
-        block += 1;
+    if free == 1025 {
+        return known;
     }
-    grown
+    look_inside(sheet, from, to, failed, trail, known, places, firsts)
 }
 
 // Looks at a part again, if its size is in the range and it was not looked at since the trail was longer than so much.
@@ -143,9 +134,10 @@ fn look_again(
     failed: &mut [u8],
     trail: &mut [u16],
     known: usize,
-    stack: &mut [u64],
+    places: &mut [u16],
+    firsts: &mut [u16],
 ) -> usize
-    requires { ⌜ («is-sheet» (now sheet) ≡ true) × Ends (now sheet) (now ends) × Watching (now sheet) (now ends) 4098 (now seen) (now failed) (now trail) known × (length (now stack) ≡ 4096) ⌝ }
+    requires { ⌜ («is-sheet» (now sheet) ≡ true) × Ends (now sheet) (now ends) × Watching (now sheet) (now ends) 4098 (now seen) (now failed) (now trail) known × (length (now places) ≡ 4096) × (length (now firsts) ≡ 4096) ⌝ }
     requires { ⌜ (from < 4098) × (1 ≤ least) × (least ≤ 4098) × (limit ≤ 4098) × (since < known) ⌝ }
     ensures { λ r. ⌜ Watched (now (sheet .entry)) (now (ends .entry)) (now (seen .entry)) (now (failed .entry)) (now (trail .entry)) known (now (seen .exit)) (now (failed .exit)) (now (trail .exit)) r ⊎ Fallen (now (sheet .entry)) (now (failed .exit)) r ⌝ }
     ensures { λ r. ⌜ Since since least limit (now (ends .entry)) from (now (seen .exit)) ⌝ }
@@ -158,7 +150,7 @@ fn look_again(
         return known;
     }
     seen[from] = known as u16;
-    look(sheet, from, to, failed, trail, known, stack)
+    look(sheet, from, to, failed, trail, known, places, firsts)
 }
 
 // Looks again at the parts of a range of sizes that hold one literal of the trail.
@@ -175,9 +167,10 @@ fn visit(
     failed: &mut [u8],
     trail: &mut [u16],
     known: usize,
-    stack: &mut [u64],
+    places: &mut [u16],
+    firsts: &mut [u16],
 ) -> usize
-    requires { ⌜ («is-sheet» (now sheet) ≡ true) × Parted (now sheet) (now ends) (now homes) × Linked (now sheet) (now last) (now earlier) × Watching (now sheet) (now ends) 4098 (now seen) (now failed) (now trail) known × (length (now stack) ≡ 4096) ⌝ }
+    requires { ⌜ («is-sheet» (now sheet) ≡ true) × Parted (now sheet) (now ends) (now homes) × Linked (now sheet) (now last) (now earlier) × Watching (now sheet) (now ends) 4098 (now seen) (now failed) (now trail) known × (length (now places) ≡ 4096) × (length (now firsts) ≡ 4096) ⌝ }
     requires { ⌜ (1 ≤ least) × (least ≤ 4098) × (limit ≤ 4098) × (index < known) ⌝ }
     ensures { λ r. ⌜ (Watched (now (sheet .entry)) (now (ends .entry)) (now (seen .entry)) (now (failed .entry)) (now (trail .entry)) known (now (seen .exit)) (now (failed .exit)) (now (trail .exit)) r × Reached (now (sheet .entry)) (now (ends .entry)) (getD (now (trail .entry)) index 0) index least limit (now (seen .exit))) ⊎ Fallen (now (sheet .entry)) (now (failed .exit)) r ⌝ }
 {
@@ -196,7 +189,8 @@ fn visit(
             failed,
             trail,
             grown,
-            stack,
+            places,
+            firsts,
         );
         if 1024 < grown {
             return grown;
@@ -214,9 +208,10 @@ pub fn look_at(
     seen: &mut [u16],
     failed: &mut [u8],
     trail: &mut [u16],
-    stack: &mut [u64],
+    places: &mut [u16],
+    firsts: &mut [u16],
 ) -> usize
-    requires { ⌜ («is-sheet» (now sheet) ≡ true) × Ends (now sheet) (now ends) × (to ≤ 4098) × (length (now stack) ≡ 4096) ⌝ }
+    requires { ⌜ («is-sheet» (now sheet) ≡ true) × Ends (now sheet) (now ends) × (to ≤ 4098) × (length (now places) ≡ 4096) × (length (now firsts) ≡ 4096) ⌝ }
     requires { ⌜ (now seen ≡ replicate 4098 0) × (now failed ≡ replicate 1024 0) × (length (now trail) ≡ 1024) ⌝ }
     ensures { λ r. ⌜ Watching (now (sheet .entry)) (now (ends .entry)) to (now (seen .exit)) (now (failed .exit)) (now (trail .exit)) r ⊎ Fallen (now (sheet .entry)) (now (failed .exit)) r ⌝ }
 {
@@ -226,7 +221,7 @@ pub fn look_at(
         let end = numbers::wide16(ends[i]);
         if 0 < end {
             seen[i] = known as u16;
-            known = look(sheet, i, end, failed, trail, known, stack);
+            known = look(sheet, i, end, failed, trail, known, places, firsts);
             if 1024 < known {
                 return known;
             }
@@ -236,7 +231,7 @@ pub fn look_at(
     known
 }
 
-// Follows the trail to its end: small parts first, and larger ones where no small one is left.
+// Follows the trail to its end: small parts first, and larger ones where no small one is left. Whether the sheet is contradictory.
 pub fn follow(
     sheet: &[u16],
     ends: &[u16],
@@ -247,14 +242,15 @@ pub fn follow(
     failed: &mut [u8],
     trail: &mut [u16],
     start: usize,
-    stack: &mut [u64],
-)
-    requires { ⌜ («is-sheet» (now sheet) ≡ true) × Parted (now sheet) (now ends) (now homes) × Linked (now sheet) (now last) (now earlier) × (length (now seen) ≡ 4098) × (length (now failed) ≡ 1024) × (length (now trail) ≡ 1024) × (length (now stack) ≡ 4096) ⌝ }
+    places: &mut [u16],
+    firsts: &mut [u16],
+) -> bool
+    requires { ⌜ («is-sheet» (now sheet) ≡ true) × Parted (now sheet) (now ends) (now homes) × Linked (now sheet) (now last) (now earlier) × (length (now seen) ≡ 4098) × (length (now failed) ≡ 1024) × (length (now trail) ≡ 1024) × (length (now places) ≡ 4096) × (length (now firsts) ≡ 4096) ⌝ }
     requires { ⌜ Watching (now sheet) (now ends) 4098 (now seen) (now failed) (now trail) start ⊎ Fallen (now sheet) (now failed) start ⌝ }
-    ensures { λ r. ⌜ «Has-report» (now (sheet .entry)) (now (failed .exit)) ⌝ }
+    ensures { λ r. ⌜ «Has-report» (now (sheet .entry)) (now (failed .exit)) × (r ≡ «report-in» (now (sheet .entry)) .contradictory) ⌝ }
 {
     if 1024 < start {
-        return;
+        return true;
     }
     let mut known = start;
     let mut small = 0;
@@ -274,10 +270,11 @@ pub fn follow(
                 failed,
                 trail,
                 known,
-                stack,
+                places,
+                firsts,
             );
             if 1024 < known {
-                return;
+                return true;
             }
             small += 1;
         } else {
@@ -294,12 +291,14 @@ pub fn follow(
                 failed,
                 trail,
                 known,
-                stack,
+                places,
+                firsts,
             );
             if 1024 < known {
-                return;
+                return true;
             }
             large += 1;
         }
     }
+    false
 }

@@ -1,12 +1,13 @@
 -- Tables, entry by entry: a run of ones, and entries that go.
-use mathlib.Core.List.{List, _++_}
+use mathlib.Core.List.{List, [], _++_, append-nil}
 use mathlib.Core.Logic.{⊎-elim}
 use mathlib.Core.Path.{_≡_, refl, sym, ap, _∙_}
 use Prim.Native.Nat.{ℕ, _+_, _-_, _≤_, _<_}
+use native.Mathlib.Nat.{add-zero}
 use native.Mathlib.Omega.{arith}
 use borrow.Author.Tests.{eqb-true, eqb-false}
 use lib.Dec.{eqb}
-use lib.ListN.{length, getD, take, drop, set, replicate, length-drop, length-set, List·getD-append}
+use lib.ListN.{length, getD, take, drop, set, replicate, length-drop, length-set, take-append-drop, List·getD-append}
 use lib.Seq.{getD-set-same, getD-set-other, getD-take, getD-drop, getD-append-add, length-take-le}
 use Rattle.theory.specs.Logic.{either}
 use Rattle.renewal.specs.Renewed.{Renewed}
@@ -30,6 +31,15 @@ ones-more from to t u le l o =
 -- Entries that go: those before them stay, those after them move up.
 abbrev pub gone : List ℕ → ℕ → ℕ → List ℕ
 gone t at count = take at t ++ (drop (at + count) t ++ replicate count 0)
+
+-- Where none go, all stay.
+pub gone-none : (t : List ℕ) (at count : ℕ) → count ≡ 0 → t ≡ gone t at count
+gone-none t at count e =
+    sym
+    (ap (gone t at) e
+    ∙ ap (λ k. take at t ++ (drop k t ++ [])) (add-zero at)
+    ∙ ap (λ xs. take at t ++ xs) (append-nil (drop at t))
+    ∙ take-append-drop at t)
 
 module _ (t : List ℕ) (at count : ℕ) (within : at + count ≤ length t) where
   long : length (take at t) ≡ at

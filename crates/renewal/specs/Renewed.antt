@@ -1,8 +1,12 @@
 -- A table after a step: what moved with its nodes, and what is forgotten.
-use mathlib.Core.List.{List}
+use mathlib.Core.List.{List, _++_}
 use mathlib.Core.Path.{_≡_}
 use Prim.Native.Nat.{ℕ, _+_, _-_, _≤_, _<_}
-use lib.ListN.{getD}
+use lib.ListN.{getD, take, drop, replicate}
+
+-- The entries from `old` on stand from `new` on, those between are gone, and zeros follow.
+abbrev pub close-up : ℕ → ℕ → List ℕ → List ℕ
+close-up new old t = take new t ++ (drop (new + (old - new)) t ++ replicate (old - new) 0)
 
 -- The entries from `old` on stand from `new` on; those from `from` up to `new` and at three places are 1; the others stay.
 pub record Renewed (from old new place inner outer : ℕ) (t u : List ℕ) : Type 0 where

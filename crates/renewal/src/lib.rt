@@ -2,7 +2,7 @@
 ghost use mathlib.Core.Path.{_≡_};
 ghost use Prim.Native.Nat.{ℕ, _+_, _-_, _≤_, _<_};
 ghost use lib.ListN.{length, getD};
-ghost use Rattle.renewal.specs.Renewed.{Renewed};
+ghost use Rattle.renewal.specs.Renewed.{«close-up», Renewed};
 
 // The entries from one place up to another become 1.
 fn put_ones(low: &mut [u16], from: usize, to: usize)
@@ -14,6 +14,16 @@ fn put_ones(low: &mut [u16], from: usize, to: usize)
     while q < to {
         low[q] = 1;
         q += 1;
+    }
+}
+
+// What stood from `old` on stands from `new` on; where the two are one place nothing moves.
+fn close_up(low: &mut [u16], new: usize, old: usize)
+    requires { ⌜ (new ≤ old) × (old ≤ length (now low)) ⌝ }
+    ensures { λ r. ⌜ now (low .exit) ≡ «close-up» new old (now (low .entry)) ⌝ }
+{
+    if new < old {
+        shifts::remove(low, new, old - new);
     }
 }
 
@@ -31,7 +41,7 @@ pub fn renew(
     requires { ⌜ (place < 4096) × (inner ≤ place) × (outer ≤ inner) ⌝ }
     ensures { λ r. ⌜ Renewed from old new place inner outer (now (low .entry)) (now (low .exit)) ⌝ }
 {
-    shifts::remove(low, new, old - new);
+    close_up(low, new, old);
     put_ones(low, from, new);
     low[place] = 1;
     low[inner] = 1;

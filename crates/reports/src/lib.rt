@@ -26,10 +26,11 @@ pub enum Completed {
     Refused(Refusal),
 }
 
-// All that is forced becomes known: each part is looked at, and again where the trail of what became known touches it.
-fn propagate(sheet: &[u16], failed: &mut [u8])
+// All that is forced becomes known: each part is looked at, and again where the trail of what became known touches it. Whether the
+// sheet is contradictory.
+fn propagate(sheet: &[u16], failed: &mut [u8]) -> bool
     requires { ⌜ («is-sheet» (now sheet) ≡ true) × (now failed ≡ replicate 1024 0) ⌝ }
-    ensures { λ r. ⌜ «Has-report» (now (sheet .entry)) (now (failed .exit)) ⌝ }
+    ensures { λ r. ⌜ «Has-report» (now (sheet .entry)) (now (failed .exit)) × (r ≡ «report-in» (now (sheet .entry)) .contradictory) ⌝ }
 {
     let mut ends = [0u16; 4098];
     let mut homes = [0u16; 4098];
@@ -37,7 +38,8 @@ fn propagate(sheet: &[u16], failed: &mut [u8])
     let mut earlier = [0u16; 4098];
     let mut seen = [0u16; 4098];
     let mut trail = [0u16; 1024];
-    let mut stack = [0u64; 4096];
+    let mut places = [0u16; 4096];
+    let mut firsts = [0u16; 4096];
     parts::find(sheet, &mut ends, &mut homes);
     parts::link(sheet, &mut last, &mut earlier);
     let known = propagation::look_at(
@@ -47,7 +49,8 @@ fn propagate(sheet: &[u16], failed: &mut [u8])
         &mut seen,
         failed,
         &mut trail,
-        &mut stack,
+        &mut places,
+        &mut firsts,
     );
     propagation::follow(
         sheet,
@@ -59,8 +62,9 @@ fn propagate(sheet: &[u16], failed: &mut [u8])
         failed,
         &mut trail,
         known,
-        &mut stack,
-    );
+        &mut places,
+        &mut firsts,
+    )
 }
 
 // The mark of an option.
@@ -110,8 +114,7 @@ fn put_report(sheet: &[u16], out: &mut [u8]) -> bool
     ensures { λ r. ⌜ (r ≡ «report-in» (now (sheet .entry)) .contradictory) × (now (out .exit) ≡ «report-in» (now (sheet .entry)) .marks) ⌝ }
 {
     let mut failed = [0u8; 1024];
-    propagate(sheet, &mut failed);
-    let contradictory = evaluation::root_fails(sheet, &failed);
+    let contradictory = propagate(sheet, &mut failed);
     put_marks(&failed, contradictory, out);
     contradictory
 }
@@ -122,8 +125,7 @@ fn is_complete(sheet: &[u16]) -> bool
     ensures { λ r. ⌜ r ≡ complete («report-in» (now (sheet .entry))) ⌝ }
 {
     let mut failed = [0u8; 1024];
-    propagate(sheet, &mut failed);
-    !evaluation::root_fails(sheet, &failed) && all_marked(&failed, numbers::wide16(sheet[0]))
+    !propagate(sheet, &mut failed) && all_marked(&failed, numbers::wide16(sheet[0]))
 }
 
 // The report: a byte for each option.

@@ -38,16 +38,19 @@ fn run_on(sheet: &mut [u16], sizes: &mut [u16], low: &mut [u16], budget: u64) ->
     ensures { λ r. ⌜ afterCall (ranOf r) (now (sheet .exit)) ≡ runOf (now (sheet .entry)) budget ⌝ }
 {
     let mut floor = 1;
+    let mut cursor = 0;
     let mut count = 0;
     while count < budget {
-        let next = bounds::next_redex(sheet, sizes, low, floor);
+        let next = bounds::next_redex(sheet, sizes, low, floor, cursor);
         let Next::Redex(rule, place, i, j) = next else {
             return Ran::Settled(count);
         };
-        floor = advance::advance(sheet, sizes, low, rule, place, i, j);
+        let ahead = advance::advance(sheet, sizes, low, rule, place, i, j);
+        floor = ahead.floor;
+        cursor = ahead.cursor;
         count += 1;
     }
-    ended(bounds::next_redex(sheet, sizes, low, floor), count)
+    ended(bounds::next_redex(sheet, sizes, low, floor, cursor), count)
 }
 
 // The strategy's steps, as many as the budget allows or as there are.

@@ -1,33 +1,29 @@
 -- Inner children: where they begin, what the rules ask of them, and which rules have no use for them.
 use mathlib.Core.Bool.{true, false, _&&_, and-false}
 use mathlib.Core.List.{List}
-use mathlib.Core.Logic.{_⊎_, inl, inr, ⊎-elim}
+use mathlib.Core.Logic.{_⊎_, inl, inr}
 use mathlib.Core.Option.{Option, none, some}
 use mathlib.Core.Path.{_≡_, refl, sym, ap, subst, _∙_}
 use Prim.Native.Nat.{ℕ, zero, suc, _+_, _-_, _≤_, _<_}
 use native.Mathlib.Omega.{arith}
-use borrow.Author.Tests.{eq-eqb, ne-eqb, eqb-false, le-leb, lt-ltb, ltb-true}
+use borrow.Author.Tests.{eq-eqb, ne-eqb, le-leb, lt-ltb, ltb-true}
 use lib.Dec.{eqb, ltb, leb}
 use lib.ListN.{length, getD, drop, length-drop}
-use lib.Seq.{drop-drop, getD-drop}
+use lib.Seq.{getD-drop}
 use Rattle.model.specs.Base.{pick, only-if, is-some, then}
-use Rattle.model.specs.Forest.{Conn, and, Forest, nil, lit, node, size, after, _⊕_, kids, conjunction-at, literal-at}
-use Rattle.model.specs.Code.{encode, kind, value}
-use Rattle.model.specs.Rules.{Family, absorbs, omits, unwraps, spreads, lifts, merges, factors, change, absorb, omit, unwrap, spread, merge, rewrite}
-use Rattle.model.specs.Strategy.{Redex, redex, least-j}
-use Rattle.theory.specs.Logic.{is-some-of, fails-if, pick-keeps, then-some, only-some, true-false, either}
-use Rattle.theory.specs.Forests.{size-after}
+use Rattle.model.specs.Forest.{Conn, and, Forest, size, after, _⊕_, conjunction-at, literal-at}
+use Rattle.model.specs.Code.{kind, value}
+use Rattle.model.specs.Rules.{Family, absorbs, omits, unwraps, spreads, merges, change, absorb, omit, unwrap, spread, merge, rewrite}
+use Rattle.model.specs.Strategy.{redex, least-j}
+use Rattle.theory.specs.Logic.{is-some-of, pick-keeps, either}
 use Rattle.theory.specs.Scan.{is-literal}
-use Rattle.theory.specs.Spans.{arity, arity-leaf, arity-head, span, span-none, child-at}
-use Rattle.theory.specs.Flat.{spell, Fits, fits-lit, fits-tree}
+use Rattle.theory.specs.Spans.{child-at}
 use Rattle.theory.specs.Stretches.{Stretch, forest-in}
 use Rattle.theory.specs.Heads.{Headed}
-use Rattle.theory.specs.Children.{Group, headed-group, group-value, first-left, child-stands, child-fits, child-room, child-conjunction}
+use Rattle.theory.specs.Children.{Group, headed-group, group-value, first-left, child-room, child-conjunction}
 use Rattle.theory.specs.Turns.{family-at, family-asks}
-use Rattle.theory.specs.Bounds.{rewrite-within}
 use Rattle.lift.specs.Asked.{literalChild}
 use Rattle.lift.proofs.Laws.{asks-nothing, conjunction-group, asks-literal}
-use Rattle.sizes.proofs.Laws.{child-next}
 use Rattle.search.proofs.Laws.{j-found, j-none}
 
 -- But for rules 11, 12 and 14 an inner child other than 0 gives nothing.
@@ -114,28 +110,3 @@ module _ {r : ℕ} {l : List ℕ} (s : Stretch l) (h : Headed r l) (i : ℕ) whe
           go : (j : ℕ) → (ltb j (value (getD l at 0)) ≡ true) ⊎ (ltb j (value (getD l at 0)) ≡ false) → is-some (rewrite r i j (forest-in l)) ≡ false
           go j (inl t) = h-below j (ltb-true j (value (getD l at 0)) t)
           go j (inr t) = sym (asked j) ∙ ap (λ t. t && is-literal (getD l (at + child-at j (drop at l)) 0)) t
-
--- The number of a child announces its own children.
-first-arity : (z : ℕ) (f g : Forest) → 1 ≤ size g → Fits (g ⊕ f) → arity (getD (spell (g ⊕ f) z) 0 0) ≡ size (kids g)
-unfolding spell encode _⊕_ size kids
-first-arity z f nil n h = absurd (omega arith)
-first-arity z f (lit x g) n h = arity-leaf x (fits-lit x (g ⊕ f) h .0)
-first-arity z f (node c m g) n h = arity-head c (size m) (fits-tree c m (g ⊕ f) h .0)
-
-pub child-arity : {r : ℕ} {l : List ℕ} → Stretch l → (h : Headed r l) → (i : ℕ) {at : ℕ} → i < value (getD l 0 0) → at ≡ child-at i l → arity (getD l at 0) ≡ size (kids (after i (kids (forest-in l))))
-unfolding kids
-child-arity {r} {l} s h i there e =
-    let g = headed-group s h in
-    let k = h .children in
-    let within : i < size k = omega (arith, group-value g) in
-    let some-left : 1 ≤ size (after i k) = omega (arith, size-after i k) in
-    rw (e, h .forest)
-    (ap arity (sym (first-left (child-at i l) l) ∙ ap (λ t. getD t 0 0) (child-stands g i (omega arith)))
-    ∙ first-arity (h .zeros) (h .rest) (after i k) some-left (child-fits g i (omega arith) .1))
-
--- Where the inner children begin, and the next one.
-pub inner-first : (at : ℕ) (l : List ℕ) → at + child-at 0 (drop at l) ≡ at + 1
-inner-first at l = omega (arith, span-none (drop 1 (drop at l)))
-
-pub inner-next : (at j : ℕ) (l : List ℕ) → let from = at + child-at j (drop at l) in at + child-at (j + 1) (drop at l) ≡ from + span 1 (drop from l)
-inner-next at j l = rw (child-next j (drop at l), drop-drop (child-at j (drop at l)) at l) (omega arith)

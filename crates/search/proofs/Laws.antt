@@ -1,31 +1,24 @@
 -- The levels of the search, each by what the one below it found.
 use mathlib.Core.Bool.{true, false}
 use mathlib.Core.List.{List}
-use mathlib.Core.Logic.{⊎-elim}
-use mathlib.Core.Option.{Option, none, some}
-use mathlib.Core.Path.{_≡_, sym, subst}
-use Prim.Native.Nat.{ℕ, zero, suc, _+_, _-_, _≤_, _<_}
+use mathlib.Core.Option.{none, some}
+use mathlib.Core.Path.{_≡_, sym}
+use Prim.Native.Nat.{ℕ, zero, suc, _-_, _≤_, _<_}
 use native.Mathlib.Omega.{arith}
-use borrow.Author.Tests.{ltb-true, ltb-false}
-use lib.Dec.{ltb}
 use lib.ListN.{length, drop}
-use Rattle.model.specs.Base.{only-if, is-some, least}
+use Rattle.model.specs.Base.{only-if, is-some}
 use Rattle.model.specs.Forest.{Forest, size, after, kids}
 use Rattle.model.specs.Code.{Node, decode}
 use Rattle.model.specs.Rules.{rewrite}
 use Rattle.model.specs.Strategy.{Redex, redex, least-j, least-i, least-place, next}
-use Rattle.theory.specs.Logic.{either, is-some-of, only-true}
-use Rattle.theory.specs.Least.{Least, least-is, least-none}
+use Rattle.theory.specs.Logic.{is-some-of, only-true}
+use Rattle.theory.specs.Least.{least-is, least-none}
 use Rattle.theory.specs.Bounds.{rewrite-within}
+pub use Rattle.commons.proofs.Inner.{below-more}
 
 only-false : {A : Type 0} {b : _} (a : A) → b ≡ false → only-if b a ≡ none
 unfolding only-if
 only-false a e = rw e
-
--- What holds below a number and at it holds below the next.
-pub below-more : {P : ℕ → Type 0} (n : ℕ) → ((k : ℕ) → k < n → P k) → P n → (k : ℕ) → k < n + 1 → P k
-below-more {P} n h here k l =
-    ⊎-elim (λ t. h k (ltb-true k n t)) (λ t. let same : n ≡ k = omega (arith, ltb-false k n t) in subst P same here) (either (ltb k n))
 
 module _ (r p : ℕ) (f : Forest) where
   -- Inner children.

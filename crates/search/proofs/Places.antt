@@ -1,7 +1,7 @@
 -- The stretch and the table from a place of a sheet on.
 use mathlib.Core.Bool.{true}
 use mathlib.Core.List.{List}
-use mathlib.Core.Path.{_≡_, sym, ap, subst, _∙_}
+use mathlib.Core.Path.{_≡_, subst}
 use Prim.Native.Nat.{ℕ, _+_, _-_, _≤_, _<_}
 use native.Mathlib.Omega.{arith}
 use lib.ListN.{length, drop, length-drop}
@@ -12,7 +12,7 @@ use Rattle.model.specs.Code.{decode}
 use Rattle.model.specs.Sheet.{is-sheet, used-in, nodes-in}
 use Rattle.theory.specs.Sheets.{sheet-facts}
 use Rattle.theory.specs.Stretches.{Stretch, forest-in, sheet-stretch}
-use Rattle.theory.specs.Places.{Lent, lend}
+use Rattle.theory.specs.Places.{lend}
 use Rattle.sizes.specs.Tables.{Sized}
 use Rattle.sizes.proofs.Laws.{sized-part}
 

@@ -1,7 +1,6 @@
 // The search at one place: the least child and inner child at which a rule applies.
 ghost use mathlib.Core.Path.{_≡_};
 ghost use mathlib.Core.Bool.{true};
-ghost use mathlib.Core.Logic.{_⊎_};
 ghost use Prim.Native.Nat.{ℕ, _≤_, _<_};
 ghost use lib.ListN.{length, getD, drop};
 ghost use Rattle.model.specs.Code.{value, decode};
@@ -11,6 +10,7 @@ ghost use Rattle.theory.specs.Spans.{«child-at»};
 ghost use Rattle.theory.specs.Stretches.{Stretch, «forest-in»};
 ghost use Rattle.theory.specs.Heads.{Headed};
 ghost use Rattle.sizes.specs.Tables.{Sized};
+ghost use Rattle.firsts.specs.Firsts.{«First-child»};
 ghost use Rattle.search.specs.Meaning.{spotOf, nextOf};
 
 // Where a rule applies to a node: the child and the inner child.
@@ -51,41 +51,43 @@ fn least_lifted(part: &[u16], sizes: &[u16], rule: usize, i: usize, at: usize) -
     Spot::Nowhere
 }
 
-// The least inner child for rule 14.
-fn least_factored(part: &[u16], i: usize, at: usize) -> Spot
+// The least inner child for rule 13, which has no use for any but 0. Before its child i only literals may stand, a number each.
+fn least_merged(part: &[u16], i: usize, at: usize) -> Spot
     requires { ⌜ Stretch (now part) ⌝ }
-    requires { ⌜ Headed 14 (now part) ⌝ }
+    requires { ⌜ Headed 13 (now part) ⌝ }
     requires { ⌜ (i < value (getD (now part) 0 0)) × (at ≡ «child-at» i (now part)) ⌝ }
-    ensures { λ r. ⌜ ((p : ℕ) → spotOf 14 p r ≡ «least-j» 14 p i («forest-in» (now (part .entry)))) ⌝ }
+    ensures { λ r. ⌜ ((p : ℕ) → spotOf 13 p r ≡ «least-j» 13 p i («forest-in» (now (part .entry)))) ⌝ }
 {
-    let m = spans::arity_of(numbers::wide16(part[at]));
-    let mut j = 0;
-    while j <= m {
-        if steps::asks(part, 14, i, j, at) {
-            return Spot::At(i, j);
-        }
-        j += 1;
+    if at != 1 + i {
+        return Spot::Nowhere;
     }
-    Spot::Nowhere
-}
-
-// The least inner child for the other rules, which have no use for any but 0.
-fn least_flat(part: &[u16], rule: usize, i: usize, at: usize) -> Spot
-    requires { ⌜ (1 ≤ rule) × ((rule ≤ 10) ⊎ (rule ≡ 13)) ⌝ }
-    requires { ⌜ Stretch (now part) ⌝ }
-    requires { ⌜ Headed rule (now part) ⌝ }
-    requires { ⌜ (i < value (getD (now part) 0 0)) × (at ≡ «child-at» i (now part)) ⌝ }
-    ensures { λ r. ⌜ ((p : ℕ) → spotOf rule p r ≡ «least-j» rule p i («forest-in» (now (part .entry)))) ⌝ }
-{
-    if steps::asks(part, rule, i, 0, at) {
+    if lift::asks(part, 13, i, 0, at) {
         return Spot::At(i, 0);
     }
     Spot::Nowhere
 }
 
-// The least inner child for child i.
+// The least inner child for rule 14, before whose child i too only literals may stand.
+fn least_factored(part: &[u16], sizes: &[u16], i: usize, at: usize) -> Spot
+    requires { ⌜ Stretch (now part) ⌝ }
+    requires { ⌜ Headed 14 (now part) ⌝ }
+    requires { ⌜ (i < value (getD (now part) 0 0)) × (at ≡ «child-at» i (now part)) ⌝ }
+    requires { ⌜ (length (now sizes) ≡ length (now part)) × Sized 0 (now part) (now sizes) ⌝ }
+    ensures { λ r. ⌜ ((p : ℕ) → spotOf 14 p r ≡ «least-j» 14 p i («forest-in» (now (part .entry)))) ⌝ }
+{
+    if at != 1 + i {
+        return Spot::Nowhere;
+    }
+    let j = commons::first_common(part, sizes, i);
+    if spans::arity_of(numbers::wide16(part[at])) < j {
+        return Spot::Nowhere;
+    }
+    Spot::At(i, j)
+}
+
+// The least inner child for child i and a rule that looks into it.
 fn least_inner(part: &[u16], sizes: &[u16], rule: usize, i: usize, at: usize) -> Spot
-    requires { ⌜ (1 ≤ rule) × (rule ≤ 14) ⌝ }
+    requires { ⌜ (11 ≤ rule) × (rule ≤ 14) ⌝ }
     requires { ⌜ Stretch (now part) ⌝ }
     requires { ⌜ Headed rule (now part) ⌝ }
     requires { ⌜ (i < value (getD (now part) 0 0)) × (at ≡ «child-at» i (now part)) ⌝ }
@@ -93,15 +95,78 @@ fn least_inner(part: &[u16], sizes: &[u16], rule: usize, i: usize, at: usize) ->
     ensures { λ r. ⌜ ((p : ℕ) → spotOf rule p r ≡ «least-j» rule p i («forest-in» (now (part .entry)))) ⌝ }
 {
     if rule == 14 {
-        return least_factored(part, i, at);
+        return least_factored(part, sizes, i, at);
     }
     if rule == 13 {
-        return least_flat(part, rule, i, at);
+        return least_merged(part, i, at);
     }
-    if 11 <= rule {
-        return least_lifted(part, sizes, rule, i, at);
+    least_lifted(part, sizes, rule, i, at)
+}
+
+// The least child and inner child for such a rule.
+fn least_inside(part: &[u16], sizes: &[u16], rule: usize) -> Spot
+    requires { ⌜ (11 ≤ rule) × (rule ≤ 14) ⌝ }
+    requires { ⌜ Stretch (now part) ⌝ }
+    requires { ⌜ Headed rule (now part) ⌝ }
+    requires { ⌜ (length (now sizes) ≡ length (now part)) × Sized 0 (now part) (now sizes) ⌝ }
+    ensures { λ r. ⌜ ((p : ℕ) → spotOf rule p r ≡ «least-i» rule p («forest-in» (now (part .entry)))) ⌝ }
+{
+    let k = nodes::value_of(numbers::wide16(part[0]));
+    let mut i = 0;
+    let mut at = 1;
+    while i < k {
+        let spot = least_inner(part, sizes, rule, i, at);
+        if let Spot::At(x, y) = spot {
+            return Spot::At(x, y);
+        }
+        at += numbers::wide16(sizes[at]);
+        i += 1;
     }
-    least_flat(part, rule, i, at)
+    Spot::Nowhere
+}
+
+// The first child that is the constant which a rule of 1 to 6 looks for; as many as there are children where there is none.
+fn first_constant(part: &[u16], sizes: &[u16], rule: usize) -> usize
+    requires { ⌜ (1 ≤ rule) × (rule ≤ 6) ⌝ }
+    requires { ⌜ Stretch (now part) ⌝ }
+    requires { ⌜ Headed rule (now part) ⌝ }
+    requires { ⌜ (length (now sizes) ≡ length (now part)) × Sized 0 (now part) (now sizes) ⌝ }
+    ensures { λ r. ⌜ «First-child» rule r (now (part .entry)) ⌝ }
+{
+    let constant = simplify::constant_for(rule);
+    let k = nodes::value_of(numbers::wide16(part[0]));
+    let mut i = 0;
+    let mut at = 1;
+    while i < k {
+        if part[at] == constant {
+            return i;
+        }
+        at += numbers::wide16(sizes[at]);
+        i += 1;
+    }
+    k
+}
+
+// The first child with which a rule of 1 to 10 applies, which looks at its children and into none of them: rules 7 and 8 apply to a
+// single child.
+fn first_beside(part: &[u16], sizes: &[u16], rule: usize) -> usize
+    requires { ⌜ (1 ≤ rule) × (rule ≤ 10) ⌝ }
+    requires { ⌜ Stretch (now part) ⌝ }
+    requires { ⌜ Headed rule (now part) ⌝ }
+    requires { ⌜ (length (now sizes) ≡ length (now part)) × Sized 0 (now part) (now sizes) ⌝ }
+    ensures { λ r. ⌜ «First-child» rule r (now (part .entry)) ⌝ }
+{
+    if rule <= 6 {
+        return first_constant(part, sizes, rule);
+    }
+    if 9 <= rule {
+        return recurring::first_recurring(part, sizes, rule);
+    }
+    let k = nodes::value_of(numbers::wide16(part[0]));
+    if k == 1 {
+        return 0;
+    }
+    k
 }
 
 // The least child and inner child for a rule at the first tree of a stretch.
@@ -114,16 +179,12 @@ pub fn least_child(part: &[u16], sizes: &[u16], rule: usize) -> Spot
     if !heads::is_headed(part, rule) {
         return Spot::Nowhere;
     }
-    let k = nodes::value_of(numbers::wide16(part[0]));
-    let mut i = 0;
-    let mut at = 1;
-    while i < k {
-        let spot = least_inner(part, sizes, rule, i, at);
-        if let Spot::At(x, y) = spot {
-            return Spot::At(x, y);
-        }
-        at += numbers::wide16(sizes[at]);
-        i += 1;
+    if 11 <= rule {
+        return least_inside(part, sizes, rule);
+    }
+    let i = first_beside(part, sizes, rule);
+    if i < nodes::value_of(numbers::wide16(part[0])) {
+        return Spot::At(i, 0);
     }
     Spot::Nowhere
 }

@@ -12,7 +12,7 @@ ghost use Rattle.theory.specs.Heads.{Headed, «rewritten-to»};
 ghost use Rattle.simplify.specs.Constants.{constantFor};
 
 // The constant that a rule of 1 to 6 looks for: false for 1, 3 and 5, true for 2, 4 and 6.
-fn constant_for(rule: usize) -> u16
+pub fn constant_for(rule: usize) -> u16
     requires { ⌜ (1 ≤ rule) × (rule ≤ 6) ⌝ }
     ensures { λ r. ⌜ r ≡ constantFor rule ⌝ }
 {

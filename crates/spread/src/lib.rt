@@ -36,7 +36,7 @@ fn occurs(part: &[u16], from: usize, to: usize, option: usize) -> bool
 }
 
 // The number at a place is a literal whose option occurs before it, from the first child on, or after it, up to an end.
-fn occurs_around(part: &[u16], at: usize, end: usize) -> bool
+pub fn occurs_around(part: &[u16], at: usize, end: usize) -> bool
     requires { ⌜ (1 ≤ at) × (at < end) × (end ≤ length (now part)) ⌝ }
     ensures { λ r. ⌜ r ≡ «spreads-from» at end (now (part .entry)) ⌝ }
 {

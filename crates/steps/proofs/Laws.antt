@@ -23,10 +23,12 @@ use Rattle.theory.specs.Logic.{is-some-of, is-some-then, fails-if}
 use Rattle.theory.specs.Bounds.{step-within}
 use Rattle.theory.specs.Inversion.{step-some}
 use Rattle.theory.specs.Flat.{spell}
+use Rattle.theory.specs.Shape.{shaped-trees}
 use Rattle.theory.specs.Sheets.{sheet-facts}
 use Rattle.theory.specs.Stretches.{Stretch, forest-in, spell-to, live, live-numbers, sheet-stretch}
-use Rattle.theory.specs.Places.{Lent, lend, place-used, before-place}
+use Rattle.theory.specs.Places.{lend, place-used, before-place}
 use Rattle.theory.specs.Heads.{Headed, rewritten-to}
+use Rattle.locality.specs.Families.{level-length}
 use Rattle.heads.proofs.Laws.{applied-headed}
 use Rattle.steps.specs.Results.{stepped}
 
@@ -61,6 +63,20 @@ module _ (s : List ℕ) (h : is-sheet s ≡ true) where
       ap (λ new. set new 1 (length (live (drop 2 new)))) (turned-numbers r p i j (place-used s h r p i j t) (w .1))
       ∙ ap (λ u. options-in s ∷ u ∷ (map number-of ms ++ replicate z 0)) count
       ∙ ap (λ o. sheet-of (options-in s) (maybe ns (λ xs. xs) o)) (sym (step-some r p i j ns (w .1)))
+
+  -- A step that keeps the number of nodes leaves the used count right.
+  pub turned-level : (r p i j : ℕ) → is-some (M.step r p i j (nodes-in s)) ≡ true → 9 ≤ r → r ≤ 12 → take (2 + p) s ++ rewritten-to r i j (drop (2 + p) s) ≡ stepped s r p i j
+  unfolding stepped maybe sheet-of then M.step
+  turned-level r p i j t low high =
+      let ns = nodes-in s in
+      let facts = sheet-facts s h in
+      let w = is-some-of (rewrite r i j (decode (drop p ns))) (sym (is-some-then (rewrite r i j (decode (drop p ns))) (λ f. take p ns ++ encode f)) ∙ t) in
+      let ms = take p ns ++ encode (w .0) in
+      let did = step-some r p i j ns (w .1) in
+      let count : used-in s ≡ length ms = sym (facts .count) ∙ sym (level-length r p i j ns (shaped-trees (facts .shaped)) did low high) in
+      turned-numbers r p i j (place-used s h r p i j t) (w .1)
+      ∙ ap (λ u. options-in s ∷ u ∷ (map number-of ms ++ replicate (4096 - length ms) 0)) count
+      ∙ ap (λ o. sheet-of (options-in s) (maybe ns (λ xs. xs) o)) (sym did)
 
 pub live-short : (l : List ℕ) → length (live l) ≤ length l
 unfolding characters pick
@@ -122,6 +138,10 @@ module _ (s : List ℕ) (h : is-sheet s ≡ true) (r p i j : ℕ) (t : is-some (
         ap (λ xs. set new 1 (length (live xs))) (lent-part 2 new)
         ∙ ap (λ xs. set xs 1 (length (live (drop 2 xs)))) back
         ∙ turned-sheet s h r p i j t
+
+    -- Where the step keeps the number of nodes it is that as it is.
+    pub back-level : 9 ≤ r → r ≤ 12 → putMid (2 + p) (length s - (2 + p)) s ys ≡ stepped s r p i j
+    back-level low up = back ∙ turned-level s h r p i j t low up
 
 -- The answers of a step, in the order of its tests.
 module _ (s : List ℕ) (r p i j : ℕ) where

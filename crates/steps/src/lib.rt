@@ -46,7 +46,7 @@ pub fn turn(part: &mut [u16], rule: usize, i: usize, j: usize)
         1..=8 => simplify::turn(part, rule, i, j),
         9..=10 => spread::turn(part, rule, i, j),
         11..=13 => lift::turn(part, rule, i, j),
-        _ => factor::turn(part, i, j),
+        _ => regroup::turn(part, i, j),
     }
 }
 
@@ -68,7 +68,8 @@ fn applies(part: &[u16], rule: usize, i: u64, j: u64) -> bool
     asks(part, rule, child, j as usize, at)
 }
 
-// The step on a sheet on which it applies: from its place on the numbers are rewritten, and the used count follows.
+// The step on a sheet on which it applies: from its place on the numbers are rewritten, and the used count follows, but for rules 9
+// to 12, which keep the number of nodes.
 pub fn apply(sheet: &mut [u16], rule: usize, place: usize, i: usize, j: usize)
     requires { ⌜ «is-sheet» (now sheet) ≡ true ⌝ }
     requires { ⌜ «is-some» (M.step rule place i j («nodes-in» (now sheet))) ≡ true ⌝ }
@@ -76,6 +77,9 @@ pub fn apply(sheet: &mut [u16], rule: usize, place: usize, i: usize, j: usize)
 {
     let from = 2 + place;
     turn(&mut sheet[from..], rule, i, j);
+    if 9 <= rule && rule <= 12 {
+        return;
+    }
     sheet[1] = shifts::live_count(&sheet[2..]) as u16;
 }
 

@@ -1,14 +1,13 @@
 -- The refusals of a book in the order in which a program tests for them.
-use mathlib.Core.Bool.{Bool, true, false, not}
+use mathlib.Core.Bool.{true, false, not}
 use mathlib.Core.List.{List}
-use mathlib.Core.Option.{Option, none, some}
-use mathlib.Core.Path.{_≡_, refl}
+use mathlib.Core.Option.{Option, some}
+use mathlib.Core.Path.{_≡_}
 use Prim.Native.Nat.{ℕ, _+_, _*_, _≤_}
 use lib.Dec.{eqb, leb, ltb}
 use lib.ListN.{length}
 use Rattle.model.specs.Base.{all, only-if, first-of}
 use Rattle.model.specs.Code.{weight}
-use Rattle.model.specs.Limits.{usual}
 use Rattle.model.specs.Book.{word, options-of, size-of, head-in-limits, length-due, codes-of, codes-ok, contents-of, in-line, bodies-of, body-ok, book-nodes}
 use Rattle.model.specs.Calls.{Refusal, length-refused, head-refused, code-refused, contents-refused, body-refused, weight-refused, book-refusal}
 

@@ -1,25 +1,23 @@
 -- The stretch of a sheet that a step rewrites: the forest that it spells, and what is known of it.
-use mathlib.Core.Bool.{Bool, true, false, _&&_}
-use mathlib.Core.List.{List, [], _∷_, _++_, map, map-append, append-assoc}
-use mathlib.Core.Option.{Option, none, some}
-use mathlib.Core.Path.{_≡_, refl, sym, ap, ap₂, subst, _∙_}
-use Prim.Native.Nat.{ℕ, zero, suc, _+_, _-_, _≤_, _<_}
+use mathlib.Core.Bool.{Bool, true}
+use mathlib.Core.List.{List, [], _∷_, _++_, map}
+use mathlib.Core.Path.{_≡_, refl, sym, ap, ap₂, _∙_}
+use Prim.Native.Nat.{ℕ, zero, suc, _+_, _-_, _≤_}
 use native.Mathlib.Omega.{arith}
 use borrow.Author.Tests.{ne-eqb}
-use lib.Dec.{eqb}
-use lib.ListN.{length, getD, take, drop, replicate, length-append, length-map, length-replicate, length-drop, take-append-drop}
+use lib.ListN.{length, drop, replicate, length-map, length-drop, take-append-drop}
 use lib.Seq.{drop-drop, drop-append-le}
 use Rattle.model.specs.Base.{pick, all}
-use Rattle.model.specs.Literal.{Literal, pos, neg}
-use Rattle.model.specs.Forest.{Conn, and, or, root, Forest}
+use Rattle.model.specs.Literal.{pos, neg}
+use Rattle.model.specs.Forest.{and, or, root, Forest}
 use Rattle.model.specs.Code.{Node, leaf, head, encode, decode, literals, weight, number, conn-kind, number-of, node-of}
 use Rattle.model.specs.Book.{characters}
-use Rattle.model.specs.Sheet.{options-in, used-in, numbers-in, nodes-in, rest-in, is-sheet, sheet-of}
+use Rattle.model.specs.Sheet.{used-in, numbers-in, nodes-in, rest-in, is-sheet}
 use Rattle.theory.specs.Logic.{and-split, and-join}
 use Rattle.theory.specs.Codes.{decode-encode, encode-decode, trees-drop}
 use Rattle.theory.specs.Numbers.{fits, fits-node, node-number}
 use Rattle.theory.specs.Lists.{map-back, map-drop}
-use Rattle.theory.specs.Shape.{Shaped, shaped-trees}
+use Rattle.theory.specs.Shape.{shaped-trees}
 use Rattle.theory.specs.Sheets.{Sheet-facts, sheet-facts}
 use Rattle.theory.specs.Flat.{spell, Fits}
 

@@ -1,51 +1,27 @@
 -- The zone of a step, family by family.
 use mathlib.Core.Bool.{true}
-use mathlib.Core.List.{List, []}
-use mathlib.Core.Logic.{⊎-elim}
+use mathlib.Core.List.{List}
 use mathlib.Core.Option.{some}
 use mathlib.Core.Path.{_≡_, refl, sym, ap, subst, _∙_}
 use Prim.Native.Nat.{ℕ, suc, _+_, _-_, _≤_, _<_}
 use native.Mathlib.Omega.{arith}
-use borrow.Author.Tests.{le-leb, lt-leb, leb-true, leb-false}
-use lib.Dec.{leb}
 use lib.ListN.{length, drop}
-use Rattle.model.specs.Base.{pick, is-some, maybe, then}
+use Rattle.model.specs.Base.{pick, is-some, maybe}
 use Rattle.model.specs.Literal.{Literal}
-use Rattle.model.specs.Forest.{and, Forest, node, lit, size, first, after, kids, _⊕_, conjunction-at, literal-at}
-use Rattle.model.specs.Code.{Node, encode, decode, trees}
-use Rattle.model.specs.Rules.{Family, absorbs, omits, unwraps, spreads, lifts, merges, factors, change, lift, step}
-use Rattle.theory.specs.Logic.{either, is-some-of, then-some}
+use Rattle.model.specs.Forest.{and, Forest, node, lit, size, after, kids, _⊕_, conjunction-at, literal-at}
+use Rattle.model.specs.Code.{Node, decode, trees}
+use Rattle.model.specs.Rules.{lifts, factors, change, lift, step}
+use Rattle.theory.specs.Logic.{is-some-of, then-some}
 use Rattle.theory.specs.Forests.{conjunction-here, literal-here, size-after}
 use Rattle.theory.specs.Codes.{size-length, decode-encode}
 use Rattle.theory.specs.Bounds.{step-within}
 use Rattle.theory.specs.Turns.{family-at}
-use Rattle.locality.specs.Zones.{Zone, between, zone, tree-length, tree-end, child-place}
+use Rattle.locality.specs.Zones.{between, zone, tree-length, tree-end, child-place}
 use Rattle.locality.specs.Places.{read-here, length-here, child-here}
 use Rattle.locality.specs.Turned.{Turned, turned, old-here}
 use Rattle.locality.specs.Locality.{its-zone, step-extent, step-after}
+use Rattle.locality.specs.Families.{family-1, family-4, family-7, family-9, family-11}
 use Rattle.zones.specs.Zoned.{after-step, Zoned}
-
--- The family of each range of rules.
-family-1 : (r : ℕ) → r ≤ 3 → family-at r ≡ absorbs
-unfolding family-at pick
-family-1 r b = rw (le-leb r 3 b)
-
-family-4 : (r : ℕ) → 4 ≤ r → r ≤ 6 → family-at r ≡ omits
-unfolding family-at pick
-family-4 r a b = rw (lt-leb r 3 (omega arith), le-leb r 6 b)
-
-family-7 : (r : ℕ) → 7 ≤ r → r ≤ 8 → family-at r ≡ unwraps
-unfolding family-at pick
-family-7 r a b = rw (lt-leb r 3 (omega arith), lt-leb r 6 (omega arith), le-leb r 8 b)
-
-family-9 : (r : ℕ) → 9 ≤ r → r ≤ 10 → family-at r ≡ spreads
-unfolding family-at pick
-family-9 r a b = rw (lt-leb r 3 (omega arith), lt-leb r 6 (omega arith), lt-leb r 8 (omega arith), le-leb r 10 b)
-
-family-11 : (r : ℕ) → 11 ≤ r → r ≤ 12 → family-at r ≡ lifts
-unfolding family-at pick
-family-11 r a b =
-    rw (lt-leb r 3 (omega arith), lt-leb r 6 (omega arith), lt-leb r 8 (omega arith), lt-leb r 10 (omega arith), le-leb r 12 b)
 
 lit-size : (l : Literal) (f : Forest) → 1 ≤ size (lit l f)
 unfolding size
@@ -61,6 +37,7 @@ module _ (r p i j : ℕ) (ns : List Node) {t : ℕ} (h : trees ns ≡ some t) (f
 
   -- A zone that is the step's own, and not longer after it.
   pub zoned : {from old new : ℕ} → zone (family-at r) p i j ns (after-step r p i j ns) ≡ between from old new → new ≤ old → (9 ≤ r → r ≤ 12 → old ≡ new) → Zoned r p i j ns from old new
+  unfolding zone
   zoned {from} {old} {new} e le level =
       let x = step-extent r p i j ns h did in
       let f : its-zone r p i j ns h did .from ≡ from = ap (λ z. z .from) e in
@@ -76,6 +53,7 @@ module _ (r p i j : ℕ) (ns : List Node) {t : ℕ} (h : trees ns ≡ some t) (f
         after = λ q l m. let sum : its-zone r p i j ns h did .old + (q - its-zone r p i j ns h did .new) ≡ q + (old - new) = omega arith in
             (step-after r p i j ns h did q (omega arith) ∙ ap (λ k. drop k ns) sum, omega (arith, x .moved-by));
         level = level;
+        spread = λ low top. let s = sym e ∙ ap (λ k. zone k p i j ns ms) (family-9 r low top) in (ap (λ k. k .from) s, ap (λ k. k .new) s);
       }
 
   it : Turned (family-at r) p i j ns (after-step r p i j ns)
@@ -85,7 +63,7 @@ module _ (r p i j : ℕ) (ns : List Node) {t : ℕ} (h : trees ns ≡ some t) (f
   pub child-there : (p < length ns) × (i < size (kids (decode (drop p ns))))
   child-there = let w = step-within r p i j ns did in (w .0, w .1 .child)
 
-  tall : 2 ≤ tree-length p ns
+  pub tall : 2 ≤ tree-length p ns
   unfolding kids
   tall =
       let w = it in
@@ -129,6 +107,7 @@ module _ (r p i j : ℕ) (ns : List Node) {t : ℕ} (h : trees ns ≡ some t) (f
         before = omega (arith, ap (λ z. z .from) its);
         after = λ q l m. absurd (omega arith);
         level = λ x y. refl;
+        spread = λ low top. absurd (omega arith);
       }
 
   -- The inner child of rules 11 and 12 is there.
@@ -143,13 +122,3 @@ module _ (r p i j : ℕ) (ns : List Node) {t : ℕ} (h : trees ns ≡ some t) (f
       let there : decode (drop (child-place p i ns) ns) ≡ after i (w .children) ⊕ w .rest = ap decode (child-here p ns (w .conn) (w .children) (w .rest) (old-here w) i .left) ∙ decode-encode (after i (w .children) ⊕ w .rest) in
       let group : after i (w .children) ⊕ w .rest ≡ node and (c .0) (after (suc i) (w .children) ⊕ w .rest) = ap (λ f. f ⊕ w .rest) (conjunction-here i (w .children) (c .1)) in
       subst (λ f. j < size (kids f)) (sym (there ∙ group)) few
-
-  -- Rules 9 to 12 keep the number of nodes.
-  pub level-length : 9 ≤ r → r ≤ 12 → length (after-step r p i j ns) ≡ length ns
-  unfolding zone
-  level-length a b =
-      let x = step-extent r p i j ns h did in
-      ⊎-elim
-      (λ e. let same = ap (λ y. zone y p i j ns ms) (family-9 r a (leb-true r 10 e)) in omega (arith, x .moved-by, ap (λ z. z .old) same, ap (λ z. z .new) same))
-      (λ e. let same = ap (λ y. zone y p i j ns ms) (family-11 r (leb-false r 10 e) b) in omega (arith, x .moved-by, ap (λ z. z .old) same, ap (λ z. z .new) same))
-      (either (leb r 10))

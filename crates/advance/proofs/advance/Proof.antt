@@ -13,7 +13,7 @@ use Rattle.theory.specs.Logic.{either}
 use Rattle.theory.specs.Places.{used-here}
 use Rattle.theory.specs.Sheets.{sheet-facts}
 use Rattle.zones.proofs.OnSheet.{rules}
-use Rattle.advance.proofs.Bounding.{high-all}
+use Rattle.advance.proofs.Bounding.{high-all, high-ahead}
 use Rattle.advance.proofs.Stepping.{after}
 use Rattle.advance.proofs.advance.Statement.{statement}
 use Rattle.advance.proofs.advance.Tie as tie
@@ -60,7 +60,7 @@ raise-all-requires c κs =
     let b = m .before .before .before .before .before .before .before in
     let e = m .move-on .ensures in
     let to = l1 .lesser .ensures in
-    (named b, ((good m, l2 .lesser2 .ensures .1, omega (arith, to .1, counted w)), ((m .move-on .kept .1 .0 ∙ b .pre .1 .0 .0, e .1 .0), (m .move-on .kept .1 .1 .0 ∙ b .pre .1 .1 .0, (λ q from upto. e .1 .1 .0 .1 q (omega arith) (omega (arith, to .1, counted w))), e .1 .1 .0 .0))))
+    (named b, ((good m, l2 .lesser2 .ensures .1, omega (arith, to .1, counted w)), ((m .move-on .kept .1 .0 ∙ b .pre .1 .0 .0, e .1 .0), (m .move-on .kept .1 .1 .0 ∙ b .pre .1 .1 .0 .0, (λ q from upto. e .1 .1 .0 .1 q (omega arith) (omega (arith, to .1, counted w))), e .1 .1 .0 .0))))
 
 same-length : tie.Need-same-length
 same-length c = search needs
@@ -82,8 +82,9 @@ returns c =
     let e = m .move-on .ensures in
     let f = r .raise-all .ensures in
     let u = m .move-on .last .0 in
-    let high = high-all (used-in u) (m .move-on .result .from) (m .move-on .result .to) (l2 .lesser2 .result) (l1 .lesser .result) (m .move-on .last .1 .1 .0) (r .raise-all .last .1 .1 .0) (b .args .rule) (r .raise-all .result) (l2 .lesser2 .ensures .0) (subst (λ k. (l1 .lesser .result ≡ m .move-on .result .to) ⊎ (l1 .lesser .result ≡ k)) (counted w) (l1 .lesser .ensures .2)) (e .1 .1 .1 .1) (f .1 .1) (f .0 .2) (f .0 .1) in
-    (e .0, (e .1 .0, ((f .1 .0, high), (f .0 .0, omega (arith, f .0 .1, named b .1)))))
+    let high = high-all (used-in u) (m .move-on .result .from) (m .move-on .result .to) (l2 .lesser2 .result) (l1 .lesser .result) (m .move-on .last .1 .1 .0) (r .raise-all .last .1 .1 .0) (b .args .rule) (r .raise-all .result) (l2 .lesser2 .ensures .0) (subst (λ k. (l1 .lesser .result ≡ m .move-on .result .to) ⊎ (l1 .lesser .result ≡ k)) (counted w) (l1 .lesser .ensures .2)) (e .1 .1 .1 .1 .1) (f .1 .1) (f .0 .2) (f .0 .1) in
+    let ahead = high-ahead (m .move-on .result .from) (l2 .lesser2 .result) (m .move-on .last .1 .1 .0) (r .raise-all .last .1 .1 .0) (b .args .rule) (r .raise-all .result) (e .1 .1 .1 .0) (l2 .lesser2 .ensures .0) (f .1 .1) (f .0 .1) in
+    (e .0, (e .1 .0, ((f .1 .0, high), ((f .0 .0, omega (arith, f .0 .1, named b .1)), (omega (arith, l2 .lesser2 .ensures .1, l1 .lesser .ensures .1, counted w), ahead)))))
 
 pub advance-spec : {M : Type 1} → statement M
 advance-spec =

@@ -1,11 +1,9 @@
 -- `books::check_parts` meets its contract: the first test that fails decides, and the tests before it held.
-use mathlib.Core.Path.{_≡_, refl, sym, ap, _∙_}
+use mathlib.Core.Path.{refl, sym, _∙_}
 use native.Mathlib.Omega.{arith}
 use borrow.Author.Needs.{needs}
 use borrow.Author.Tests.{not-true, not-false}
-use borrow.Rule.Slice.PartAt.{part-to-end}
-use lib.ListN.{length-drop, length-take}
-use Rattle.books.proofs.Laws.{by-tests, tests-are, codes-bad, contents-bad, bodies-bad, weight-bad, all-good, few-literals}
+use Rattle.books.proofs.Laws.{tests-are, codes-bad, contents-bad, bodies-bad, weight-bad, all-good, few-literals}
 use Rattle.books.proofs.check_parts.Statement.{statement}
 use Rattle.books.proofs.check_parts.Tie as tie
 

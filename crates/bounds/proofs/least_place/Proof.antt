@@ -4,21 +4,21 @@ use mathlib.Core.Path.{_≡_, sym, ap, _∙_}
 use Prim.Native.Nat.{ℕ, _+_, _-_, _≤_, _<_}
 use native.Mathlib.Omega.{arith}
 use borrow.Author.Needs.{needs}
-use lib.ListN.{length, drop, getD}
+use lib.ListN.{length, drop}
 use Rattle.model.specs.Code.{decode}
 use Rattle.model.specs.Sheet.{nodes-in, used-in}
 use Rattle.model.specs.Strategy.{least-i}
 use Rattle.theory.specs.Places.{sheet-long, used-here}
-use Rattle.search.specs.Meaning.{spotOf, nextOf}
+use Rattle.search.specs.Meaning.{spotOf}
 use Rattle.search.proofs.Laws.{below-more, p-found, p-none}
 use Rattle.search.proofs.Places.{nodes-counted, used-few}
 use Rattle.bounds.specs.Tables.{Bounds, High}
-use Rattle.bounds.proofs.Laws.{high-rises, high-more}
+use Rattle.bounds.proofs.Laws.{high-rises, high-more, high-before}
 use Rattle.bounds.proofs.least_place.Statement.{statement}
 use Rattle.bounds.proofs.least_place.Tie as tie
 
 abbrev Inv-loop : tie.InvT-loop
-Inv-loop sheet sizes low₀ rule used place₀ low place =
+Inv-loop sheet sizes low₀ rule start used place₀ low place =
     (place ≤ used)
     × (length low ≡ 4096)
     × Bounds (nodes-in sheet) low
@@ -27,7 +27,7 @@ Inv-loop sheet sizes low₀ rule used place₀ low place =
     × ((q : ℕ) → q < place → none ≡ least-i rule q (decode (drop q (nodes-in sheet))))
 
 abbrev μ-loop : tie.MeasureT-loop
-μ-loop sheet sizes low₀ rule used place₀ low place = used - place
+μ-loop sheet sizes low₀ rule start used place₀ low place = used - place
 
 counted : (c : tie.After-wide16 Inv-loop μ-loop) → c .wide16 .result ≡ used-in (c .before .before .before .before .before .args .sheet .now)
 counted c = c .wide16 .ensures .0 ∙ sym (used-here (c .before .before .before .before .before .args .sheet .now))
@@ -43,7 +43,10 @@ wide16-requires c κs = search needs
 loop-holds : tie.Need-loop-holds Inv-loop μ-loop
 loop-holds c =
     let b = c .before .before .before .before .before in
-    (omega arith, b .pre .1 .1 .1 .0 .0, b .pre .1 .1 .1 .0 .1, b .pre .1 .1 .1 .1, (λ q from to. absurd (omega arith)), λ q l. absurd (omega arith))
+    let a = b .args in
+    let p = b .pre .1 .1 .1 in
+    let start = p .1 .1 in
+    (omega (arith, counted c, start .0), p .0 .0, p .0 .1, p .1 .0, start .1, high-before (a .rule) (nodes-in (a .sheet .now)) (a .low .now) (a .start) (b .pre .0 .0) (omega (arith, start .0, nodes-counted (a .sheet .now) (b .pre .1 .0))) (p .0 .1) (start .1))
 
 try-at-requires : tie.Need-try-at-requires Inv-loop μ-loop
 try-at-requires c κs =
@@ -71,7 +74,7 @@ returns c =
     let b = v .before .before .before .before .before in
     let a = b .args in
     let e = d .try-at .ensures in
-    (p-found (a .rule) (nodes-in (a .sheet .now)) (n .loop .place) (omega (arith, counted v, nodes-counted (a .sheet .now) (b .pre .1 .0))) (ap (spotOf (a .rule) (n .loop .place)) (sym (c .before .spot .given .1)) ∙ e .0) (n .loop .inv .5), (e .1 .0 .0, high-rises (n .loop .low) (d .try-at .last .1 .1 .0) (e .1 .0 .1) (n .loop .inv .3)))
+    (p-found (a .rule) (nodes-in (a .sheet .now)) (n .loop .place) (omega (arith, counted v, nodes-counted (a .sheet .now) (b .pre .1 .0))) (ap (spotOf (a .rule) (n .loop .place)) (sym (c .before .spot .given .1)) ∙ e .0) (n .loop .inv .5), ((e .1 .0 .0, high-rises (n .loop .low) (d .try-at .last .1 .1 .0) (e .1 .0 .1) (n .loop .inv .3)), high-rises (n .loop .low) (d .try-at .last .1 .1 .0) (e .1 .0 .1) (n .loop .inv .4)))
 
 enum-told : tie.Need-enum-told Inv-loop μ-loop
 enum-told c = search needs
@@ -109,7 +112,7 @@ returns-2 c =
     let b = v .before .before .before .before .before in
     let a = b .args in
     let done : n .loop .place ≡ used-in (a .sheet .now) = omega (arith, counted v) in
-    (p-none (a .rule) (nodes-in (a .sheet .now)) (λ q l. n .loop .inv .5 q (omega (arith, counted v, nodes-counted (a .sheet .now) (b .pre .1 .0)))), (n .loop .inv .2, λ q from to. n .loop .inv .4 q from (omega arith)))
+    (p-none (a .rule) (nodes-in (a .sheet .now)) (λ q l. n .loop .inv .5 q (omega (arith, counted v, nodes-counted (a .sheet .now) (b .pre .1 .0)))), ((n .loop .inv .2, λ q from to. n .loop .inv .4 q from (omega arith)), λ q from to. absurd (omega arith)))
 
 pub least-place-spec : {M : Type 1} → statement M
 least-place-spec =

@@ -1,10 +1,9 @@
 -- `bounds::raise_all` meets its contract. Invariant: the bounds before the present place have come to the floor.
-use mathlib.Core.Path.{_≡_, sym, ap, _∙_}
-use Prim.Native.Nat.{ℕ, _+_, _-_, _≤_, _<_}
+use mathlib.Core.Path.{_≡_, sym, _∙_}
+use Prim.Native.Nat.{_-_, _≤_}
 use native.Mathlib.Omega.{arith}
-use borrow.Author.Needs.{needs}
-use lib.ListN.{length, getD}
-use Rattle.model.specs.Sheet.{nodes-in, used-in}
+use lib.ListN.{length}
+use Rattle.model.specs.Sheet.{nodes-in}
 use Rattle.search.proofs.Places.{used-few}
 use Rattle.bounds.specs.Tables.{Bounds, High, Rises}
 use Rattle.bounds.proofs.Laws.{rises-same, rises-again, high-more, high-rises, high-lower}

@@ -1,6 +1,5 @@
 -- `bounds::try_at` meets its contract: a bound past the rule says that it does not apply, and so does a literal; else the place is searched, and its bound rises where nothing was found.
 use mathlib.Core.Bool.{true}
-use mathlib.Core.Option.{none}
 use mathlib.Core.Path.{_≡_, sym, ap, _∙_}
 use Prim.Native.Nat.{_+_, _<_}
 use native.Mathlib.Omega.{arith}

@@ -1,5 +1,5 @@
 -- `c_calls::done` meets its contract.
-use mathlib.Core.Path.{_≡_, sym, ap, _∙_}
+use mathlib.Core.Path.{sym, ap, _∙_}
 use borrow.Author.Needs.{needs}
 use Rattle.answers.specs.Meaning.{doneOf}
 use Rattle.c_calls.specs.Packed.{packedDone}

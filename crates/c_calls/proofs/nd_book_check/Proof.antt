@@ -1,5 +1,5 @@
 -- `c_calls::nd_book_check` meets its contract: the check's answer as one number.
-use mathlib.Core.Path.{_≡_, ap, _∙_}
+use mathlib.Core.Path.{ap, _∙_}
 use borrow.Author.Needs.{needs}
 use Rattle.c_calls.specs.Packed.{packedDone}
 use Rattle.c_calls.proofs.nd_book_check.Statement.{statement}

@@ -1,5 +1,5 @@
 -- `c_calls::nd_code_lookup` meets its contract: the lookup's answer as one number.
-use mathlib.Core.Path.{_≡_, ap, _∙_}
+use mathlib.Core.Path.{ap, _∙_}
 use borrow.Author.Needs.{needs}
 use Rattle.c_calls.specs.Packed.{packedValue}
 use Rattle.c_calls.proofs.Laws.{lookup-fits}

@@ -1,5 +1,4 @@
 -- `choices::append` meets its contract: the used count and the root's count grow by one, and the literal takes the first zero's place.
-use mathlib.Core.Path.{_≡_, refl, sym, ap, _∙_}
 use native.Mathlib.Omega.{arith}
 use borrow.Author.Needs.{needs}
 use Prim.Native.Nat.{_+_}

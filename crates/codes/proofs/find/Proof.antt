@@ -8,7 +8,7 @@ use native.Mathlib.Omega.{arith}
 use borrow.Author.Needs.{needs}
 use Rattle.model.specs.Base.{pick}
 use Rattle.model.specs.Book.{same-code, characters, option-of-code, pieces}
-use Rattle.codes.specs.Chains.{code-at, codes-from}
+use Rattle.codes.specs.Places.{code-at, codes-from}
 use Rattle.codes.proofs.Laws.{from-first, from-cons, from-next, from-past}
 use Rattle.codes.proofs.find.Statement.{statement}
 use Rattle.codes.proofs.find.Tie as tie

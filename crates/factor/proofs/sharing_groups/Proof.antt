@@ -1,5 +1,5 @@
 -- `factor::sharing_groups` meets its contract. Invariant: the trees passed share, so all do where those left do, and their groups are counted.
-use Prim.Native.Nat.{_+_, _-_, _≤_, _<_}
+use Prim.Native.Nat.{_+_, _≤_, _<_}
 use mathlib.Core.Path.{_≡_, refl, sym, _∙_}
 use native.Mathlib.Omega.{arith}
 use borrow.Author.Needs.{needs}

@@ -1,5 +1,5 @@
 -- `factor::unit_place` meets its contract. Invariant: no tree passed is the literal, so the place is that among the trees left, from the present place on.
-use Prim.Native.Nat.{_+_, _-_, _≤_}
+use Prim.Native.Nat.{_+_, _≤_}
 use mathlib.Core.Path.{_≡_}
 use native.Mathlib.Omega.{arith}
 use borrow.Author.Needs.{needs}

@@ -1,6 +1,5 @@
 -- `heads::is_headed` meets its contract: the two columns of the table, against the kind and the value of the first number.
-use mathlib.Core.Path.{_≡_, sym, ap, _∙_}
-use native.Mathlib.Omega.{arith}
+use mathlib.Core.Path.{sym, ap, _∙_}
 use borrow.Author.Needs.{needs}
 use borrow.Author.Tests.{eq-eqb, ne-eqb}
 use Rattle.model.specs.Code.{kind, value}

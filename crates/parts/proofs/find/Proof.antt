@@ -1,12 +1,10 @@
 -- `parts::find` meets its contract. Invariant: the parts before i are found.
-use mathlib.Core.Bool.{true, false}
 use mathlib.Core.Logic.{_⊎_, inl, inr, ⊎-elim}
 use mathlib.Core.Path.{_≡_, sym, ap, _∙_}
 use Prim.Native.Nat.{ℕ, _+_, _-_, _≤_, _<_}
 use native.Mathlib.Omega.{arith}
 use borrow.Author.Needs.{needs}
 use borrow.Author.Tests.{eqb-true}
-use lib.Dec.{eqb}
 use lib.ListN.{length, getD, length-replicate}
 use Rattle.model.specs.Code.{kind}
 use Rattle.model.specs.Sheet.{used-in}

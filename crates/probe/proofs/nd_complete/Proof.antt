@@ -1,5 +1,5 @@
 -- `probe::nd_complete` meets its contract: the answer as one number.
-use mathlib.Core.Path.{_≡_, sym, ap, _∙_}
+use mathlib.Core.Path.{sym, ap, _∙_}
 use borrow.Author.Needs.{needs}
 use Rattle.model.specs.Base.{pick}
 use Rattle.reports.specs.Meaning.{completedOf}

@@ -1,5 +1,5 @@
 -- `probe::nd_report` meets its contract: the report's answer as one number, and the output.
-use mathlib.Core.Path.{_≡_, sym, ap, _∙_}
+use mathlib.Core.Path.{sym, ap, _∙_}
 use borrow.Author.Needs.{needs}
 use Rattle.model.specs.Base.{pick}
 use Rattle.reports.specs.Meaning.{reportedOf}

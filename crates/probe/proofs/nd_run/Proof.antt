@@ -1,11 +1,10 @@
 -- `probe::nd_run` meets its contract: the run's answer as one number, and the sheet.
 use mathlib.Core.Bool.{true, false}
-use mathlib.Core.Path.{_≡_, sym, ap, _∙_}
-use Prim.Native.Nat.{ℕ, _≤_}
+use mathlib.Core.Path.{sym, ap, _∙_}
+use Prim.Native.Nat.{_≤_}
 use native.Mathlib.Omega.{arith}
 use borrow.Author.Needs.{needs}
 use Rattle.model.specs.Base.{pick}
-use Rattle.model.specs.Calls.{accepted, runOf}
 use Rattle.runs.specs.Meaning.{ranOf}
 use Rattle.probe.specs.Values.{packedRan}
 use Rattle.probe.proofs.Laws.{told, run-fits}

@@ -1,49 +1,41 @@
--- `propagation::learn` meets its contract: the complement fails from now on where it did not and the literal was found.
-use mathlib.Core.Bool.{true}
-use mathlib.Core.Path.{_≡_, refl, sym, _∙_}
+-- `propagation::learn` meets its contract: the complement fails from now on where it did not.
+use mathlib.Core.Path.{refl}
 use Prim.Native.Nat.{_<_}
 use native.Mathlib.Omega.{arith}
 use borrow.Author.Needs.{needs}
-use borrow.Author.Tests.{eq-eqb, ne-eqb, not-true, not-false}
-use lib.ListN.{length, getD}
+use borrow.Author.Tests.{eq-eqb, ne-eqb}
+use lib.ListN.{getD}
 use Rattle.model.specs.Base.{pick}
-use Rattle.propagation.specs.Trails.{opposite, unset, fresh}
+use Rattle.propagation.specs.Trails.{fresh}
 use Rattle.propagation.proofs.Learning.{opposite-below, unset-fewer}
 use Rattle.propagation.proofs.learn.Statement.{statement}
 use Rattle.propagation.proofs.learn.Tie as tie
 
 inside : (c : tie.After-opposite-of) → c .opposite-of .result < 1024
-inside c = rw (c .opposite-of .ensures) (opposite-below 512 (c .before .before .before .before .args .k) (c .before .before .before .before .pre .0))
-
-found : (c : tie.Else1) → c .before .before .before .args .found ≡ true
-found c = not-false (c .before .before .before .args .found) (c .if1 .left)
+inside c = rw (c .opposite-of .ensures) (opposite-below 512 (c .before .before .before .args .k) (c .before .before .before .pre .0))
 
 -- The trail has room.
-room : (c : tie.Else2) → c .before .before .before .before .before .before .args .known < 1024
+room : (c : tie.Else1) → c .before .before .before .before .before .args .known < 1024
 room c =
-    let a = c .before .before .before .before .before .before in
+    let a = c .before .before .before .before .before in
     let o = c .before .before .opposite-of in
-    omega (arith, a .pre .3, unset-fewer (a .args .failed .now) (o .result) (omega (arith, inside (c .before .before), a .pre .1)) (ne-eqb (getD (a .args .failed .now) (o .result) 0) 1 (c .if2 .left)))
-
-returns : tie.Need-returns
-unfolding fresh pick
-returns c = rw (not-true (c .before .before .before .args .found) (c .if1 .taken)) (refl, (refl, refl))
+    omega (arith, a .pre .3, unset-fewer (a .args .failed .now) (o .result) (omega (arith, inside (c .before .before), a .pre .1)) (ne-eqb (getD (a .args .failed .now) (o .result) 0) 1 (c .if1 .left)))
 
 opposite-of-requires : tie.Need-opposite-of-requires
 opposite-of-requires c κs = search needs
 
-slice-read-if2 : tie.Need-slice-read-if2
-slice-read-if2 c = omega (arith, inside (c .before), c .before .before .before .before .before .pre .1)
+slice-read-if1 : tie.Need-slice-read-if1
+slice-read-if1 c = omega (arith, inside (c .before), c .before .before .before .before .pre .1)
 
-returns-2 : tie.Need-returns-2
+returns : tie.Need-returns
 unfolding fresh pick
-returns-2 c =
-    let a = c .before .before .before .before .before .before .args in
+returns c =
+    let a = c .before .before .before .before .before .args in
     let o = c .before .before .opposite-of in
-    rw (found (c .before .before .before), ← o .ensures, eq-eqb (getD (a .failed .now) (o .result) 0) 1 (c .if2 .taken)) (refl, (refl, refl))
+    rw (← o .ensures, eq-eqb (getD (a .failed .now) (o .result) 0) 1 (c .if1 .taken)) (refl, (refl, refl))
 
 slice-write-failed : tie.Need-slice-write-failed
-slice-write-failed c = omega (arith, inside (c .before .before), c .before .before .before .before .before .before .pre .1)
+slice-write-failed c = omega (arith, inside (c .before .before), c .before .before .before .before .before .pre .1)
 
 cast-trail : tie.Need-cast-trail
 cast-trail c = omega (arith, inside (c .before .before))
@@ -52,7 +44,7 @@ mul-trail : tie.Need-mul-trail
 mul-trail c = omega (arith, room c)
 
 slice-write-trail : tie.Need-slice-write-trail
-slice-write-trail c = omega (arith, room c, c .before .before .before .before .before .before .pre .2)
+slice-write-trail c = omega (arith, room c, c .before .before .before .before .before .pre .2)
 
 add-result : tie.Need-add-result
 add-result c = omega (arith, room c)
@@ -63,21 +55,20 @@ same-length c = search needs
 same-length-2 : tie.Need-same-length-2
 same-length-2 c = search needs
 
-returns-3 : tie.Need-returns-3
+returns-2 : tie.Need-returns-2
 unfolding fresh pick
-returns-3 c =
-    let a = c .before .before .before .before .before .before .args in
+returns-2 c =
+    let a = c .before .before .before .before .before .args in
     let o = c .before .before .opposite-of in
-    rw (found (c .before .before .before), ← o .ensures, ne-eqb (getD (a .failed .now) (o .result) 0) 1 (c .if2 .left)) (refl, (refl, refl))
+    rw (← o .ensures, ne-eqb (getD (a .failed .now) (o .result) 0) 1 (c .if1 .left)) (refl, (refl, refl))
 
 pub learn-spec : {M : Type 1} → statement M
 learn-spec =
     tie.close
     (tie.spec
-    returns
     opposite-of-requires
-    slice-read-if2
-    returns-2
+    slice-read-if1
+    returns
     slice-write-failed
     cast-trail
     mul-trail
@@ -85,4 +76,4 @@ learn-spec =
     add-result
     same-length
     same-length-2
-    returns-3)
+    returns-2)

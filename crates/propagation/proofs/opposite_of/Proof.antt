@@ -3,7 +3,7 @@ use Prim.Native.Nat.{_%_}
 use borrow.Author.Needs.{needs}
 use borrow.Author.Tests.{eq-eqb, ne-eqb}
 use Rattle.model.specs.Base.{pick}
-use Rattle.propagation.specs.Trails.{opposite}
+use Rattle.breaking.specs.Breaking.{opposite}
 use Rattle.propagation.proofs.opposite_of.Statement.{statement}
 use Rattle.propagation.proofs.opposite_of.Tie as tie
 

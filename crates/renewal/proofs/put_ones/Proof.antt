@@ -1,9 +1,8 @@
 -- `renewal::put_ones` meets its contract. Invariant: the entries before the present place are 1, and all others are as they were.
-use mathlib.Core.Path.{_≡_, refl, sym, ap, _∙_}
-use Prim.Native.Nat.{ℕ, _+_, _-_, _≤_, _<_}
+use mathlib.Core.Path.{_≡_, refl, _∙_}
+use Prim.Native.Nat.{_-_, _≤_}
 use native.Mathlib.Omega.{arith}
-use borrow.Author.Needs.{needs}
-use lib.ListN.{length, getD, length-set}
+use lib.ListN.{length, length-set}
 use Rattle.renewal.proofs.Laws.{Ones, ones-none, ones-more}
 use Rattle.renewal.proofs.put_ones.Statement.{statement}
 use Rattle.renewal.proofs.put_ones.Tie as tie

@@ -1,6 +1,6 @@
 -- `renewal::renew` meets its contract: entries go, ones are put, and three entries are set.
-use mathlib.Core.Path.{_≡_, sym, ap, subst, _∙_}
-use Prim.Native.Nat.{ℕ, _+_, _-_, _≤_, _<_}
+use mathlib.Core.Path.{_≡_, sym, ap, _∙_}
+use Prim.Native.Nat.{_-_}
 use native.Mathlib.Omega.{arith}
 use borrow.Author.Needs.{needs}
 use lib.ListN.{length, getD, set, length-set}
@@ -13,7 +13,7 @@ whole : (c : tie.After-put-ones) → length (c .put-ones .last .0) ≡ 4096
 whole c =
     let d = c .before .before .before .before in
     let b = d .before .before .before in
-    c .put-ones .kept .0 ∙ d .remove .kept .0 ∙ b .pre .0 .0
+    c .put-ones .kept .0 ∙ d .close-up .kept .0 ∙ b .pre .0 .0
 
 ones : (c : tie.After-put-ones) → let a = c .before .before .before .before .before .before .before .args in Ones (a .from) (a .new) (gone (a .low .now) (a .new) (a .old - a .new)) (c .put-ones .last .0)
 ones c =
@@ -21,15 +21,12 @@ ones c =
     let e = c .put-ones .ensures in
     record {
       ones = e .0;
-      before = λ q l. e .1 .0 q l ∙ ap (λ xs. getD xs q 0) (d .remove .ensures);
-      after = λ q l. e .1 .1 q l ∙ ap (λ xs. getD xs q 0) (d .remove .ensures);
+      before = λ q l. e .1 .0 q l ∙ ap (λ xs. getD xs q 0) (d .close-up .ensures);
+      after = λ q l. e .1 .1 q l ∙ ap (λ xs. getD xs q 0) (d .close-up .ensures);
     }
 
-sub-remove : tie.Need-sub-remove
-sub-remove c = search needs
-
-remove-requires : tie.Need-remove-requires
-remove-requires c κs = search needs
+close-up-requires : tie.Need-close-up-requires
+close-up-requires c κs = search needs
 
 put-ones-requires : tie.Need-put-ones-requires
 put-ones-requires c κs = search needs
@@ -77,8 +74,7 @@ pub renew-spec : {M : Type 1} → statement M
 renew-spec =
     tie.close
     (tie.spec
-    sub-remove
-    remove-requires
+    close-up-requires
     put-ones-requires
     mul-low
     slice-write-low

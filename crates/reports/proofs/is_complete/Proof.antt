@@ -1,12 +1,11 @@
 -- `reports::is_complete` meets its contract: the table has the report once all is known.
-use mathlib.Core.Path.{_≡_, sym, _∙_}
+use mathlib.Core.Path.{sym, _∙_}
 use native.Mathlib.Omega.{arith}
 use borrow.Author.Needs.{needs}
 use borrow.Author.Tests.{not-true, not-false}
 use Rattle.model.specs.Sheet.{options-in}
-use Rattle.model.specs.Calls.{report-in}
 use Rattle.theory.specs.Sheets.{sheet-facts}
-use Rattle.theory.specs.Tables.{report-conflict, report-complete}
+use Rattle.theory.specs.Tables.{report-complete}
 use Rattle.reports.proofs.is_complete.Statement.{statement}
 use Rattle.reports.proofs.is_complete.Tie as tie
 
@@ -16,18 +15,11 @@ slice-aggregate-propagate c = search needs
 propagate-requires : tie.Need-propagate-requires
 propagate-requires c κs = search needs
 
-slice-aggregate-root-fails : tie.Need-slice-aggregate-root-fails
-slice-aggregate-root-fails c = search needs
-
-root-fails-requires : tie.Need-root-fails-requires
-root-fails-requires c κs = search needs
-
 slice-aggregate-all-marked : tie.Need-slice-aggregate-all-marked
 slice-aggregate-all-marked c = search needs
 
 shared-slice-read-wide16 : tie.Need-shared-slice-read-wide16
-shared-slice-read-wide16 c =
-    let k = sheet-facts _ (c .before .before .before .before .before .before .before .before .before .pre) in omega arith
+shared-slice-read-wide16 c = let k = sheet-facts _ (c .before .before .before .before .before .before .before .pre) in omega arith
 
 wide16-requires : tie.Need-wide16-requires
 wide16-requires c κs = search needs
@@ -35,25 +27,21 @@ wide16-requires c κs = search needs
 all-marked-requires : tie.Need-all-marked-requires
 unfolding options-in
 all-marked-requires c κs =
-    let k = sheet-facts _ (c .before .before .before .before .before .before .before .before .before .before .pre) in
-    omega (arith, c .wide16 .ensures, k .options, c .before .before .before .before .before .before .before .propagate .kept .1 .0)
-
--- Whether the sheet is contradictory.
-said : (c : tie.After-root-fails) → c .root-fails .result ≡ report-in (c .before .before .before .before .before .before .args .sheet .now) .contradictory
-said c = c .root-fails .ensures ∙ sym (report-conflict _ _ (c .before .before .before .propagate .ensures))
+    let k = sheet-facts _ (c .before .before .before .before .before .before .before .before .pre) in
+    omega (arith, c .wide16 .ensures, k .options, c .before .before .before .before .before .propagate .kept .1 .0)
 
 returns : tie.Need-returns
 unfolding options-in
 returns c =
-    let n = c .before .before .before .before .before in
-    let quiet = sym (said n) ∙ not-true (n .root-fails .result) (c .before .before .before .before .if1 .taken) in
-    c .all-marked .ensures ∙ rw (c .before .wide16 .ensures .0) (sym (report-complete _ _ (n .before .before .before .propagate .ensures) ∙ rw quiet))
+    let call = c .before .before .before .before .before .before .propagate in
+    let quiet = sym (call .ensures .1) ∙ not-true (call .result) (c .before .before .before .before .if1 .taken) in
+    c .all-marked .ensures ∙ rw (c .before .wide16 .ensures .0) (sym (report-complete _ _ (call .ensures .0) ∙ rw quiet))
 
 returns-2 : tie.Need-returns-2
 returns-2 c =
-    let n = c .before in
-    let loud = sym (said n) ∙ not-false (n .root-fails .result) (c .if1 .left) in
-    c .if1 .left ∙ sym (report-complete _ _ (n .before .before .before .propagate .ensures) ∙ rw loud)
+    let call = c .before .before .propagate in
+    let loud = sym (call .ensures .1) ∙ not-false (call .result) (c .if1 .left) in
+    c .if1 .left ∙ sym (report-complete _ _ (call .ensures .0) ∙ rw loud)
 
 pub is-complete-spec : {M : Type 1} → statement M
 is-complete-spec =
@@ -61,8 +49,6 @@ is-complete-spec =
     (tie.spec
     slice-aggregate-propagate
     propagate-requires
-    slice-aggregate-root-fails
-    root-fails-requires
     slice-aggregate-all-marked
     shared-slice-read-wide16
     wide16-requires

@@ -38,8 +38,11 @@ slice-aggregate-look-at-3 c = search needs
 slice-aggregate-look-at-4 : tie.Need-slice-aggregate-look-at-4
 slice-aggregate-look-at-4 c = search needs
 
+slice-aggregate-look-at-5 : tie.Need-slice-aggregate-look-at-5
+slice-aggregate-look-at-5 c = search needs
+
 look-at-requires : tie.Need-look-at-requires
-look-at-requires c κs = ((search needs, ends-of (c .before .before .before .before .before .before .before .before .before .before .before .before .find .ensures), omega arith, search needs), (search needs, search needs, search needs))
+look-at-requires c κs = ((search needs, ends-of (c .before .before .before .before .before .before .before .before .before .before .before .before .before .find .ensures), omega arith, search needs, search needs), (search needs, search needs, search needs))
 
 slice-aggregate-follow : tie.Need-slice-aggregate-follow
 slice-aggregate-follow c = search needs
@@ -62,8 +65,11 @@ slice-aggregate-follow-6 c = search needs
 slice-aggregate-follow-7 : tie.Need-slice-aggregate-follow-7
 slice-aggregate-follow-7 c = search needs
 
+slice-aggregate-follow-8 : tie.Need-slice-aggregate-follow-8
+slice-aggregate-follow-8 c = search needs
+
 follow-requires : tie.Need-follow-requires
-follow-requires c κs = ((search needs, c .before .before .before .before .before .before .before .before .before .before .before .before .before .before .before .before .before .before .before .before .before .before .before .before .before .before .find .ensures, c .before .before .before .before .before .before .before .before .before .before .before .before .before .before .before .before .before .before .before .before .before .link .ensures, search needs, c .before .before .before .before .before .before .before .before .before .before .before .before .before .look-at .kept .1 .1 .1 .1 .0 ∙ ap length (c .before .before .before .before .before .before .before .before .before .before .before .before .before .before .before .before .before .before .before .before .before .before .before .before .before .before .before .before .before .before .before .pre .1) ∙ length-replicate {A = ℕ} 1024 0, search needs, search needs), c .before .before .before .before .before .before .before .before .before .before .before .before .before .look-at .ensures)
+follow-requires c κs = ((c .before .before .before .before .before .before .before .before .before .before .before .before .before .before .before .before .before .before .before .before .before .before .before .before .before .before .before .before .before .before .before .before .before .before .pre .0, c .before .before .before .before .before .before .before .before .before .before .before .before .before .before .before .before .before .before .before .before .before .before .before .before .before .before .before .before .before .find .ensures, c .before .before .before .before .before .before .before .before .before .before .before .before .before .before .before .before .before .before .before .before .before .before .before .before .link .ensures, search needs, c .before .before .before .before .before .before .before .before .before .before .before .before .before .before .before .look-at .kept .1 .1 .1 .1 .0 ∙ ap length (c .before .before .before .before .before .before .before .before .before .before .before .before .before .before .before .before .before .before .before .before .before .before .before .before .before .before .before .before .before .before .before .before .before .before .pre .1) ∙ length-replicate {A = ℕ} 1024 0, search needs, search needs, search needs), c .before .before .before .before .before .before .before .before .before .before .before .before .before .before .before .look-at .ensures)
 
 same-length : tie.Need-same-length
 same-length c = search needs
@@ -85,6 +91,7 @@ propagate-spec =
     slice-aggregate-look-at-2
     slice-aggregate-look-at-3
     slice-aggregate-look-at-4
+    slice-aggregate-look-at-5
     look-at-requires
     slice-aggregate-follow
     slice-aggregate-follow-2
@@ -93,6 +100,7 @@ propagate-spec =
     slice-aggregate-follow-5
     slice-aggregate-follow-6
     slice-aggregate-follow-7
+    slice-aggregate-follow-8
     follow-requires
     same-length
     returns)

@@ -1,5 +1,5 @@
 -- `runs::ended` meets its contract: the strategy has a step or none.
-use mathlib.Core.Path.{_≡_, sym, ap, _∙_}
+use mathlib.Core.Path.{ap}
 use borrow.Author.Needs.{needs}
 use Rattle.model.specs.Base.{maybe}
 use Rattle.search.specs.Meaning.{nextOf}

@@ -4,7 +4,7 @@ use mathlib.Core.Path.{_≡_, refl, sym, subst, _∙_}
 use native.Mathlib.Omega.{arith}
 use borrow.Author.Needs.{needs}
 use borrow.Author.Tests.{not-true, not-false}
-use lib.ListN.{length, drop, length-drop, replicate}
+use lib.ListN.{length, length-drop}
 use Rattle.lists.proofs.Lent.{lent-part}
 use Rattle.model.specs.Sheet.{is-sheet, nodes-in, used-in}
 use Rattle.theory.specs.Reached.{run-refused}

@@ -1,44 +1,45 @@
--- `runs::run_on` meets its contract. Invariant: the sheet is what so many steps of the strategy leave of the sheet that was lent, the table of sizes is its own, and all bounds are right and have come to the floor.
-use mathlib.Core.Bool.{true}
-use mathlib.Core.Option.{none, some}
+-- `runs::run_on` meets its contract. Invariant: the sheet is what so many steps of the strategy leave of the sheet that was lent,
+-- the table of sizes is its own, and all bounds are right and have come to the floor, those before the cursor past it.
+use mathlib.Core.Option.{some}
 use mathlib.Core.Path.{_≡_, refl, sym, ap, subst, _∙_}
-use Prim.Native.Nat.{ℕ, _+_, _-_, _≤_}
+use Prim.Native.Nat.{_+_, _-_, _≤_}
 use native.Mathlib.Omega.{arith}
 use borrow.Author.Needs.{needs}
 use lib.ListN.{length, drop}
-use Rattle.model.specs.Sheet.{is-sheet, used-in, nodes-in}
+use Rattle.model.specs.Sheet.{used-in, nodes-in}
 use Rattle.model.specs.Strategy.{next, redex}
 use Rattle.theory.specs.Reached.{Reached, reached-start, next-here, reached-more, run-done}
 use Rattle.search.specs.Meaning.{nextOf}
 use Rattle.sizes.specs.Tables.{Sized}
 use Rattle.bounds.specs.Tables.{Bounds, High}
-use Rattle.bounds.specs.Floors.{ruleOf}
+use Rattle.bounds.specs.Floors.{ruleOf, placeOf}
 use Rattle.steps.specs.Results.{stepped}
 use Rattle.runs.proofs.Laws.{run-ended}
 use Rattle.runs.proofs.run_on.Statement.{statement}
 use Rattle.runs.proofs.run_on.Tie as tie
 
 abbrev Inv-loop : tie.InvT-loop
-Inv-loop sheet₀ sizes₀ low₀ budget floor₀ count₀ sheet sizes low floor count =
+Inv-loop sheet₀ sizes₀ low₀ budget floor₀ cursor₀ count₀ sheet sizes low floor cursor count =
     (count ≤ budget)
     × ((length sheet ≡ length sheet₀) × (length sizes ≡ 4096) × (length low ≡ 4096))
     × Reached sheet₀ count sheet
     × Sized 0 (drop 2 sheet) sizes
     × Bounds (nodes-in sheet) low
     × ((1 ≤ floor) × (floor ≤ 15) × High floor 0 (used-in sheet) low)
+    × ((cursor ≤ used-in sheet) × High (floor + 1) 0 cursor low)
 
 abbrev μ-loop : tie.MeasureT-loop
-μ-loop sheet₀ sizes₀ low₀ budget floor₀ count₀ sheet sizes low floor count = budget - count
+μ-loop sheet₀ sizes₀ low₀ budget floor₀ cursor₀ count₀ sheet sizes low floor cursor count = budget - count
 
 loop-holds : tie.Need-loop-holds Inv-loop μ-loop
 loop-holds c =
     let b = c .before .before .before in
-    (omega arith, (refl, b .pre .1 .0 .0, b .pre .1 .1 .0), reached-start (b .args .sheet .now) (b .pre .0), b .pre .1 .0 .1, b .pre .1 .1 .1, (omega arith, omega arith, b .pre .1 .1 .2))
+    (omega arith, (refl, b .pre .1 .0 .0, b .pre .1 .1 .0), reached-start (b .args .sheet .now) (b .pre .0), b .pre .1 .0 .1, b .pre .1 .1 .1, (omega arith, omega arith, b .pre .1 .1 .2), (omega arith, λ q from to. absurd (omega arith)))
 
 next-redex-requires : tie.Need-next-redex-requires Inv-loop μ-loop
 next-redex-requires c κs =
     let i = c .before .before .before .before .loop .inv in
-    ((i .5 .0, i .5 .1), (i .2 .sheet, ((i .1 .1, i .3), ((i .1 .2, i .4), i .5 .2))))
+    ((i .5 .0, i .5 .1), (i .2 .sheet, ((i .1 .1, i .3), ((i .1 .2, i .4), (i .5 .2, i .6)))))
 
 enum-known-next : tie.Need-enum-known-next Inv-loop μ-loop
 enum-known-next c = search needs
@@ -73,10 +74,12 @@ advance-requires c κs =
     let i = d .before .before .before .before .before .loop .inv in
     let e = d .next-redex .ensures .1 in
     let sheet = d .before .before .before .before .before .loop .sheet in
-    ((i .2 .sheet, next-here (i .2) (found k)), ((i .1 .1, i .3), (d .next-redex .kept .1 .1 .0 ∙ i .1 .2, e .0, subst (λ f. High (ruleOf f) 0 (used-in sheet) (d .next-redex .last .1 .1 .0)) (k .before .next .given .1) (e .1))))
+    let told = k .before .next .given .1 in
+    let low = d .next-redex .last .1 .1 .0 in
+    ((i .2 .sheet, next-here (i .2) (found k)), ((i .1 .1, i .3), ((d .next-redex .kept .1 .1 .0 ∙ i .1 .2, e .0 .0, subst (λ f. High (ruleOf f) 0 (used-in sheet) low) told (e .0 .1)), subst (λ f. High (ruleOf f + 1) 0 (placeOf f) low) told (e .1))))
 
 add-count : tie.Need-add-count Inv-loop μ-loop
-add-count c = omega arith
+add-count c = omega (arith, c .before .before .before .before .before .before .before .before .before .before .before .before .before .before .before .before .before .before .before .before .before .before .before .before .fits .budget .fits)
 
 loop-less : tie.Need-loop-less Inv-loop μ-loop
 loop-less c = omega arith
@@ -90,12 +93,12 @@ loop-again c =
     let n = d .before .before .before .before .before in
     let i = n .loop .inv in
     let e = a .advance .ensures in
-    (omega arith, (a .advance .kept .0 ∙ i .1 .0, a .advance .kept .1 .0 ∙ i .1 .1, a .advance .kept .1 .1 .0 ∙ (d .next-redex .kept .1 .1 .0 ∙ i .1 .2)), subst (Reached _ (n .loop .count + 1)) (sym (e .0)) (reached-more (i .2) (found k)), e .1 .0, e .1 .1 .0 .0, (e .1 .1 .1 .0, e .1 .1 .1 .1, e .1 .1 .0 .1))
+    (omega arith, (a .advance .kept .0 ∙ i .1 .0, a .advance .kept .1 .0 ∙ i .1 .1, a .advance .kept .1 .1 .0 ∙ (d .next-redex .kept .1 .1 .0 ∙ i .1 .2)), subst (Reached _ (n .loop .count + 1)) (sym (e .0)) (reached-more (i .2) (found k)), e .1 .0, e .1 .1 .0 .0, (e .1 .1 .1 .0 .0, e .1 .1 .1 .0 .1, e .1 .1 .0 .1), e .1 .1 .1 .1)
 
 next-redex-requires-2 : tie.Need-next-redex-requires-2 Inv-loop μ-loop
 next-redex-requires-2 c κs =
     let i = c .before .before .before .before .loop .inv in
-    ((i .5 .0, i .5 .1), (i .2 .sheet, ((i .1 .1, i .3), ((i .1 .2, i .4), i .5 .2))))
+    ((i .5 .0, i .5 .1), (i .2 .sheet, ((i .1 .1, i .3), ((i .1 .2, i .4), (i .5 .2, i .6)))))
 
 ended-requires : tie.Need-ended-requires Inv-loop μ-loop
 ended-requires c κs = search needs

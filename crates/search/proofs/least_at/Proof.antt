@@ -1,5 +1,5 @@
 -- `search::least_at` meets its contract: the sheet and the table are lent from the place on.
-use mathlib.Core.Path.{_≡_, sym, ap, _∙_}
+use mathlib.Core.Path.{ap, _∙_}
 use native.Mathlib.Omega.{arith}
 use borrow.Author.Needs.{needs}
 use Rattle.model.specs.Strategy.{least-i}

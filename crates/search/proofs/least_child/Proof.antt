@@ -1,163 +1,87 @@
--- `search::least_child` meets its contract. Invariant: child i begins at the present place, and no child before it gives a step.
-use mathlib.Core.Option.{none}
-use mathlib.Core.Path.{_≡_, sym, ap, subst, _∙_}
-use Prim.Native.Nat.{ℕ, _+_, _-_, _≤_, _<_}
+-- `search::least_child` meets its contract: the head is right for the rule, or the rule does not apply.
+use mathlib.Core.Path.{_≡_, sym, ap, _∙_}
 use native.Mathlib.Omega.{arith}
 use borrow.Author.Needs.{needs}
 use borrow.Author.Tests.{not-true, not-false}
-use lib.ListN.{length, getD, drop}
+use lib.ListN.{getD}
 use Rattle.model.specs.Code.{value}
-use Rattle.model.specs.Forest.{size, kids}
-use Rattle.model.specs.Strategy.{least-j}
-use Rattle.theory.specs.Spans.{child-at, span}
 use Rattle.theory.specs.Stretches.{forest-in}
 use Rattle.theory.specs.Heads.{Headed}
-use Rattle.theory.specs.Children.{headed-group, group-few}
 use Rattle.heads.proofs.Laws.{head-right, head-wrong}
-use Rattle.sizes.proofs.Laws.{span-one, child-next}
-use Rattle.search.proofs.Laws.{below-more, i-found, i-none, i-never}
-use Rattle.search.proofs.Children.{child-first, child-inside, children-counted}
-use Rattle.search.specs.Meaning.{spotOf}
+use Rattle.search.proofs.Laws.{i-never}
+use Rattle.search.proofs.Firsts.{first-found, first-none}
 use Rattle.search.proofs.least_child.Statement.{statement}
 use Rattle.search.proofs.least_child.Tie as tie
 
-abbrev Inv-loop : tie.InvT-loop
-Inv-loop part sizes rule k i₀ at₀ i at =
-    (i ≤ k) × (at ≡ child-at i part) × ((q : ℕ) → q < i → (p : ℕ) → none ≡ least-j rule p q (forest-in part))
-
-abbrev μ-loop : tie.MeasureT-loop
-μ-loop part sizes rule k i₀ at₀ i at = k - i
-
 -- Past the test the head is right for the rule.
-right : (c : tie.Else1 Inv-loop μ-loop) → let a = c .before .before .before .before .args in Headed (a .rule) (a .part .now)
+right : (c : tie.Else1) → let a = c .before .before .before .before .args in Headed (a .rule) (a .part .now)
 right c =
     let b = c .before .before .before .before in
     head-right (b .args .rule) (b .pre .0 .0) (b .pre .0 .1) (b .pre .1 .0) (sym (c .before .is-headed .ensures) ∙ not-false (c .before .is-headed .result) (c .if1 .left))
 
-counted : (c : tie.After-value-of Inv-loop μ-loop) → let a = c .before .before .before .before .before .before .before .args in c .value-of .result ≡ value (getD (a .part .now) 0 0)
-counted c = c .value-of .ensures ∙ ap value (c .before .wide16 .ensures .0)
-
-is-headed-requires : tie.Need-is-headed-requires Inv-loop μ-loop
+is-headed-requires : tie.Need-is-headed-requires
 is-headed-requires c κs = search needs
 
-returns : tie.Need-returns Inv-loop μ-loop
+returns : tie.Need-returns
 returns c =
     let b = c .before .before .before .before in
     λ p. i-never (b .args .rule) p (forest-in (b .args .part .now)) (head-wrong (b .args .rule) (b .pre .0 .0) (b .pre .0 .1) (b .pre .1 .0) (sym (c .before .is-headed .ensures) ∙ not-true (c .before .is-headed .result) (c .if1 .taken)))
 
-shared-slice-read-wide16 : tie.Need-shared-slice-read-wide16 Inv-loop μ-loop
-shared-slice-read-wide16 c = let b = c .before .before .before .before .before in b .pre .0 .2
+least-inside-requires : tie.Need-least-inside-requires
+least-inside-requires c κs =
+    let e = c .before in
+    let b = e .before .before .before .before in
+    ((c .if2 .taken, b .pre .0 .1), (b .pre .1 .0, (right e, b .pre .1 .1)))
 
-wide16-requires : tie.Need-wide16-requires Inv-loop μ-loop
+returns-2 : tie.Need-returns-2
+returns-2 c = c .least-inside .ensures
+
+first-beside-requires : tie.Need-first-beside-requires
+first-beside-requires c κs =
+    let e = c .before in
+    let b = e .before .before .before .before in
+    ((b .pre .0 .0, omega arith), (b .pre .1 .0, (right e, b .pre .1 .1)))
+
+shared-slice-read-wide16 : tie.Need-shared-slice-read-wide16
+shared-slice-read-wide16 c = c .before .before .before .before .before .before .before .pre .0 .2
+
+wide16-requires : tie.Need-wide16-requires
 wide16-requires c κs = search needs
 
-value-of-requires : tie.Need-value-of-requires Inv-loop μ-loop
+value-of-requires : tie.Need-value-of-requires
 value-of-requires c κs = search needs
 
-loop-holds : tie.Need-loop-holds Inv-loop μ-loop
-loop-holds c =
-    let a = c .before .before .before .before .before .before .before .args in
-    (omega arith, sym (child-first (a .part .now)), λ q l. absurd (omega arith))
+-- The number of the children.
+counted : (c : tie.After-value-of) → let a = c .before .before .before .before .before .before .before .before .before .args in c .value-of .result ≡ value (getD (a .part .now) 0 0)
+counted c = c .value-of .ensures ∙ ap value (c .before .wide16 .ensures .0)
 
-least-inner-requires : tie.Need-least-inner-requires Inv-loop μ-loop
-least-inner-requires c κs =
-    let n = c .before in
-    let v = n .before in
-    let b = v .before .before .before .before .before .before .before in
-    ((b .pre .0 .0, b .pre .0 .1), (b .pre .1 .0, (right (v .before .before .before), ((omega (arith, counted v), n .loop .inv .1), b .pre .1 .1))))
-
-enum-known-spot : tie.Need-enum-known-spot Inv-loop μ-loop
-enum-known-spot c = search needs
-
-returns-2 : tie.Need-returns-2 Inv-loop μ-loop
-returns-2 c =
-    let d = c .before .before .before in
-    let n = d .before .before in
-    let v = n .before in
-    let b = v .before .before .before .before .before .before .before in
-    let a = b .args in
-    λ p. i-found (a .rule) p (forest-in (a .part .now)) (n .loop .i) (omega (arith, counted v, children-counted (b .pre .1 .0) (right (v .before .before .before)))) (ap (spotOf (a .rule) p) (sym (c .before .spot .given .1)) ∙ d .least-inner .ensures p) (λ q l. n .loop .inv .2 q l p)
-
-enum-told : tie.Need-enum-told Inv-loop μ-loop
-enum-told c = search needs
-
--- Child i begins within the stretch, and one hop leads to the next.
-inside : (c : tie.In-loop Inv-loop μ-loop) → let a = c .before .before .before .before .before .before .before .before .before .args in (c .before .loop .at < length (a .part .now)) × (length (a .part .now) ≤ 4096)
-inside c =
-    let n = c .before in
-    let v = n .before in
-    let b = v .before .before .before .before .before .before .before in
-    child-inside (b .pre .1 .0) (right (v .before .before .before)) (omega (arith, counted v)) (n .loop .inv .1)
-
-hop : (c : tie.After-wide162 Inv-loop μ-loop) → let n = c .before .before .before .before .before .before in let a = n .before .before .before .before .before .before .before .before .args in c .wide162 .result ≡ span 1 (drop (n .loop .at) (a .part .now))
-hop c =
-    let n = c .before .before .before .before .before .before in
-    let b = n .before .before .before .before .before .before .before .before in
-    c .wide162 .ensures .0 ∙ b .pre .1 .1 .1 (n .loop .at) (omega arith) (inside (c .before .before .before .before .before) .0)
-
-mul-wide16 : tie.Need-mul-wide16 Inv-loop μ-loop
-mul-wide16 c = let w = inside (c .before .before .before) in omega arith
-
-shared-slice-read-wide16-2 : tie.Need-shared-slice-read-wide16-2 Inv-loop μ-loop
-shared-slice-read-wide16-2 c =
-    let n = c .before .before .before .before in
-    let b = n .before .before .before .before .before .before .before .before .before in
-    omega (arith, inside n .0, b .pre .1 .1 .0)
-
-wide16-requires-2 : tie.Need-wide16-requires-2 Inv-loop μ-loop
-wide16-requires-2 c κs = search needs
-
-add-at : tie.Need-add-at Inv-loop μ-loop
-add-at c =
-    let n = c .before .before .before .before .before .before in
-    let a = n .before .before .before .before .before .before .before .before .args in
-    let w = inside (c .before .before .before .before .before) in
-    omega (arith, hop c, span-one (n .loop .at) (a .part .now) (w .0) .1)
-
-add-i : tie.Need-add-i Inv-loop μ-loop
-add-i c = omega arith
-
-loop-less : tie.Need-loop-less Inv-loop μ-loop
-loop-less c = omega arith
-
-loop-again : tie.Need-loop-again Inv-loop μ-loop
-loop-again c =
-    let n = c .before .before .before .before .before .before in
-    let a = n .before .before .before .before .before .before .before .before .args in
-    let there = hop c ∙ ap (λ k. span 1 (drop k (a .part .now))) (n .loop .inv .1) in
-    let found = c .before .before .before .before in
-    let nothing : (p : ℕ) → none ≡ least-j (a .rule) p (n .loop .i) (forest-in (a .part .now)) = λ p. ap (spotOf (a .rule) p) (sym (c .before .before .enum-told .given .1)) ∙ found .least-inner .ensures p in
-    (omega arith, omega (arith, n .loop .inv .1, there, child-next (n .loop .i) (a .part .now)), below-more (n .loop .i) (n .loop .inv .2) nothing)
-
-returns-3 : tie.Need-returns-3 Inv-loop μ-loop
+returns-3 : tie.Need-returns-3
 returns-3 c =
-    let n = c .before in
-    let v = n .before in
-    let b = v .before .before .before .before .before .before .before in
-    let a = b .args in
-    λ p. i-none (a .rule) p (forest-in (a .part .now)) (λ q l. n .loop .inv .2 q (omega (arith, counted v, children-counted (b .pre .1 .0) (right (v .before .before .before)))) p)
+    let v = c .before in
+    let f = v .before .before .before in
+    let e = f .before .before in
+    let b = e .before .before .before .before in
+    first-found (b .pre .1 .0) (right e) (omega arith) (f .first-beside .ensures) (omega (arith, counted v))
+
+returns-4 : tie.Need-returns-4
+returns-4 c =
+    let v = c .before in
+    let f = v .before .before .before in
+    let e = f .before .before in
+    let b = e .before .before .before .before in
+    first-none (b .pre .1 .0) (right e) (omega arith) (f .first-beside .ensures) (omega (arith, counted v))
 
 pub least-child-spec : {M : Type 1} → statement M
 least-child-spec =
     tie.close
     (tie.spec
-    Inv-loop
-    μ-loop
     is-headed-requires
     returns
+    least-inside-requires
+    returns-2
+    first-beside-requires
     shared-slice-read-wide16
     wide16-requires
     value-of-requires
-    loop-holds
-    least-inner-requires
-    enum-known-spot
-    returns-2
-    enum-told
-    mul-wide16
-    shared-slice-read-wide16-2
-    wide16-requires-2
-    add-at
-    add-i
-    loop-less
-    loop-again
-    returns-3)
+    returns-3
+    returns-4)

@@ -4,7 +4,6 @@ use mathlib.Core.Path.{_≡_, sym, ap, _∙_}
 use Prim.Native.Nat.{ℕ, _+_, _-_, _≤_, _<_}
 use native.Mathlib.Omega.{arith}
 use borrow.Author.Needs.{needs}
-use borrow.Author.Tests.{not-true, not-false}
 use lib.ListN.{length, getD, drop}
 use Rattle.model.specs.Base.{is-some}
 use Rattle.model.specs.Code.{kind, value}
@@ -14,8 +13,9 @@ use Rattle.theory.specs.Spans.{child-at, span}
 use Rattle.theory.specs.Stretches.{forest-in}
 use Rattle.theory.specs.Children.{counted-child}
 use Rattle.sizes.proofs.Laws.{span-one}
+use Rattle.commons.proofs.Inner.{inner-first, inner-next}
 use Rattle.search.proofs.Laws.{below-more, j-found}
-use Rattle.search.proofs.Inner.{lifts-nothing, inner-room, inner-test, inner-none, inner-first, inner-next}
+use Rattle.search.proofs.Inner.{lifts-nothing, inner-room, inner-test, inner-none}
 use Rattle.search.proofs.least_lifted.Statement.{statement}
 use Rattle.search.proofs.least_lifted.Tie as tie
 

@@ -1,9 +1,8 @@
 -- `sizes::holder` meets its contract. Invariant: no place from the present one on, before the bound, reaches so far.
-use mathlib.Core.Path.{_≡_, sym, ap, subst, _∙_}
 use Prim.Native.Nat.{ℕ, _+_, _-_, _≤_, _<_}
 use native.Mathlib.Omega.{arith}
 use borrow.Author.Needs.{needs}
-use lib.ListN.{length, getD}
+use lib.ListN.{getD}
 use Rattle.sizes.proofs.Laws.{nearest, one-more}
 use Rattle.sizes.proofs.holder.Statement.{statement}
 use Rattle.sizes.proofs.holder.Tie as tie

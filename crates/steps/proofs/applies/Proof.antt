@@ -1,6 +1,5 @@
 -- `steps::applies` meets its contract: the head is tested, child i is looked for among its children, and the rule's family is asked.
 use mathlib.Core.Path.{_≡_, sym, ap, _∙_}
-use Prim.Native.Nat.{_<_}
 use native.Mathlib.Omega.{arith}
 use borrow.Author.Needs.{needs}
 use borrow.Author.Tests.{not-true, not-false}

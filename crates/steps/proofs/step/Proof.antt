@@ -1,5 +1,5 @@
 -- `steps::step` meets its contract: no sheet, no rule, no such place, no step there; and else the step is done.
-use mathlib.Core.Bool.{true, false, _&&_}
+use mathlib.Core.Bool.{true, _&&_}
 use mathlib.Core.Path.{_≡_, sym, _∙_}
 use Prim.Native.Nat.{_+_}
 use native.Mathlib.Omega.{arith}

@@ -1,0 +1,6 @@
+pub mod Among
+pub mod Entries
+pub mod Groups
+pub mod Holding
+pub mod Pushing
+pub mod Tables

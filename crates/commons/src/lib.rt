@@ -1,0 +1,151 @@
+// Rule 14: the first literal of the first conjunction that all conjunctions share.
+ghost use mathlib.Core.Path.{_≡_};
+ghost use Prim.Native.Nat.{_+_, _≤_, _<_};
+ghost use lib.ListN.{length, getD, drop};
+ghost use Rattle.model.specs.Code.{value};
+ghost use Rattle.theory.specs.Spans.{«child-at»};
+ghost use Rattle.theory.specs.Stretches.{Stretch};
+ghost use Rattle.theory.specs.Heads.{Headed};
+ghost use Rattle.sizes.specs.Tables.{Sized};
+ghost use Rattle.factor.specs.Walks.{«group-here»};
+ghost use Rattle.firsts.specs.Firsts.{«First-inner»};
+ghost use Rattle.commons.specs.Held.{Noted, Carried, Filter, Barred};
+
+// A child of a conjunction is noted: a literal that each of the conjunctions before holds is held by one more.
+fn note(held: &mut [u16], x: usize, groups: u16)
+    requires { ⌜ (length (now held) ≡ 8192) × (groups ≤ 4096) ⌝ }
+    ensures { λ r. ⌜ Noted x groups (now (held .entry)) (now (held .exit)) ⌝ }
+{
+    if !nodes::is_literal(x) {
+        return;
+    }
+    let k = x - 4096;
+    if held[k] == groups {
+        held[k] = groups + 1;
+    }
+}
+
+// The tree at a place, after so many conjunctions: the children of a conjunction are noted. The conjunctions with it.
+fn hold(part: &[u16], sizes: &[u16], at: usize, groups: u16, held: &mut [u16]) -> u16
+    requires { ⌜ (at < length (now part)) × (length (now part) ≤ 4096) × (groups ≤ 4096) ⌝ }
+    requires { ⌜ (length (now sizes) ≡ length (now part)) × Sized 0 (now part) (now sizes) ⌝ }
+    requires { ⌜ length (now held) ≡ 8192 ⌝ }
+    ensures { λ r. ⌜ r ≡ groups + «group-here» (getD (now (part .entry)) at 0) ⌝ }
+    ensures { λ r. ⌜ Carried groups r (drop at (now (part .entry))) (now (held .entry)) (now (held .exit)) ⌝ }
+{
+    let head = numbers::wide16(part[at]);
+    if nodes::is_literal(head) {
+        return groups;
+    }
+    let mut left = nodes::value_of(head);
+    let mut from = at + 1;
+    while 0 < left && from < part.len() {
+        note(held, numbers::wide16(part[from]), groups);
+        from += numbers::wide16(sizes[from]);
+        left -= 1;
+    }
+    groups + 1
+}
+
+// The children of the first tree, one after the other; how many conjunctions there are, or 0 where some child is neither a
+// literal nor a conjunction, so that no literal is shared.
+fn hold_all(part: &[u16], sizes: &[u16], held: &mut [u16]) -> u16
+    requires { ⌜ (1 ≤ length (now part)) × (length (now part) ≤ 4096) ⌝ }
+    requires { ⌜ (length (now sizes) ≡ length (now part)) × Sized 0 (now part) (now sizes) ⌝ }
+    requires { ⌜ length (now held) ≡ 8192 ⌝ }
+    ensures { λ r. ⌜ Filter r (now (part .entry)) (now (held .exit)) ⌝ }
+{
+    let mut groups = 0;
+    let mut at = 1;
+    let mut left = nodes::value_of(numbers::wide16(part[0]));
+    while 0 < left && at < part.len() {
+        if 3 < nodes::kind_of(numbers::wide16(part[at])) {
+            return 0;
+        }
+        groups = hold(part, sizes, at, groups, held);
+        at += numbers::wide16(sizes[at]);
+        left -= 1;
+    }
+    groups
+}
+
+// By the table, all conjunctions may share a number.
+fn may_share(held: &[u16], x: usize, groups: u16) -> bool
+    requires { ⌜ length (now held) ≡ 8192 ⌝ }
+    ensures { λ r. ⌜ Barred r x groups (now (held .entry)) ⌝ }
+{
+    nodes::is_literal(x) && groups <= held[x - 4096]
+}
+
+// The first literal with which the rule applies, where only those are tried that the table leaves.
+fn first_sifted(part: &[u16], sizes: &[u16], i: usize, held: &[u16], groups: u16) -> usize
+    requires { ⌜ Stretch (now part) ⌝ }
+    requires { ⌜ Headed 14 (now part) ⌝ }
+    requires { ⌜ (i < value (getD (now part) 0 0)) × (1 + i ≡ «child-at» i (now part)) ⌝ }
+    requires { ⌜ (length (now sizes) ≡ length (now part)) × Sized 0 (now part) (now sizes) ⌝ }
+    requires { ⌜ (length (now held) ≡ 8192) × Filter groups (now part) (now held) ⌝ }
+    ensures { λ r. ⌜ «First-inner» 14 i r (now (part .entry)) ⌝ }
+{
+    let head = numbers::wide16(part[1 + i]);
+    let m = spans::arity_of(head);
+    if groups < 2 || nodes::kind_of(head) != 3 {
+        return m + 1;
+    }
+    let mut j = 0;
+    let mut from = i + 2;
+    while j < m {
+        let x = numbers::wide16(part[from]);
+        if may_share(held, x, groups) && factor::asks(part, i, j, 1 + i) {
+            return j;
+        }
+        from += numbers::wide16(sizes[from]);
+        j += 1;
+    }
+    m + 1
+}
+
+// The same with a table of its own: for each literal, how many conjunctions from the first on hold it.
+fn first_held(part: &[u16], sizes: &[u16], i: usize) -> usize
+    requires { ⌜ Stretch (now part) ⌝ }
+    requires { ⌜ Headed 14 (now part) ⌝ }
+    requires { ⌜ (i < value (getD (now part) 0 0)) × (1 + i ≡ «child-at» i (now part)) ⌝ }
+    requires { ⌜ (length (now sizes) ≡ length (now part)) × Sized 0 (now part) (now sizes) ⌝ }
+    ensures { λ r. ⌜ «First-inner» 14 i r (now (part .entry)) ⌝ }
+{
+    let mut held = [0u16; 8192];
+    let groups = hold_all(part, sizes, &mut held);
+    first_sifted(part, sizes, i, &held, groups)
+}
+
+// The first literal with which the rule applies, where each is tried.
+fn first_tried(part: &[u16], i: usize) -> usize
+    requires { ⌜ Stretch (now part) ⌝ }
+    requires { ⌜ Headed 14 (now part) ⌝ }
+    requires { ⌜ (i < value (getD (now part) 0 0)) × (1 + i ≡ «child-at» i (now part)) ⌝ }
+    ensures { λ r. ⌜ «First-inner» 14 i r (now (part .entry)) ⌝ }
+{
+    let m = spans::arity_of(numbers::wide16(part[1 + i]));
+    let mut j = 0;
+    while j <= m {
+        if factor::asks(part, i, j, 1 + i) {
+            return j;
+        }
+        j += 1;
+    }
+    m + 1
+}
+
+// The first inner child of child i with which the rule applies, where each child before child i is one number; one more than there
+// are where there is none. A table costs more than it saves where the tree is small, or where child i has no children.
+pub fn first_common(part: &[u16], sizes: &[u16], i: usize) -> usize
+    requires { ⌜ Stretch (now part) ⌝ }
+    requires { ⌜ Headed 14 (now part) ⌝ }
+    requires { ⌜ (i < value (getD (now part) 0 0)) × (1 + i ≡ «child-at» i (now part)) ⌝ }
+    requires { ⌜ (length (now sizes) ≡ length (now part)) × Sized 0 (now part) (now sizes) ⌝ }
+    ensures { λ r. ⌜ «First-inner» 14 i r (now (part .entry)) ⌝ }
+{
+    if sizes[0] < 64 || sizes[1 + i] < 2 {
+        return first_tried(part, i);
+    }
+    first_held(part, sizes, i)
+}

@@ -1,0 +1,60 @@
+-- The first tree of a stretch whose head is right for rule 9 or 10: where it ends, and with which children the rule applies.
+use mathlib.Core.List.{List}
+use mathlib.Core.Path.{_≡_, refl, sym, ap, _∙_}
+use Prim.Native.Nat.{ℕ, _≤_, _<_}
+use native.Mathlib.Omega.{arith}
+use lib.ListN.{length, getD, drop}
+use Rattle.model.specs.Base.{is-some}
+use Rattle.model.specs.Code.{value, number-of}
+use Rattle.model.specs.Forest.{size}
+use Rattle.model.specs.Rules.{rewrite}
+use Rattle.theory.specs.Flat.{fits-tree}
+use Rattle.theory.specs.Spans.{child-at, span, arity, arity-head}
+use Rattle.theory.specs.Stretches.{Stretch, forest-in}
+use Rattle.theory.specs.Heads.{Headed}
+use Rattle.theory.specs.Children.{Group, headed-group, group-head, group-value, group-long, child-room}
+use Rattle.sizes.proofs.Laws.{span-tree}
+use Rattle.spread.specs.Assigning.{spreads-from}
+use Rattle.spread.proofs.Laws.{child-inside, asks-around}
+use Rattle.firsts.specs.Firsts.{First-child}
+use Rattle.recurring.specs.Recurring.{Ends, First-again}
+
+module _ {r : ℕ} {l : List ℕ} (s : Stretch l) (h : Headed r l) where
+  group : Group l (h .row .conn) (h .children) (h .rest) (h .zeros)
+  group = headed-group s h
+
+  pub first-number : 0 < length l
+  first-number = group-long group
+
+  -- A tree is its head and then its children, so it ends where they do.
+  head-arity : arity (getD l 0 0) ≡ size (h .children)
+  unfolding number-of
+  head-arity =
+      let c = h .row .conn in
+      ap arity (group-head group) ∙ arity-head c (size (h .children)) (fits-tree c (h .children) (h .rest) (group .fitting) .0)
+
+  module _ {end : ℕ} (tree : end ≡ span 1 (drop 0 l)) where
+    end-place : end ≡ child-at (size (h .children)) l
+    end-place = tree ∙ omega (arith, span-tree 0 l first-number) ∙ ap (λ k. child-at k l) head-arity
+
+    pub tree-ends : Ends end l
+    tree-ends =
+        record {
+          some-head = omega (arith, end-place);
+          within = omega (arith, end-place, child-room group (size (h .children)) (omega arith));
+          short = s .short;
+          children = λ i m. omega (arith, end-place, child-inside group i (omega (arith, group-value group)));
+        }
+
+    -- The rule applies with the children that are literals whose option occurs again.
+    module _ (lo : 9 ≤ r) (hi : r ≤ 10) where
+      applies : (i : ℕ) → i < value (getD l 0 0) → spreads-from (child-at i l) end l ≡ is-some (rewrite r i 0 (forest-in l))
+      applies i m = rw end-place (asks-around s h i 0 lo hi refl (omega (arith, group-value group)))
+
+      pub again-applies : {i : ℕ} → First-again end i l → First-child r i l
+      again-applies {i} w =
+          record {
+            few = w .few;
+            before = λ k m. sym (applies k (omega (arith, w .few))) ∙ w .before k m;
+            there = λ m. sym (applies i m) ∙ w .there m;
+          }

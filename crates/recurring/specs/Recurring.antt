@@ -1,0 +1,43 @@
+-- Literals whose option occurs again in the first tree of a list of numbers, and how often options occur.
+use mathlib.Core.Bool.{Bool, true, false}
+use mathlib.Core.List.{List, [], _∷_}
+use mathlib.Core.Path.{_≡_}
+use Prim.Native.Nat.{ℕ, zero, suc, _≤_, _<_}
+use lib.ListN.{length, getD}
+use lib.Seq.{slice}
+use Rattle.model.specs.Base.{pick}
+use Rattle.model.specs.Code.{value}
+use Rattle.theory.specs.Spans.{child-at}
+use Rattle.spread.specs.Assigning.{names, spreads-from}
+
+-- The first tree of a list of at most 4,096 numbers ends at a place: its children begin before it.
+pub record Ends (end : ℕ) (l : List ℕ) : Type 0 where
+  pub some-head : 1 ≤ end
+  pub within : end ≤ length l
+  pub short : length l ≤ 4096
+  pub children : (i : ℕ) → i < value (getD l 0 0) → child-at i l < end
+
+-- The first child that is a literal whose option occurs again before the end; as many as there are children where there is none.
+pub record First-again (end i : ℕ) (l : List ℕ) : Type 0 where
+  pub few : i ≤ value (getD l 0 0)
+  pub before : (k : ℕ) → k < i → spreads-from (child-at k l) end l ≡ false
+  pub there : i < value (getD l 0 0) → spreads-from (child-at i l) end l ≡ true
+
+-- One more, where nothing past two is told apart.
+unfoldable pub up : ℕ → ℕ
+up zero = 1
+up (suc n) = 2
+
+-- How many numbers pass a test: none, one, or two for all more.
+unfoldable pub tally : (ℕ → Bool) → List ℕ → ℕ
+tally p [] = zero
+tally p (x ∷ xs) = pick (p x) (up (tally p xs)) (tally p xs)
+
+-- A table of how many literals of each option stand from one place up to another.
+pub record Tallied (from to : ℕ) (l t : List ℕ) : Type 0 where
+  pub long : length t ≡ 4096
+  pub counted : (v : ℕ) → v < 4096 → getD t v 0 ≡ tally (names v) (slice from to l)
+
+-- The same between the head and an end, where the table is not empty.
+abbrev pub Tallied-if-any : ℕ → List ℕ → List ℕ → Type 0
+Tallied-if-any end l t = 0 < length t → Tallied 1 end l t

@@ -1,0 +1,80 @@
+// The first child that is a literal whose option occurs again in the tree, for rules 9 and 10.
+ghost use mathlib.Core.Path.{_≡_};
+ghost use Prim.Native.Nat.{_≤_, _<_};
+ghost use lib.ListN.{length, replicate};
+ghost use Rattle.theory.specs.Stretches.{Stretch};
+ghost use Rattle.theory.specs.Heads.{Headed};
+ghost use Rattle.firsts.specs.Firsts.{«First-child»};
+ghost use Rattle.sizes.specs.Tables.{Sized};
+ghost use Rattle.spread.specs.Assigning.{«spreads-from»};
+ghost use Rattle.recurring.specs.Recurring.{Ends, «First-again», Tallied, «Tallied-if-any»};
+
+// How many literals of each option stand between the head and an end: none, one, or two for all more.
+fn count(part: &[u16], end: usize, tally: &mut [u8])
+    requires { ⌜ (1 ≤ end) × (end ≤ length (now part)) × (length (now part) ≤ 4096) × (now tally ≡ replicate 4096 0) ⌝ }
+    ensures { λ r. ⌜ Tallied 1 end (now (part .entry)) (now (tally .exit)) ⌝ }
+{
+    let mut q = end;
+    while 1 < q {
+        q -= 1;
+        let x = numbers::wide16(part[q]);
+        if nodes::is_literal(x) {
+            let option = nodes::value_of(x);
+            if tally[option] < 2 {
+                tally[option] += 1;
+            }
+        }
+    }
+}
+
+// The number at a place is a literal whose option occurs again: by the tally where there is one, and else by a look around it.
+fn recurs(part: &[u16], at: usize, end: usize, tally: &[u8]) -> bool
+    requires { ⌜ (1 ≤ at) × (at < end) × (end ≤ length (now part)) × (length (now part) ≤ 4096) ⌝ }
+    requires { ⌜ «Tallied-if-any» end (now part) (now tally) ⌝ }
+    ensures { λ r. ⌜ r ≡ «spreads-from» at end (now (part .entry)) ⌝ }
+{
+    if tally.len() == 0 {
+        return spread::occurs_around(part, at, end);
+    }
+    let x = numbers::wide16(part[at]);
+    nodes::is_literal(x) && tally[nodes::value_of(x)] == 2
+}
+
+// The first child for which that holds; as many as there are children where there is none.
+fn first_among(part: &[u16], sizes: &[u16], end: usize, tally: &[u8]) -> usize
+    requires { ⌜ Ends end (now part) ⌝ }
+    requires { ⌜ (length (now sizes) ≡ length (now part)) × Sized 0 (now part) (now sizes) ⌝ }
+    requires { ⌜ «Tallied-if-any» end (now part) (now tally) ⌝ }
+    ensures { λ r. ⌜ «First-again» end r (now (part .entry)) ⌝ }
+{
+    let k = nodes::value_of(numbers::wide16(part[0]));
+    let mut i = 0;
+    let mut at = 1;
+    while i < k {
+        if recurs(part, at, end, tally) {
+            return i;
+        }
+        at += numbers::wide16(sizes[at]);
+        i += 1;
+    }
+    k
+}
+
+// The first child with which rule 9 or 10 applies to the first tree of a stretch, whose head is right for it; as many as there
+// are children where there is none. A look around each literal is short in a tree of few numbers; in one of many the literals
+// are counted, once, by their options.
+pub fn first_recurring(part: &[u16], sizes: &[u16], rule: usize) -> usize
+    requires { ⌜ (9 ≤ rule) × (rule ≤ 10) ⌝ }
+    requires { ⌜ Stretch (now part) ⌝ }
+    requires { ⌜ Headed rule (now part) ⌝ }
+    requires { ⌜ (length (now sizes) ≡ length (now part)) × Sized 0 (now part) (now sizes) ⌝ }
+    ensures { λ r. ⌜ «First-child» rule r (now (part .entry)) ⌝ }
+{
+    let end = numbers::wide16(sizes[0]);
+    if end < 24 {
+        return first_among(part, sizes, end, &[]);
+    }
+    let mut tally = [0u8; 4096];
+    count(part, end, &mut tally);
+    first_among(part, sizes, end, &tally)
+}
