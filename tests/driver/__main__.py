@@ -1,8 +1,12 @@
-"""Runs the drivers: on fixed seeds, or (--soak SECONDS) on fresh ones until the time is over."""
+"""Runs the drivers: on fixed seeds, in as many processes as there are processors, or
+(--soak SECONDS) on fresh ones until the time is over."""
 import argparse
+import multiprocessing
+import os
 import random
 import secrets
 import time
+from collections import Counter
 from pathlib import Path
 
 from . import cases, desks, lists, orders, refusals, theories
@@ -14,25 +18,59 @@ LIBRARY, DESK = TOP / "target/probe/libnibdrumlin.so", TOP / "target/bin/desk"
 LISTS, ORDERS, THEORIES, DESKS = 20_000, 300, 150, 2_000
 
 
-def numbered(seed, what, count, work):
-    """work(a generator of its own), `count` times; a difference says which one it was."""
-    for number in range(count):
+def numbered(seed, what, count, work, share=(0, 1)):
+    """work(a generator of its own), `count` times; a difference says which one it was. A share
+    takes the numbers that leave its remainder."""
+    remainder, shares = share
+    for number in range(remainder, count, shares):
         try:
             work(random.Random("%s/%s/%d" % (seed, what, number)))
         except Difference as difference:
             raise Difference("seed %s, %s %d: %s" % (seed, what, number, difference))
 
 
-def fixed(comparing, desk):
-    """What .ci/run compares."""
-    cases.all_of_them(comparing)
-    refusals.all_of_them(comparing, random.Random(1))
-    numbered(1, "list", LISTS, lambda rng: lists.one_list(comparing, rng))
-    numbered(1, "order", ORDERS, lambda rng: orders.one_order(comparing, rng))
-    numbered(1, "theory", THEORIES, lambda rng: theories.one_theory(comparing, rng))
+def fixed(comparing, desk, share):
+    """A share of what .ci/run compares."""
+    if share[0] == 0:
+        cases.all_of_them(comparing)
+        refusals.all_of_them(comparing, random.Random(1))
+        if desk:
+            desks.known_cases(comparing, desk)
+    numbered(1, "list", LISTS, lambda rng: lists.one_list(comparing, rng), share)
+    numbered(1, "order", ORDERS, lambda rng: orders.one_order(comparing, rng), share)
+    numbered(1, "theory", THEORIES, lambda rng: theories.one_theory(comparing, rng), share)
     if desk:
-        desks.known_cases(comparing, desk)
-        numbered(1, "desk", DESKS, lambda rng: desks.one_desk(comparing, desk, rng))
+        numbered(1, "desk", DESKS, lambda rng: desks.one_desk(comparing, desk, rng), share)
+
+
+def tell_share(comparing, desk, share, sender):
+    """A share in a process of its own: what it saw, and what went wrong."""
+    trouble = None
+    try:
+        fixed(comparing, desk, share)
+    except BaseException as error:  # whatever it is, it is told and nothing passes
+        trouble = "%s: %s" % (type(error).__name__, error)
+    sender.send((comparing.seen, trouble))
+
+
+def in_shares(comparing, desk):
+    """All of it, a share a processor; what they saw is counted together."""
+    processes, shares = multiprocessing.get_context("fork"), os.cpu_count() or 1
+    receivers = []
+    for number in range(shares):
+        receiver, sender = processes.Pipe(duplex=False)
+        arguments = (comparing, desk, (number, shares), sender)
+        processes.Process(target=tell_share, args=arguments).start()
+        sender.close()  # so that a process that dies ends what can be received
+        receivers.append(receiver)
+    for receiver in receivers:
+        try:
+            seen, trouble = receiver.recv()
+        except EOFError:
+            seen, trouble = Counter(), "a process ended without a word"
+        comparing.seen += seen
+        if trouble:
+            raise Difference(trouble)
 
 
 def soak(comparing, desk, seconds):
@@ -89,7 +127,7 @@ def main(library=None, arguments=None):
         raise SystemExit("no %s: build it with rt check desk, or say --without-desk" % DESK)
     try:
         if options.soak is None:
-            fixed(comparing, desk)
+            in_shares(comparing, desk)
         else:
             soak(comparing, desk, options.soak)
     except Difference as difference:
