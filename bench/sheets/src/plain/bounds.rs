@@ -1,11 +1,13 @@
 //! The run by bounds. Each place has a bound below which no rule applies there; the search
 //! takes the least bound, tests that rule, and raises the bound where it does not apply. A step
-//! lowers the bounds of its zone, of its place and of the two nodes above, and no others.
+//! lowers the bounds of its zone, of its place and of the two nodes above, and no others; in the
+//! zone of rules 9 and 10 only those of nodes that have a constant among their children.
 
 use super::flat::{fill_sizes, is_sheet, used, Flat, Sizes, MOST};
 use super::least::Tables;
 use super::steps::{apply, Zone};
 use crate::answers::{Ran, Redex};
+use crate::nodes::{FALSE, TRUE};
 
 /// One more than the last rule: no rule applies.
 const NONE: u8 = 15;
@@ -80,26 +82,39 @@ impl Bounds {
             place: redex.place,
             zone,
         };
-        self.lower(&lowered, before);
+        self.lower(used(sheet), redex.rule, &lowered, before);
         self.raise(used(sheet), &lowered);
     }
 
-    /// The sizes after a step. A lift turns the sizes with the nodes, and the all-of that lost
-    /// the literal is one less; after any other rule they are made anew.
+    /// The sizes after a step. Rules 9 and 10 change none. A lift turns the sizes with the
+    /// nodes, and the all-of that lost the literal is one less; after any other rule they are
+    /// made anew.
     fn resize(&mut self, nodes: &[u16], redex: Redex, zone: Zone) {
-        if matches!(redex.rule, 11 | 12) {
-            self.sizes[zone.from..zone.new].rotate_right(1);
-            self.sizes[zone.from + 1] -= 1;
-        } else {
-            fill_sizes(nodes, &mut self.sizes);
+        match redex.rule {
+            9 | 10 => (),
+            11 | 12 => {
+                self.sizes[zone.from..zone.new].rotate_right(1);
+                self.sizes[zone.from + 1] -= 1;
+            }
+            _ => fill_sizes(nodes, &mut self.sizes),
         }
     }
 
     /// The bounds after a step: they move with their nodes, and those lowered are 1.
-    fn lower(&mut self, lowered: &Lowered, before: usize) {
+    fn lower(&mut self, nodes: &[u16], rule: usize, lowered: &Lowered, before: usize) {
         let Zone { from, old, new } = lowered.zone;
-        self.low.copy_within(old..before, new);
-        self.low[from..new].fill(1);
+        if matches!(rule, 9 | 10) {
+            let flat = Flat {
+                nodes,
+                sizes: &self.sizes,
+            };
+            for place in (from..new).filter(|&place| has_constant(flat, place)) {
+                self.low[place] = 1;
+            }
+        } else {
+            self.low.copy_within(old..before, new);
+            self.low[from..new].fill(1);
+        }
         for place in lowered.above.into_iter().flatten().chain([lowered.place]) {
             self.low[place] = 1;
         }
@@ -130,6 +145,12 @@ impl Bounds {
         }
         *low
     }
+}
+
+/// Whether a node has a constant among its children.
+fn has_constant(flat: Flat, place: usize) -> bool {
+    flat.children(place)
+        .any(|child| [TRUE, FALSE].contains(&flat.nodes[child]))
 }
 
 /// A run.
