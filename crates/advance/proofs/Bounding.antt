@@ -3,7 +3,7 @@ use mathlib.Core.Bool.{true, false}
 use mathlib.Core.List.{List}
 use mathlib.Core.Logic.{_⊎_, inl, inr, ⊎-elim}
 use mathlib.Core.Option.{none, some}
-use mathlib.Core.Path.{_≡_, sym, ap, subst, _∙_}
+use mathlib.Core.Path.{_≡_, ap, _∙_}
 use Prim.Native.Nat.{ℕ, _+_, _-_, _≤_, _<_}
 use native.Mathlib.Omega.{arith}
 use borrow.Author.Tests.{eqb-true, eqb-false, ltb-true, ltb-false}
@@ -13,8 +13,7 @@ use Rattle.model.specs.Code.{Node, decode, trees}
 use Rattle.model.specs.Rules.{rewrite, step}
 use Rattle.model.specs.Strategy.{least-i}
 use Rattle.theory.specs.Logic.{either}
-use Rattle.theory.specs.Turns.{family-at}
-use Rattle.locality.specs.Zones.{Quiet, Holds, Twice, zone, tree-end}
+use Rattle.locality.specs.Zones.{Holds, Twice, zone}
 use Rattle.locality.specs.Locality.{step-before}
 use Rattle.locality.specs.Families.{level-length}
 use Rattle.bounds.specs.Tables.{Bounds, High, Rises}

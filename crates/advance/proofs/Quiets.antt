@@ -1,15 +1,9 @@
 -- A rule that the search does not find at a place applies there for no i and j.
-use mathlib.Core.Bool.{true, false}
-use mathlib.Core.List.{List}
-use mathlib.Core.Logic.{_⊎_, inl, inr, ⊎-elim}
-use mathlib.Core.Option.{Option, none, some}
+use mathlib.Core.Option.{none}
 use mathlib.Core.Path.{_≡_, sym, ap, _∙_}
-use Prim.Native.Nat.{ℕ, suc, _≤_, _<_}
-use native.Mathlib.Omega.{arith}
-use lib.ListN.{drop}
+use Prim.Native.Nat.{ℕ, suc}
 use Rattle.model.specs.Base.{is-some, only-if}
 use Rattle.model.specs.Forest.{Forest, size, after, kids}
-use Rattle.model.specs.Code.{Node, decode}
 use Rattle.model.specs.Rules.{rewrite}
 use Rattle.model.specs.Strategy.{redex, least-j, least-i}
 use Rattle.theory.specs.Logic.{none-some, none-if, is-some-none}

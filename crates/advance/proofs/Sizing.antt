@@ -1,9 +1,9 @@
 -- The table of sizes after a step: past all nodes it is still right, and outside the zone where the number of nodes stays.
-use mathlib.Core.Bool.{true, false, _&&_}
+use mathlib.Core.Bool.{true, _&&_}
 use mathlib.Core.List.{List, _++_, map, append-assoc}
 use mathlib.Core.Logic.{_⊎_, inl, inr, ⊎-elim}
 use mathlib.Core.Option.{some}
-use mathlib.Core.Path.{_≡_, refl, sym, ap, subst, _∙_}
+use mathlib.Core.Path.{_≡_, sym, ap, _∙_}
 use Prim.Native.Nat.{ℕ, _+_, _-_, _≤_, _<_}
 use native.Mathlib.Omega.{arith}
 use borrow.Author.Tests.{eqb-true, eqb-false, ltb-true, ltb-false, lt-ltb}
@@ -20,7 +20,7 @@ use Rattle.theory.specs.Spans.{span}
 use Rattle.theory.specs.Shape.{shaped-trees}
 use Rattle.theory.specs.Sheets.{sheet-facts}
 use Rattle.theory.specs.Stretches.{stands}
-use Rattle.locality.specs.Zones.{Holds, tree-length, tree-end}
+use Rattle.locality.specs.Zones.{tree-length, tree-end}
 use Rattle.locality.specs.Families.{level-length}
 use Rattle.locality.specs.Locality.{length-before, length-holding, length-at}
 use Rattle.sizes.specs.Tables.{Sized}

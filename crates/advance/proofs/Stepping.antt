@@ -1,18 +1,17 @@
 -- The sheet after a step, and the places that hold the step's, by the table of sizes.
 use mathlib.Core.Bool.{true, false}
 use mathlib.Core.List.{List}
-use mathlib.Core.Logic.{_⊎_, inl, inr, ⊎-elim}
-use mathlib.Core.Option.{some}
-use mathlib.Core.Path.{_≡_, refl, sym, ap, subst, _∙_}
+use mathlib.Core.Logic.{_⊎_, inl, inr}
+use mathlib.Core.Path.{_≡_, sym, ap, _∙_}
 use Prim.Native.Nat.{ℕ, _+_, _-_, _≤_, _<_}
 use native.Mathlib.Omega.{arith}
 use borrow.Author.Tests.{eqb-true, eqb-false}
 use lib.Dec.{eqb}
 use lib.ListN.{length, getD, drop, length-drop}
-use Rattle.model.specs.Base.{is-some, maybe}
-use Rattle.model.specs.Code.{Node, weight}
+use Rattle.model.specs.Base.{is-some}
+use Rattle.model.specs.Code.{weight}
 use Rattle.model.specs.Rules.{step}
-use Rattle.model.specs.Sheet.{is-sheet, options-in, used-in, nodes-in, sheet-of}
+use Rattle.model.specs.Sheet.{is-sheet, used-in, nodes-in}
 use Rattle.theory.specs.Logic.{either}
 use Rattle.theory.specs.Steps.{done, more, steps-shaped, steps-weight}
 use Rattle.theory.specs.Sheets.{sheet-facts, sheet-shaped, sheet-options, sheet-weight, sheet-made, nodes-made}

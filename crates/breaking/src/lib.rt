@@ -26,8 +26,8 @@ pub struct Top {
     pub end: usize,
 }
 
-// The place of the complement.
-fn opposite_of(place: usize) -> usize
+// The place of the complement of the literal at a place.
+pub fn opposite_of(place: usize) -> usize
     requires { ⌜ place < 1024 ⌝ }
     ensures { λ r. ⌜ r ≡ opposite place ⌝ }
 {

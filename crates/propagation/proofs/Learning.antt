@@ -23,16 +23,9 @@ use Rattle.parts.specs.Parts.{stretch, Part, Occurs}
 use Rattle.parts.proofs.Trees.{same-fails}
 use Rattle.parts.proofs.Tables.{same-or-not}
 use Rattle.parts.proofs.Finding.{stretch-number, stretch-long}
+use Rattle.breaking.proofs.Tables.{opposite-below}
 use Rattle.breaking.specs.Breaking.{opposite}
 use Rattle.propagation.specs.Trails.{unset, fresh, Facts, Grown, Untouched, Quiet, Calm, Settled}
-
-pub opposite-below : (n k : ℕ) → k < 2 * n → opposite k < 2 * n
-unfolding opposite pick
-opposite-below n k h = go (eqb (k % 2) 0) refl
-  where
-    go : (b : Bool) → eqb (k % 2) 0 ≡ b → pick b (k + 1) (k - 1) < 2 * n
-    go true e = omega (arith, eqb-true (k % 2) 0 e)
-    go false e = omega arith
 
 pub opposite-place : (l : Literal) → opposite (place-of l) ≡ place-of (complement l)
 unfolding opposite place-of complement pick
@@ -92,7 +85,7 @@ grown-one t trail n o a b =
 -- A literal that a sheet's failing forces on an earlier table becomes a fact.
 module _ {s t trail : List ℕ} {n : ℕ} (w : Facts s t trail n) {k : ℕ} (small : k < 1024) (new : eqb (getD t (opposite k) 0) 1 ≡ false) where
   far : opposite k < 1024
-  far = opposite-below 512 k small
+  far = opposite-below k small
 
   pub still-room : n < 1024
   still-room = omega (arith, w .room, unset-fewer t (opposite k) (rw (w .long) far) new)
@@ -127,7 +120,7 @@ module _ {s t₀ trail₀ : List ℕ} {n₀ : ℕ} {t trail : List ℕ} {n : ℕ
   learned-new : eqb (getD t (opposite k) 0) 1 ≡ false → Known (set t (opposite k) 1) (set trail n (opposite k)) (n + 1)
   unfolding Known tree-fails nodes-in
   learned-new e =
-      let near : opposite k < length t = rw (w .long) (opposite-below 512 k small) in
+      let near : opposite k < length t = rw (w .long) (opposite-below k small) in
       let space : n < length trail = rw (w .wide) (still-room w small e) in
       let long = v .long in
       (facts-more w small e (λ d l p. forced-derived (decode (nodes-in s)) t₀ l (omega arith) (v .right) (rw p forced) d), grown-one t trail n (opposite k) near space, getD-set-same t (opposite k) 1 0 near)

@@ -13,14 +13,6 @@ ghost use Rattle.breaking.specs.Breaking.{opposite};
 ghost use Rattle.parts.specs.Parts.{Part, Parted, Linked};
 ghost use Rattle.propagation.specs.Trails.{unset, fresh, Facts, Fallen, Lone, Looked, Ends, Watching, Since, Watched, Reached};
 
-// The place of the complement of the literal at a place.
-fn opposite_of(k: usize) -> usize
-    requires { ⌜ k < 1024 ⌝ }
-    ensures { λ r. ⌜ r ≡ opposite k ⌝ }
-{
-    if k % 2 == 0 { k + 1 } else { k - 1 }
-}
-
 // The literal at a place is forced, so it becomes a fact: its complement fails, and joins the trail where it did not fail before.
 // The trail's new length.
 fn learn(k: usize, failed: &mut [u8], trail: &mut [u16], known: usize) -> usize
@@ -29,7 +21,7 @@ fn learn(k: usize, failed: &mut [u8], trail: &mut [u16], known: usize) -> usize
     ensures { λ r. ⌜ now (failed .exit) ≡ pick (fresh (now (failed .entry)) k) (set (now (failed .entry)) (opposite k) 1) (now (failed .entry)) ⌝ }
     ensures { λ r. ⌜ now (trail .exit) ≡ pick (fresh (now (failed .entry)) k) (set (now (trail .entry)) known (opposite k)) (now (trail .entry)) ⌝ }
 {
-    let other = opposite_of(k);
+    let other = breaking::opposite_of(k);
     if failed[other] == 1 {
         return known;
     }

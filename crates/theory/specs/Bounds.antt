@@ -82,7 +82,8 @@ rewrite-within r i j f e =
     let there = change-inside (w .row .family) (w .conn) i j (w .children) (only-then _ (w .children) _ (w .turned) .1) in
     rw (w .was) (record { rule-low = rule .0; rule-high = rule .1; child = there .0; inner = there .1 })
 
-place-within : (p : ℕ) (ns : List Node) {i : ℕ} → i < size (kids (decode (drop p ns))) → p < length ns
+-- A place whose node has a child is one of the nodes.
+pub place-within : (p : ℕ) (ns : List Node) {i : ℕ} → i < size (kids (decode (drop p ns))) → p < length ns
 unfolding size kids decode
 place-within zero [] h = absurd (omega arith)
 place-within (suc p) [] h = absurd (omega arith)

@@ -1,14 +1,15 @@
 -- Places on the numbers of a sheet and on its nodes.
 use mathlib.Core.Bool.{true}
-use mathlib.Core.List.{List, [], _∷_}
-use mathlib.Core.Path.{_≡_, refl, sym, ap, subst, _∙_}
-use Prim.Native.Nat.{ℕ, zero, suc, _+_, _-_, _≤_, _<_}
+use mathlib.Core.List.{List}
+use mathlib.Core.Path.{_≡_, refl, ap, subst, _∙_}
+use Prim.Native.Nat.{ℕ, suc, _+_, _-_, _≤_, _<_}
 use native.Mathlib.Omega.{arith}
-use lib.ListN.{length, getD, drop, length-map, length-drop}
+use lib.ListN.{length, drop, length-map, length-drop}
 use lib.Seq.{drop-drop}
 use Rattle.model.specs.Forest.{Conn, Forest, nil, lit, node, size, kids, first}
-use Rattle.model.specs.Code.{Node, encode, decode, number-of}
+use Rattle.model.specs.Code.{encode, decode, number-of}
 use Rattle.model.specs.Sheet.{is-sheet, used-in, nodes-in}
+use Rattle.theory.specs.Bounds.{place-within}
 use Rattle.theory.specs.Codes.{trees-drop, encode-decode}
 use Rattle.theory.specs.Spans.{span, child-at}
 use Rattle.theory.specs.Flat.{spell, Fits, start-at}
@@ -30,13 +31,6 @@ pub record Here (s : List ℕ) (p i : ℕ) : Type 0 where
   pub inside : p + child-at i (drop (2 + p) s) < 4096
   pub index : i ≤ 4096
 
-place-there : (p : ℕ) (ns : List Node) {i : ℕ} → i < size (kids (decode (drop p ns))) → p < length ns
-unfolding size kids decode
-place-there zero [] h = absurd (omega arith)
-place-there (suc p) [] h = absurd (omega arith)
-place-there zero (x ∷ ns) h = omega arith
-place-there (suc p) (x ∷ ns) h = let l = place-there p ns h in omega arith
-
 -- A stretch whose first tree has children begins with a group.
 grouped : (l : List ℕ) (f : Forest) {i : ℕ} → Stretch l → forest-in l ≡ f → i < size (kids f) → (c : Conn) × (k : Forest) × (g : Forest) × (z : ℕ) × (f ≡ node c k g) × Group l c k g z
 unfolding kids size spell-to
@@ -49,7 +43,7 @@ pub here : (s : List ℕ) → is-sheet s ≡ true → (p i : ℕ) → i < size (
 unfolding Z.child-place kids
 here s h p i lt =
     let facts = sheet-facts s h in
-    let within : p < used-in s = omega (arith, place-there p (nodes-in s) lt, facts .count) in
+    let within : p < used-in s = omega (arith, place-within p (nodes-in s) lt, facts .count) in
     let w = sheet-stretch s p h (omega arith) in
     let l = drop (2 + p) s in
     let g = grouped l (decode (drop p (nodes-in s))) (w .0) (w .1) lt in

@@ -1,15 +1,11 @@
 -- `advance::advance` meets its contract: after the step the bounds that were set back rise again.
 use mathlib.Core.Bool.{true}
-use mathlib.Core.Logic.{_⊎_, inl, inr, ⊎-elim}
-use mathlib.Core.Path.{_≡_, sym, ap, subst, _∙_}
-use Prim.Native.Nat.{ℕ, _+_, _≤_, _<_}
+use mathlib.Core.Logic.{_⊎_}
+use mathlib.Core.Path.{_≡_, sym, subst, _∙_}
+use Prim.Native.Nat.{_≤_}
 use native.Mathlib.Omega.{arith}
 use borrow.Author.Needs.{needs}
-use borrow.Author.Tests.{ltb-true, ltb-false}
-use lib.Dec.{ltb}
-use lib.ListN.{length, getD, drop}
 use Rattle.model.specs.Sheet.{is-sheet, used-in}
-use Rattle.theory.specs.Logic.{either}
 use Rattle.theory.specs.Places.{used-here}
 use Rattle.theory.specs.Sheets.{sheet-facts}
 use Rattle.zones.proofs.OnSheet.{rules}

@@ -1,8 +1,6 @@
 -- `advance::look_ahead` meets its contract: the nearest holder, the nearest before it, and the zone.
-use mathlib.Core.Path.{_≡_, ap, _∙_}
 use Prim.Native.Nat.{_≤_, _<_}
 use native.Mathlib.Omega.{arith}
-use borrow.Author.Needs.{needs}
 use Rattle.model.specs.Sheet.{used-in}
 use Rattle.theory.specs.Sheets.{sheet-facts}
 use Rattle.zones.proofs.OnSheet.{within}

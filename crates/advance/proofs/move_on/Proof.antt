@@ -1,11 +1,11 @@
 -- `advance::move_on` meets its contract: the step is done, the sizes and the bounds follow.
 use mathlib.Core.Bool.{true}
 use mathlib.Core.Logic.{⊎-elim}
-use mathlib.Core.Path.{_≡_, sym, ap, subst, _∙_}
-use Prim.Native.Nat.{ℕ, _+_, _≤_, _<_}
+use mathlib.Core.Path.{_≡_, sym, _∙_}
+use Prim.Native.Nat.{_<_}
 use native.Mathlib.Omega.{arith}
 use borrow.Author.Needs.{needs}
-use lib.ListN.{length, getD, drop}
+use lib.ListN.{length}
 use Rattle.model.specs.Sheet.{is-sheet, used-in}
 use Rattle.theory.specs.Places.{used-here}
 use Rattle.theory.specs.Sheets.{sheet-facts}

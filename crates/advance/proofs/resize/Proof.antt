@@ -1,11 +1,11 @@
 -- `advance::resize` meets its contract: the sizes of all nodes are made anew, or none, or those of the zone.
 use mathlib.Core.Logic.{inl, inr}
-use mathlib.Core.Path.{_≡_, sym, ap, subst, _∙_}
-use Prim.Native.Nat.{ℕ, _≤_, _<_}
+use mathlib.Core.Path.{subst, _∙_}
+use Prim.Native.Nat.{_≤_}
 use native.Mathlib.Omega.{arith}
 use borrow.Author.Needs.{needs}
 use borrow.Author.Tests.{leb-false}
-use lib.ListN.{length, getD, drop, length-drop}
+use lib.ListN.{drop, length-drop}
 use Rattle.lists.proofs.Lent.{lent-part}
 use Rattle.sizes.specs.Tables.{Sized}
 use Rattle.advance.proofs.Sizing.{sized-both}

@@ -7,12 +7,13 @@ use borrow.Author.Tests.{eq-eqb, ne-eqb}
 use lib.ListN.{getD}
 use Rattle.model.specs.Base.{pick}
 use Rattle.propagation.specs.Trails.{fresh}
-use Rattle.propagation.proofs.Learning.{opposite-below, unset-fewer}
+use Rattle.breaking.proofs.Tables.{opposite-below}
+use Rattle.propagation.proofs.Learning.{unset-fewer}
 use Rattle.propagation.proofs.learn.Statement.{statement}
 use Rattle.propagation.proofs.learn.Tie as tie
 
 inside : (c : tie.After-opposite-of) → c .opposite-of .result < 1024
-inside c = rw (c .opposite-of .ensures) (opposite-below 512 (c .before .before .before .args .k) (c .before .before .before .pre .0))
+inside c = rw (c .opposite-of .ensures) (opposite-below (c .before .before .before .args .k) (c .before .before .before .pre .0))
 
 -- The trail has room.
 room : (c : tie.Else1) → c .before .before .before .before .before .args .known < 1024

@@ -1,13 +1,12 @@
 -- `zones::late_zone` meets its contract: the rule's number says which zone it is.
-use mathlib.Core.Path.{_≡_, sym, ap, subst, _∙_}
-use Prim.Native.Nat.{_+_, _<_}
+use mathlib.Core.Path.{sym, subst}
+use Prim.Native.Nat.{_<_}
 use native.Mathlib.Omega.{arith}
 use borrow.Author.Needs.{needs}
 use lib.ListN.{drop}
 use Rattle.model.specs.Forest.{size, kids}
 use Rattle.model.specs.Code.{decode}
 use Rattle.model.specs.Sheet.{nodes-in}
-use Rattle.zones.specs.Zoned.{Zoned}
 use Rattle.zones.proofs.OnSheet.{child, inner-there, zone-9, zone-11, zone-13}
 use Rattle.zones.proofs.late_zone.Statement.{statement}
 use Rattle.zones.proofs.late_zone.Tie as tie

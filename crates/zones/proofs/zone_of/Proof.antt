@@ -1,10 +1,9 @@
 -- `zones::zone_of` meets its contract: the rule's number says which zone it is.
-use mathlib.Core.Path.{_≡_, sym, ap, subst, _∙_}
+use mathlib.Core.Path.{_≡_, ap, _∙_}
 use Prim.Native.Nat.{_+_, _≤_, _<_}
 use native.Mathlib.Omega.{arith}
 use borrow.Author.Needs.{needs}
-use lib.ListN.{length, drop}
-use Rattle.model.specs.Sheet.{is-sheet, used-in, nodes-in}
+use Rattle.model.specs.Sheet.{nodes-in}
 use Rattle.theory.specs.Sheets.{sheet-facts}
 use Rattle.locality.specs.Zones.{tree-end}
 use Rattle.zones.proofs.OnSheet.{within, rules, child, end-by, zone-1, zone-4, zone-7, zone-14}
