@@ -5,10 +5,10 @@ use std::hint::black_box;
 use std::time::Instant;
 
 /// The most samples of a side; odd, so that one of them is the median.
-const SAMPLES: usize = 31;
+const SAMPLES: usize = 301;
 
 /// A side with three samples has enough after so many seconds, any side after so many more.
-const ENOUGH: f64 = 0.2;
+const ENOUGH: f64 = 0.4;
 const PLENTY: f64 = 3.0;
 
 /// Something to be timed: it answers the seconds that it took.
