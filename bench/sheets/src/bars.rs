@@ -1,7 +1,7 @@
 //! The bars that the times have to pass, and the worst case of each.
 
 use crate::rows::Row;
-use crate::tables::{half, time};
+use crate::tables::time;
 
 const FULL: usize = 4096;
 
@@ -10,10 +10,10 @@ struct Bar {
     said: &'static str,
     limit: f64,
     is_time: bool,
-    of: fn(&[Row], &Row) -> Option<f64>,
+    of: fn(&Row) -> Option<f64>,
 }
 
-const fn ratio(said: &'static str, limit: f64, of: fn(&[Row], &Row) -> Option<f64>) -> Bar {
+const fn ratio(said: &'static str, limit: f64, of: fn(&Row) -> Option<f64>) -> Bar {
     Bar {
         said,
         limit,
@@ -22,7 +22,7 @@ const fn ratio(said: &'static str, limit: f64, of: fn(&[Row], &Row) -> Option<f6
     }
 }
 
-const fn seconds(said: &'static str, limit: f64, of: fn(&[Row], &Row) -> Option<f64>) -> Bar {
+const fn seconds(said: &'static str, limit: f64, of: fn(&Row) -> Option<f64>) -> Bar {
     Bar {
         said,
         limit,
@@ -32,51 +32,36 @@ const fn seconds(said: &'static str, limit: f64, of: fn(&[Row], &Row) -> Option<
 }
 
 const BARS: [Bar; 8] = [
-    ratio(
-        "run, times plain Rust by bounds: at most 3",
-        3.0,
-        |_, row| is_full(row).then_some(row.run[0] / row.run[1]),
-    ),
-    ratio(
-        "report, times plain Rust by parts: at most 3",
-        3.0,
-        |_, row| {
-            let ratio = |[ours, parts, _]: [f64; 3]| ours / parts;
-            is_full(row).then_some(ratio(row.before).max(ratio(row.after)))
-        },
-    ),
-    seconds("the comb settles: under 1 s", 1.0, |_, row| {
+    ratio("run, times plain Rust by bounds: at most 3", 3.0, |row| {
+        is_full(row).then_some(row.run[0] / row.run[1])
+    }),
+    ratio("report, times plain Rust by parts: at most 3", 3.0, |row| {
+        let ratio = |[ours, parts, _]: [f64; 3]| ours / parts;
+        is_full(row).then_some(ratio(row.before).max(ratio(row.after)))
+    }),
+    seconds("the comb settles: under 1 s", 1.0, |row| {
         let is_comb = row.name == "comb" && row.is_whole();
         (is_full(row) && is_comb).then_some(row.run[0])
     }),
     seconds(
         "the comb of weight 2,200, 100,000 steps: under 0.5 s",
         0.5,
-        |_, row| (row.weight == 2200).then_some(row.run[0]),
+        |row| (row.weight == 2200).then_some(row.run[0]),
     ),
-    seconds("report of any family: under 10 ms", 1e-2, |_, row| {
+    seconds("report of any family: under 10 ms", 1e-2, |row| {
         is_full(row).then_some(worse_report(row))
     }),
-    seconds(
-        "report of an ordinary book: under 0.5 ms",
-        5e-4,
-        |_, row| (is_full(row) && row.ordinary).then_some(worse_report(row)),
-    ),
-    ratio(
-        "report, growth from weight 2,048: at most 3",
-        3.0,
-        |rows, row| {
-            let half = half(rows, row).filter(|_| is_full(row))?;
-            Some((row.before[0] / half.before[0]).max(row.after[0] / half.after[0]))
-        },
-    ),
+    seconds("report of an ordinary book: under 0.5 ms", 5e-4, |row| {
+        (is_full(row) && row.ordinary).then_some(worse_report(row))
+    }),
+    ratio("report, growth from weight 2,048: at most 3", 3.0, |row| {
+        let growth = row.growth.filter(|_| is_full(row))?;
+        Some(growth.before.max(growth.after))
+    }),
     ratio(
         "a step, growth from weight 2,048: at most 2.5",
         2.5,
-        |rows, row| {
-            let half = half(rows, row).filter(|_| is_full(row))?;
-            Some(row.step()? / half.step()?)
-        },
+        |row| row.growth.filter(|_| is_full(row))?.step,
     ),
 ];
 
@@ -92,7 +77,7 @@ fn worse_report(row: &Row) -> f64 {
 fn line(rows: &[Row], bar: &Bar) -> String {
     let mut values: Vec<(f64, &str)> = rows
         .iter()
-        .filter_map(|row| Some(((bar.of)(rows, row)?, row.name.as_str())))
+        .filter_map(|row| Some(((bar.of)(row)?, row.name.as_str())))
         .collect();
     values.sort_by(|one, other| other.0.total_cmp(&one.0));
     let missed = values.iter().filter(|value| value.0 > bar.limit).count();

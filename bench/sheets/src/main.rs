@@ -147,7 +147,10 @@ fn all_rows(flags: &Flags, noise: &mut measure::Noise) -> Vec<Row> {
             noise.sample();
             let rules = (family.make)(weight);
             let (name, ordinary) = (&family.name, family.ordinary);
-            let row = rows::measured(name, ordinary, weight, &rules, u64::MAX, flags.patience);
+            let mut row = rows::measured(name, ordinary, weight, &rules, u64::MAX, flags.patience);
+            if weight % 2 == 0 && flags.weights.contains(&(weight / 2)) {
+                row.growth = Some(rows::growth(&(family.make)(weight / 2), &rules));
+            }
             eprintln!(
                 "{name}, {weight}: {} steps, run {}",
                 row.steps,

@@ -26,6 +26,11 @@ fn has_enough(times: &[f64]) -> bool {
     times.len() == SAMPLES || spent > PLENTY || times.len() >= 3 && spent > ENOUGH
 }
 
+fn middles(times: Vec<Vec<f64>>) -> Vec<f64> {
+    let middle = |times| quantile(times, 0.5);
+    times.into_iter().map(middle).collect()
+}
+
 /// The median seconds of each side.
 pub fn medians(mut sides: Vec<Side>) -> Vec<f64> {
     let mut times = vec![Vec::new(); sides.len()];
@@ -36,10 +41,22 @@ pub fn medians(mut sides: Vec<Side>) -> Vec<f64> {
             }
         }
     }
-    times
-        .into_iter()
-        .map(|times| quantile(times, 0.5))
-        .collect()
+    middles(times)
+}
+
+/// How many times longer, by its median, the second side takes than the first. Each sample of
+/// the one is followed by one of the other, so that a slow while of the machine is theirs both.
+pub fn grown(first: Side, second: Side) -> f64 {
+    let mut times = vec![Vec::new(), Vec::new()];
+    while !times
+        .iter()
+        .all(|times| times.len() >= SAMPLES || has_enough(times))
+    {
+        times[0].push(first());
+        times[1].push(second());
+    }
+    let middles = middles(times);
+    middles[1] / middles[0]
 }
 
 /// The value below which such a share of the values lies.

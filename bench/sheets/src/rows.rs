@@ -4,7 +4,7 @@ use crate::answers::Ran;
 use crate::compare::{after, loaded, ran, reported};
 use crate::families::Rules;
 use crate::ffi;
-use crate::measure::{medians, seconds};
+use crate::measure::{grown, medians, seconds};
 use crate::nodes::{book, LENGTH};
 use crate::plain::{bounds, load, parts, simple, sweep};
 
@@ -28,6 +28,17 @@ pub struct Row {
     /// The library, plain Rust by parts, plain Rust by sweeps.
     pub before: [f64; 3],
     pub after: [f64; 3],
+    /// From the family's book of half the weight, where that is measured too.
+    pub growth: Option<Growth>,
+}
+
+/// How many times longer the library takes than on the book of half the weight, the two timed
+/// in turn: a step (where both runs have any), the report, and the report after the run.
+#[derive(Clone, Copy)]
+pub struct Growth {
+    pub step: Option<f64>,
+    pub before: f64,
+    pub after: f64,
 }
 
 impl Row {
@@ -74,7 +85,37 @@ pub fn measured(
         simple: (simple_steps, simple),
         before: report_times(&sheet),
         after: report_times(&settled),
+        growth: None,
     }
+}
+
+/// The growth from one book to another.
+pub fn growth(half: &Rules, whole: &Rules) -> Growth {
+    let sheets = [half, whole].map(|rules| loaded(&book(rules.options, &rules.bodies)));
+    let runs = sheets.map(|sheet| after(bounds::run, &sheet, u64::MAX));
+    let [few, many] = [runs[0].0.count, runs[1].0.count].map(|steps| steps as f64);
+    let step = (few > 0.0 && many > 0.0).then(|| {
+        let [mut one, mut other] = sheets.map(|sheet| {
+            move || {
+                let mut sheet = sheet;
+                seconds(|| ffi::run(&mut sheet, u64::MAX))
+            }
+        });
+        grown(&mut one, &mut other) * few / many
+    });
+    Growth {
+        step,
+        before: report_growth(sheets),
+        after: report_growth(runs.map(|run| run.1)),
+    }
+}
+
+fn report_growth(sheets: [Sheet; 2]) -> f64 {
+    let [mut one, mut other] = sheets.map(|sheet| {
+        let mut out = vec![0; usize::from(sheet[0])];
+        move || seconds(|| ffi::report(&sheet, &mut out))
+    });
+    grown(&mut one, &mut other)
 }
 
 /// How many of so many steps a run does in the time: all, or a round number of them.

@@ -1,6 +1,6 @@
 //! The measurements as Markdown.
 
-use crate::rows::Row;
+use crate::rows::{Growth, Row};
 use std::fmt::Write;
 
 /// A time with its unit, to two or three digits.
@@ -33,16 +33,9 @@ fn ratio(number: f64) -> String {
     format!("{number:.digits$}")
 }
 
-/// The same family at half the weight.
-pub fn half<'a>(rows: &'a [Row], row: &Row) -> Option<&'a Row> {
-    rows.iter()
-        .find(|other| other.name == row.name && 2 * other.weight == row.weight)
-}
-
 /// How a time grew from half the weight.
-fn growth(rows: &[Row], row: &Row, of: impl Fn(&Row) -> Option<f64>) -> String {
-    let grown = half(rows, row).and_then(|half| Some(of(row)? / of(half)?));
-    grown.map_or(String::new(), ratio)
+fn growth(row: &Row, of: impl Fn(Growth) -> Option<f64>) -> String {
+    row.growth.and_then(of).map_or(String::new(), ratio)
 }
 
 /// Name, weight and nodes; the name once a family.
@@ -73,7 +66,7 @@ fn run_line(rows: &[Row], at: usize) -> String {
         "{} {steps} | {} | {a_step} | {} | {} | {} | {simple} |",
         head(rows, at),
         time(row.run[0]),
-        growth(rows, row, Row::step),
+        growth(row, |growth| growth.step),
         time(row.run[1]),
         ratio(row.run[0] / row.run[1]),
     )
@@ -91,12 +84,12 @@ pub fn runs(rows: &[Row]) -> String {
     text
 }
 
-fn report_cells(rows: &[Row], row: &Row, of: fn(&Row) -> [f64; 3]) -> String {
-    let [ours, parts, sweep] = of(row);
+fn report_cells(row: &Row, times: [f64; 3], of: fn(Growth) -> f64) -> String {
+    let [ours, parts, sweep] = times;
     format!(
         "{} | {} | {} | {} | {} |",
         time(ours),
-        growth(rows, row, |row| Some(of(row)[0])),
+        growth(row, |growth| Some(of(growth))),
         time(parts),
         ratio(ours / parts),
         time(sweep)
@@ -111,8 +104,8 @@ pub fn reports(rows: &[Row]) -> String {
          |---|--:|--:|--:|--:|--:|--:|--:|--:|--:|--:|--:|--:|\n",
     );
     for (at, row) in rows.iter().enumerate() {
-        let before = report_cells(rows, row, |row| row.before);
-        let after = report_cells(rows, row, |row| row.after);
+        let before = report_cells(row, row.before, |growth| growth.before);
+        let after = report_cells(row, row.after, |growth| growth.after);
         writeln!(text, "{} {before} {after}", head(rows, at)).expect("a string");
     }
     text
