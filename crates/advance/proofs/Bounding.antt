@@ -10,6 +10,7 @@ use borrow.Author.Tests.{eqb-true, eqb-false, ltb-true, ltb-false}
 use lib.Dec.{eqb, ltb}
 use lib.ListN.{length, getD, drop}
 use Rattle.model.specs.Code.{Node, decode, trees}
+use Rattle.model.specs.Limits.{sheet-room}
 use Rattle.model.specs.Rules.{rewrite, step}
 use Rattle.model.specs.Strategy.{least-i}
 use Rattle.theory.specs.Logic.{either}
@@ -23,7 +24,7 @@ use Rattle.advance.specs.Settled.{Spared, Settled}
 use Rattle.locality.specs.Inside.{spread-inside}
 use Rattle.advance.proofs.Quiets.{quiet-from, quiet-to}
 
-module _ (r p i j : ℕ) (ns : List Node) {t : ℕ} (h : trees ns ≡ some t) (e : step r p i j ns ≡ some (after-step r p i j ns)) {from old new inner outer : ℕ} (z : Zoned r p i j ns from old new) (w : Holders p inner outer ns) (low up : List ℕ) (n : Settled r from old new p inner outer (after-step r p i j ns) low up) (few : length ns ≤ 4096) (small : from ≤ length ns) where
+module _ (r p i j : ℕ) (ns : List Node) {t : ℕ} (h : trees ns ≡ some t) (e : step r p i j ns ≡ some (after-step r p i j ns)) {from old new inner outer : ℕ} (z : Zoned r p i j ns from old new) (w : Holders p inner outer ns) (low up : List ℕ) (n : Settled r from old new p inner outer (after-step r p i j ns) low up) (few : length ns ≤ sheet-room) (small : from ≤ length ns) where
   abbrev ms : List Node
   ms = after-step r p i j ns
 

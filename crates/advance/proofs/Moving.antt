@@ -4,18 +4,19 @@ use mathlib.Core.List.{List}
 use mathlib.Core.Logic.{_⊎_, inl, inr, ⊎-elim}
 use mathlib.Core.Option.{some}
 use mathlib.Core.Path.{_≡_, sym, ap, subst, _∙_}
-use Prim.Native.Nat.{ℕ, _+_, _-_, _≤_, _<_}
+use Prim.Native.Nat.{ℕ, _+_, _≤_, _<_}
 use native.Mathlib.Omega.{arith}
 use lib.ListN.{length, getD, drop}
 use Rattle.model.specs.Base.{is-some}
 use Rattle.model.specs.Code.{trees}
+use Rattle.model.specs.Limits.{sheet-length}
 use Rattle.model.specs.Rules.{step}
-use Rattle.model.specs.Sheet.{is-sheet, used-in, nodes-in}
+use Rattle.model.specs.Sheet.{used-in, nodes-in}
 use Rattle.theory.specs.Shape.{shaped-trees}
 use Rattle.theory.specs.Spans.{span}
-use Rattle.theory.specs.Sheets.{sheet-facts}
+use Rattle.theory.specs.Sheets.{Formed}
 use Rattle.sizes.specs.Tables.{Sized}
-use Rattle.steps.specs.Results.{stepped}
+use Rattle.model.specs.Results.{stepped}
 use Rattle.bounds.specs.Tables.{Bounds, High}
 use Rattle.zones.specs.Zoned.{after-step, Zoned}
 use Rattle.zones.proofs.OnSheet as O
@@ -30,12 +31,12 @@ use Rattle.advance.proofs.Bounding.{bounds-after, high-before, high-one
 use Rattle.advance.proofs.Sizing.{sized-past, sized-outside}
 use Rattle.advance.proofs.Stepping.{After, after}
 
-module _ (s : List ℕ) (h : is-sheet s ≡ true) (r p i j : ℕ) (a : is-some (step r p i j (nodes-in s)) ≡ true) {from old new : ℕ} (z : Zoned r p i j (nodes-in s) from old new) where
+module _ (s : List ℕ) (h : Formed s) (r p i j : ℕ) (a : is-some (step r p i j (nodes-in s)) ≡ true) {from old new : ℕ} (z : Zoned r p i j (nodes-in s) from old new) where
   now : After s r p i j
   now = after s h r p i j a
 
-  pub whole-after : (u : List ℕ) → u ≡ stepped s r p i j → (is-sheet u ≡ true) × (length u ≡ 4098)
-  whole-after u e = rw e (now .sheet, sheet-facts (stepped s r p i j) (now .sheet) .whole)
+  pub whole-after : (u : List ℕ) → u ≡ stepped s r p i j → (Formed u) × (length u ≡ sheet-length)
+  whole-after u e = rw e (now .sheet, (now .sheet) .whole)
 
   -- All sizes, where the step keeps the children of each node in number.
   pub still : (u t : List ℕ) → u ≡ stepped s r p i j → Sized 0 (drop 2 s) t → 9 ≤ r → r ≤ 10 → Sized 0 (drop 2 u) t
@@ -52,7 +53,7 @@ module _ (s : List ℕ) (h : is-sheet s ≡ true) (r p i j : ℕ) (a : is-some (
   past u t e sized most a b = sized-past s u h (whole-after u e .0) t sized most a b
 
   one : trees (nodes-in s) ≡ some 1
-  one = shaped-trees (sheet-facts s h .shaped)
+  one = shaped-trees (h .shaped)
 
   -- The zone of rules 9 and 10 is the tree at the place, which ends among the nodes after the step.
   pub spread-zone : (u : List ℕ) → u ≡ stepped s r p i j → 9 ≤ r → r ≤ 10 → (from ≡ p) × (p < new) × (new ≤ used-in u)
@@ -75,7 +76,7 @@ module _ (s : List ℕ) (h : is-sheet s ≡ true) (r p i j : ℕ) (a : is-some (
         omega (arith, z .before, x .order .from-old, x .old-within)
 
     all-high : High r 0 (length (nodes-in s)) low
-    all-high = subst (λ k. High r 0 k low) (sym (sheet-facts s h .count)) high
+    all-high = subst (λ k. High r 0 k low) (sym (h .count)) high
 
     pub moved-on : (Bounds (nodes-in u) up × High 1 0 (used-in u) up) × ((to : ℕ) → p + 1 ≤ to → new ≤ to → (q : ℕ) → q < used-in u → (q < outer) ⊎ (to ≤ q) → r ≤ getD up q 0) × High (r + 1) 0 outer up
     moved-on =

@@ -15,7 +15,7 @@ pub quiet-from : (r p : ℕ) (f : Forest) → none ≡ least-i r p f → (i j : 
 unfolding least-i least-j
 quiet-from r p f e i j =
     none-if (rewrite r i j f) (λ g x. let w = rewrite-within r i j f x in
-    let here = least-none (size (kids f)) (λ a. least-j r p a f) .0 (sym e) i (w .child) in
+    let here = least-none (suc (size (kids f))) (λ a. least-j r p a f) .0 (sym e) i (w .child) in
     let there = least-none (suc (size (kids (after i (kids f))))) (λ b. only-if (is-some (rewrite r i b f)) (redex r p i b)) .0 here j (w .inner) in
     none-some (sym (is-some-none (rewrite r i j f) (redex r p i j) .0 there) ∙ x))
 

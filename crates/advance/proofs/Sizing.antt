@@ -13,12 +13,13 @@ use lib.Seq.{drop-at}
 use Rattle.model.specs.Base.{is-some}
 use Rattle.model.specs.Code.{Node, encode, decode, number-of, trees}
 use Rattle.model.specs.Forest.{first}
+use Rattle.model.specs.Limits.{sheet-room}
 use Rattle.model.specs.Rules.{step}
-use Rattle.model.specs.Sheet.{is-sheet, used-in, nodes-in}
+use Rattle.model.specs.Sheet.{used-in, nodes-in}
 use Rattle.theory.specs.Logic.{true-false, either, and-split, and-join}
 use Rattle.theory.specs.Spans.{span}
 use Rattle.theory.specs.Shape.{shaped-trees}
-use Rattle.theory.specs.Sheets.{sheet-facts}
+use Rattle.theory.specs.Sheets.{Formed}
 use Rattle.theory.specs.Stretches.{stands}
 use Rattle.locality.specs.Zones.{tree-length, tree-end}
 use Rattle.locality.specs.Families.{level-length}
@@ -36,35 +37,35 @@ zeros-left xs gone left q e =
     ∙ drop-at (xs ++ replicate gone 0) (replicate left 0) q (omega (arith, length-append xs (replicate gone 0), length-replicate {A = ℕ} gone 0))
 
 -- After the nodes stand zeros.
-zeros-here : (s : List ℕ) → is-sheet s ≡ true → (q : ℕ) → used-in s ≤ q → q ≤ 4096 → drop q (drop 2 s) ≡ replicate (4096 - q) 0
+zeros-here : (s : List ℕ) → Formed s → (q : ℕ) → used-in s ≤ q → q ≤ sheet-room → drop q (drop 2 s) ≡ replicate (sheet-room - q) 0
 zeros-here s h q le small =
-    let facts = sheet-facts s h in
+    let facts = h in
     let numbers = map number-of (nodes-in s) in
-    let sum : (q - used-in s) + (4096 - q) ≡ 4096 - used-in s = omega arith in
+    let sum : (q - used-in s) + (sheet-room - q) ≡ sheet-room - used-in s = omega arith in
     ap (drop q) (stands s facts)
     ∙ ap (λ n. drop q (numbers ++ replicate n 0)) (sym sum)
-    ∙ zeros-left numbers (q - used-in s) (4096 - q) q (omega (arith, length-map (nodes-in s) number-of, facts .count))
+    ∙ zeros-left numbers (q - used-in s) (sheet-room - q) q (omega (arith, length-map (nodes-in s) number-of, facts .count))
 
 -- Past the nodes of two sheets the sizes of the one are those of the other.
-pub sized-past : (s u : List ℕ) → is-sheet s ≡ true → is-sheet u ≡ true → (t : List ℕ) → Sized 0 (drop 2 s) t → (most : ℕ) → used-in s ≤ most → used-in u ≤ most → Sized most (drop 2 u) t
+pub sized-past : (s u : List ℕ) → Formed s → Formed u → (t : List ℕ) → Sized 0 (drop 2 s) t → (most : ℕ) → used-in s ≤ most → used-in u ≤ most → Sized most (drop 2 u) t
 sized-past s u h k t sized most a b q le l =
-    let short : q < 4096 = omega (arith, length-drop 2 u, sheet-facts u k .whole) in
-    let there : q < length (drop 2 s) = omega (arith, length-drop 2 s, sheet-facts s h .whole) in
+    let short : q < sheet-room = omega (arith, length-drop 2 u, k .whole) in
+    let there : q < length (drop 2 s) = omega (arith, length-drop 2 s, h .whole) in
     sized q (omega arith) there ∙ ap (span 1) (zeros-here s h q (omega arith) (omega arith) ∙ sym (zeros-here u k q (omega arith) (omega arith)))
 
 same-length : (q : ℕ) (ns ms : List Node) → drop q ms ≡ drop q ns → tree-length q ms ≡ tree-length q ns
 unfolding tree-length
 same-length q ns ms e = ap (λ xs. length (encode (first 1 (decode xs)))) e
 
-module _ (s u : List ℕ) (h : is-sheet s ≡ true) (k : is-sheet u ≡ true) (r p i j : ℕ) (a : is-some (step r p i j (nodes-in s)) ≡ true) (same : nodes-in u ≡ after-step r p i j (nodes-in s)) {from old new : ℕ} (z : Zoned r p i j (nodes-in s) from old new) (low : 9 ≤ r) (top : r ≤ 12) where
+module _ (s u : List ℕ) (h : Formed s) (k : Formed u) (r p i j : ℕ) (a : is-some (step r p i j (nodes-in s)) ≡ true) (same : nodes-in u ≡ after-step r p i j (nodes-in s)) {from old new : ℕ} (z : Zoned r p i j (nodes-in s) from old new) (low : 9 ≤ r) (top : r ≤ 12) where
   one : trees (nodes-in s) ≡ some 1
-  one = shaped-trees (sheet-facts s h .shaped)
+  one = shaped-trees (h .shaped)
 
   level : length (after-step r p i j (nodes-in s)) ≡ length (nodes-in s)
   level = level-length r p i j (nodes-in s) one (O.did s h r p i j a) low top
 
   used-same : used-in u ≡ used-in s
-  used-same = sym (sheet-facts u k .count) ∙ ap length same ∙ level ∙ sheet-facts s h .count
+  used-same = sym (k .count) ∙ ap length same ∙ level ∙ h .count
 
   -- The trees outside the zone keep their lengths.
   kept : (q : ℕ) → q < used-in s → (q < from) ⊎ (new ≤ q) → tree-length q (nodes-in u) ≡ tree-length q (nodes-in s)
@@ -86,14 +87,14 @@ module _ (s u : List ℕ) (h : is-sheet s ≡ true) (k : is-sheet u ≡ true) (r
       go : (q < from) ⊎ (new ≤ q) → tree-length q (after-step r p i j (nodes-in s)) ≡ tree-length q (nodes-in s)
       go (inl lt) = before lt (⊎-elim (λ x. inl (eqb-true q p x)) (λ x. inr (eqb-false q p x)) (either (eqb q p)))
       go (inr le) =
-          let there = z .after q le (omega (arith, level, sheet-facts s h .count)) .0 in
+          let there = z .after q le (omega (arith, level, h .count)) .0 in
           let still : q + (old - new) ≡ q = omega (arith, z .level low top) in
           same-length q (nodes-in s) (after-step r p i j (nodes-in s)) (there ∙ ap (λ n. drop n (nodes-in s)) still)
 
   pub sized-outside : (t : List ℕ) → Sized 0 (drop 2 s) t → (q : ℕ) → q < length (drop 2 u) → (q < from) ⊎ (new ≤ q) → getD t q 0 ≡ span 1 (drop q (drop 2 u))
   sized-outside t sized q l side =
-      let whole = sheet-facts s h .whole in
-      let there : q < length (drop 2 s) = omega (arith, length-drop 2 s, length-drop 2 u, sheet-facts u k .whole) in
+      let whole = h .whole in
+      let there : q < length (drop 2 s) = omega (arith, length-drop 2 s, length-drop 2 u, k .whole) in
       ⊎-elim
       (λ x. let lt = ltb-true q (used-in s) x in
       sized q (omega arith) there ∙ size-here s h q lt ∙ sym (kept q lt side) ∙ sym (size-here u k q (omega (arith, used-same))))

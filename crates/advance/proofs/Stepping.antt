@@ -3,21 +3,22 @@ use mathlib.Core.Bool.{true, false}
 use mathlib.Core.List.{List}
 use mathlib.Core.Logic.{_⊎_, inl, inr}
 use mathlib.Core.Path.{_≡_, sym, ap, _∙_}
-use Prim.Native.Nat.{ℕ, _+_, _-_, _≤_, _<_}
+use Prim.Native.Nat.{ℕ, _+_, _≤_, _<_}
 use native.Mathlib.Omega.{arith}
 use borrow.Author.Tests.{eqb-true, eqb-false}
 use lib.Dec.{eqb}
 use lib.ListN.{length, getD, drop, length-drop}
 use Rattle.model.specs.Base.{is-some}
 use Rattle.model.specs.Code.{weight}
+use Rattle.model.specs.Limits.{most-weight}
 use Rattle.model.specs.Rules.{step}
-use Rattle.model.specs.Sheet.{is-sheet, used-in, nodes-in}
+use Rattle.model.specs.Sheet.{used-in, nodes-in}
 use Rattle.theory.specs.Logic.{either}
 use Rattle.theory.specs.Steps.{done, more, steps-shaped, steps-weight}
-use Rattle.theory.specs.Sheets.{sheet-facts, sheet-shaped, sheet-options, sheet-weight, sheet-made, nodes-made}
+use Rattle.theory.specs.Sheets.{Formed, formed-made, nodes-made}
 use Rattle.locality.specs.Zones.{Holds, Twice, tree-end}
 use Rattle.sizes.specs.Tables.{Sized}
-use Rattle.steps.specs.Results.{stepped}
+use Rattle.model.specs.Results.{stepped}
 use Rattle.zones.specs.Zoned.{after-step}
 use Rattle.zones.proofs.Places.{size-here}
 use Rattle.zones.proofs.OnSheet as O
@@ -25,23 +26,23 @@ use Rattle.advance.specs.Holders.{Holders}
 
 -- The sheet after a step.
 pub record After (s : List ℕ) (r p i j : ℕ) : Type 0 where
-  pub sheet : is-sheet (stepped s r p i j) ≡ true
+  pub sheet : Formed (stepped s r p i j)
   pub nodes : nodes-in (stepped s r p i j) ≡ after-step r p i j (nodes-in s)
   pub used : used-in (stepped s r p i j) ≡ length (after-step r p i j (nodes-in s))
 
-pub after : (s : List ℕ) → is-sheet s ≡ true → (r p i j : ℕ) → is-some (step r p i j (nodes-in s)) ≡ true → After s r p i j
+pub after : (s : List ℕ) → Formed s → (r p i j : ℕ) → is-some (step r p i j (nodes-in s)) ≡ true → After s r p i j
 unfolding stepped after-step
 after s h r p i j a =
-    let form = sheet-shaped s h in
+    let form = h .shaped in
     let one = more r p i j (O.did s h r p i j a) done in
-    let light : weight (after-step r p i j (nodes-in s)) ≤ 4096 = omega (arith, sheet-weight s h, steps-weight form one) in
+    let light : weight (after-step r p i j (nodes-in s)) ≤ most-weight = omega (arith, h .weight, steps-weight form one) in
     let shaped = steps-shaped form one in
-    let made = sheet-made (sheet-options s h) shaped light in
-    let nodes = nodes-made (sheet-options s h) shaped light in
-    record { sheet = made; nodes = nodes; used = sym (sheet-facts (stepped s r p i j) made .count) ∙ ap length nodes }
+    let made = formed-made (h .options) shaped light in
+    let nodes = nodes-made (h .options) shaped light in
+    record { sheet = made; nodes = nodes; used = sym (made .count) ∙ ap length nodes }
 
 -- The nearest two places that hold a place.
-pub holders : (s t : List ℕ) → is-sheet s ≡ true → Sized 0 (drop 2 s) t → (p inner outer : ℕ) → p < used-in s → inner ≤ p → (inner < p → p < inner + getD t inner 0) → ((q : ℕ) → q < p → p < q + getD t q 0 → (inner < p) × (q ≤ inner)) → outer ≤ inner → (outer < inner → p < outer + getD t outer 0) → ((q : ℕ) → q < inner → p < q + getD t q 0 → (outer < inner) × (q ≤ outer)) → Holders p inner outer (nodes-in s)
+pub holders : (s t : List ℕ) → Formed s → Sized 0 (drop 2 s) t → (p inner outer : ℕ) → p < used-in s → inner ≤ p → (inner < p → p < inner + getD t inner 0) → ((q : ℕ) → q < p → p < q + getD t q 0 → (inner < p) × (q ≤ inner)) → outer ≤ inner → (outer < inner → p < outer + getD t outer 0) → ((q : ℕ) → q < inner → p < q + getD t q 0 → (outer < inner) × (q ≤ outer)) → Holders p inner outer (nodes-in s)
 holders s t h sized p inner outer within a reach near b reach-2 near-2 =
     record {
       inner-before = a;
@@ -51,7 +52,7 @@ holders s t h sized p inner outer within a reach near b reach-2 near-2 =
   where
     ends : (q : ℕ) → q < used-in s → q + getD t q 0 ≡ tree-end q (nodes-in s)
     ends q l =
-        let facts = sheet-facts s h in
+        let facts = h in
         omega (arith, sized q (omega arith) (omega (arith, length-drop 2 s, facts .whole, facts .used)), size-here s h q l)
 
     wide : (q : ℕ) → Holds q p (nodes-in s) → p < q + getD t q 0

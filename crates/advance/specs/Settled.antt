@@ -5,6 +5,7 @@ use mathlib.Core.Path.{_≡_}
 use Prim.Native.Nat.{ℕ, _+_, _-_, _≤_, _<_}
 use lib.ListN.{getD}
 use Rattle.model.specs.Code.{Node}
+use Rattle.model.specs.Limits.{sheet-room}
 use Rattle.touched.specs.Touched.{Bare}
 
 -- The bound of a place after the step's own has stayed: the rule is 9 or 10, and no child of the node there is a constant.
@@ -23,4 +24,4 @@ pub record Settled (rule from old new place inner outer : ℕ) (ms : List Node) 
   pub at-outer : getD u outer 0 ≡ 1
   pub zone : (q : ℕ) → from ≤ q → q < new → (getD u q 0 ≡ 1) ⊎ Spared rule place q ms t u
   pub before : (q : ℕ) → q < from → (q ≡ place → ⊥) → (q ≡ inner → ⊥) → (q ≡ outer → ⊥) → getD u q 0 ≡ getD t q 0
-  pub after : (q : ℕ) → new ≤ q → q + (old - new) < 4096 → (q ≡ place → ⊥) → (q ≡ inner → ⊥) → (q ≡ outer → ⊥) → getD u q 0 ≡ getD t (q + (old - new)) 0
+  pub after : (q : ℕ) → new ≤ q → q + (old - new) < sheet-room → (q ≡ place → ⊥) → (q ≡ inner → ⊥) → (q ≡ outer → ⊥) → getD u q 0 ≡ getD t (q + (old - new)) 0

@@ -5,11 +5,13 @@ ghost use mathlib.Core.Logic.{_⊎_};
 ghost use Prim.Native.Nat.{ℕ, _+_, _≤_, _<_};
 ghost use lib.ListN.{length, getD, drop};
 ghost use Rattle.model.specs.Base.{«is-some»};
+ghost use Rattle.model.specs.Limits.{«sheet-room», «sheet-length», «no-rule»};
 ghost use Rattle.model.specs.Rules.{step};
-ghost use Rattle.model.specs.Sheet.{«is-sheet», «used-in», «nodes-in»};
+ghost use Rattle.model.specs.Sheet.{«used-in», «nodes-in»};
 ghost use Rattle.theory.specs.Spans.{span};
 ghost use Rattle.sizes.specs.Tables.{Sized};
-ghost use Rattle.steps.specs.Results.{stepped};
+ghost use Rattle.model.specs.Results.{stepped};
+ghost use Rattle.theory.specs.Sheets.{Formed};
 ghost use Rattle.bounds.specs.Tables.{Bounds, High};
 ghost use Rattle.zones.specs.Zoned.{Zoned};
 ghost use Rattle.advance.specs.Holders.{Holders};
@@ -18,10 +20,10 @@ ghost use Rattle.advance.specs.Settled.{Settled};
 // The sizes after a step. Rules 9 and 10 keep every size, rules 11 and 12 those outside the zone; the others keep those past all
 // nodes, old and new.
 fn resize(sheet: &[u16], sizes: &mut [u16], rule: usize, from: usize, to: usize, most: usize)
-    requires { ⌜ (length (now sheet) ≡ 4098) × (length (now sizes) ≡ 4096) × (from ≤ to) × (to ≤ 4096) ⌝ }
+    requires { ⌜ (length (now sheet) ≡ «sheet-length») × (length (now sizes) ≡ «sheet-room») × (from ≤ to) × (to ≤ «sheet-room») ⌝ }
     requires { ⌜ (9 ≤ rule → rule ≤ 10 → Sized 0 (drop 2 (now sheet)) (now sizes)) ⌝ }
     requires { ⌜ (11 ≤ rule → rule ≤ 12 → (q : ℕ) → q < length (drop 2 (now sheet)) → (q < from) ⊎ (to ≤ q) → getD (now sizes) q 0 ≡ span 1 (drop q (drop 2 (now sheet)))) ⌝ }
-    requires { ⌜ (most ≤ 4096) × Sized most (drop 2 (now sheet)) (now sizes) ⌝ }
+    requires { ⌜ (most ≤ «sheet-room») × Sized most (drop 2 (now sheet)) (now sizes) ⌝ }
     ensures { λ r. ⌜ Sized 0 (drop 2 (now (sheet .entry))) (now (sizes .exit)) ⌝ }
 {
     if rule <= 8 || 13 <= rule {
@@ -44,8 +46,8 @@ struct Plan {
 }
 
 fn look_ahead(sheet: &[u16], sizes: &[u16], rule: usize, place: usize, i: usize, j: usize) -> Plan
-    requires { ⌜ («is-sheet» (now sheet) ≡ true) × («is-some» (step rule place i j («nodes-in» (now sheet))) ≡ true) ⌝ }
-    requires { ⌜ (length (now sizes) ≡ 4096) × Sized 0 (drop 2 (now sheet)) (now sizes) ⌝ }
+    requires { ⌜ Formed (now sheet) × («is-some» (step rule place i j («nodes-in» (now sheet))) ≡ true) ⌝ }
+    requires { ⌜ (length (now sizes) ≡ «sheet-room») × Sized 0 (drop 2 (now sheet)) (now sizes) ⌝ }
     ensures { λ r. ⌜ Zoned rule place i j («nodes-in» (now (sheet .entry))) (r .from) (r .old) (r .new) ⌝ }
     ensures { λ r. ⌜ Holders place (r .inner) (r .outer) («nodes-in» (now (sheet .entry))) ⌝ }
 {
@@ -64,10 +66,10 @@ fn look_ahead(sheet: &[u16], sizes: &[u16], rule: usize, place: usize, i: usize,
 // The bounds after a step, whose sheet and sizes are there: those of the zone go back to 1. Rules 9 and 10 move no node and make
 // constants of literals, so that of their zone those go back alone whose node has a constant among its children.
 fn settle(sheet: &[u16], sizes: &[u16], low: &mut [u16], rule: usize, place: usize, plan: Plan)
-    requires { ⌜ «is-sheet» (now sheet) ≡ true ⌝ }
-    requires { ⌜ (length (now sizes) ≡ 4096) × Sized 0 (drop 2 (now sheet)) (now sizes) ⌝ }
-    requires { ⌜ (length (now low) ≡ 4096) × (plan .from ≤ plan .new) × (plan .new ≤ plan .old) × (plan .old ≤ 4096) ⌝ }
-    requires { ⌜ (place < 4096) × (plan .inner ≤ place) × (plan .outer ≤ plan .inner) ⌝ }
+    requires { ⌜ Formed (now sheet) ⌝ }
+    requires { ⌜ (length (now sizes) ≡ «sheet-room») × Sized 0 (drop 2 (now sheet)) (now sizes) ⌝ }
+    requires { ⌜ (length (now low) ≡ «sheet-room») × (plan .from ≤ plan .new) × (plan .new ≤ plan .old) × (plan .old ≤ «sheet-room») ⌝ }
+    requires { ⌜ (place < «sheet-room») × (plan .inner ≤ place) × (plan .outer ≤ plan .inner) ⌝ }
     requires { ⌜ (9 ≤ rule → rule ≤ 10 → (plan .from ≡ place) × (place < plan .new) × (plan .new ≤ «used-in» (now sheet))) ⌝ }
     ensures { λ r. ⌜ Settled rule (plan .from) (plan .old) (plan .new) place (plan .inner) (plan .outer) («nodes-in» (now (sheet .entry))) (now (low .entry)) (now (low .exit)) ⌝ }
 {
@@ -131,9 +133,9 @@ fn move_on(
     i: usize,
     j: usize,
 ) -> Reach
-    requires { ⌜ («is-sheet» (now sheet) ≡ true) × («is-some» (step rule place i j («nodes-in» (now sheet))) ≡ true) ⌝ }
-    requires { ⌜ (length (now sizes) ≡ 4096) × Sized 0 (drop 2 (now sheet)) (now sizes) ⌝ }
-    requires { ⌜ (length (now low) ≡ 4096) × Bounds («nodes-in» (now sheet)) (now low) × High rule 0 («used-in» (now sheet)) (now low) ⌝ }
+    requires { ⌜ Formed (now sheet) × («is-some» (step rule place i j («nodes-in» (now sheet))) ≡ true) ⌝ }
+    requires { ⌜ (length (now sizes) ≡ «sheet-room») × Sized 0 (drop 2 (now sheet)) (now sizes) ⌝ }
+    requires { ⌜ (length (now low) ≡ «sheet-room») × Bounds («nodes-in» (now sheet)) (now low) × High rule 0 («used-in» (now sheet)) (now low) ⌝ }
     requires { ⌜ High (rule + 1) 0 place (now low) ⌝ }
     ensures { λ r. ⌜ now (sheet .exit) ≡ stepped (now (sheet .entry)) rule place i j ⌝ }
     ensures { λ r. ⌜ Sized 0 (drop 2 (now (sheet .exit))) (now (sizes .exit)) ⌝ }
@@ -146,7 +148,7 @@ fn move_on(
     let new = p.new;
     let outer = p.outer;
     let before = numbers::wide16(sheet[1]);
-    steps::apply(sheet, rule, place, i, j);
+    rewriting::apply(sheet, rule, place, i, j);
     let most = greater(before, numbers::wide16(sheet[1]));
     resize(sheet, sizes, rule, from, new, most);
     settle(sheet, sizes, low, rule, place, p);
@@ -173,14 +175,14 @@ pub fn advance(
     i: usize,
     j: usize,
 ) -> Ahead
-    requires { ⌜ («is-sheet» (now sheet) ≡ true) × («is-some» (step rule place i j («nodes-in» (now sheet))) ≡ true) ⌝ }
-    requires { ⌜ (length (now sizes) ≡ 4096) × Sized 0 (drop 2 (now sheet)) (now sizes) ⌝ }
-    requires { ⌜ (length (now low) ≡ 4096) × Bounds («nodes-in» (now sheet)) (now low) × High rule 0 («used-in» (now sheet)) (now low) ⌝ }
+    requires { ⌜ Formed (now sheet) × («is-some» (step rule place i j («nodes-in» (now sheet))) ≡ true) ⌝ }
+    requires { ⌜ (length (now sizes) ≡ «sheet-room») × Sized 0 (drop 2 (now sheet)) (now sizes) ⌝ }
+    requires { ⌜ (length (now low) ≡ «sheet-room») × Bounds («nodes-in» (now sheet)) (now low) × High rule 0 («used-in» (now sheet)) (now low) ⌝ }
     requires { ⌜ High (rule + 1) 0 place (now low) ⌝ }
     ensures { λ r. ⌜ now (sheet .exit) ≡ stepped (now (sheet .entry)) rule place i j ⌝ }
     ensures { λ r. ⌜ Sized 0 (drop 2 (now (sheet .exit))) (now (sizes .exit)) ⌝ }
     ensures { λ r. ⌜ Bounds («nodes-in» (now (sheet .exit))) (now (low .exit)) × High (r .floor) 0 («used-in» (now (sheet .exit))) (now (low .exit)) ⌝ }
-    ensures { λ r. ⌜ (1 ≤ r .floor) × (r .floor ≤ 15) ⌝ }
+    ensures { λ r. ⌜ (1 ≤ r .floor) × (r .floor ≤ «no-rule») ⌝ }
     ensures { λ r. ⌜ (r .cursor ≤ «used-in» (now (sheet .exit))) × High (r .floor + 1) 0 (r .cursor) (now (low .exit)) ⌝ }
 {
     let reach = move_on(sheet, sizes, low, rule, place, i, j);

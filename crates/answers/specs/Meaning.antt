@@ -1,9 +1,8 @@
 -- What each case of an answer is in the definitions: its refusal, by document 01's number, and its values.
 use mathlib.Core.Option.{Option, none, some}
-use mathlib.Core.List.{List}
 use Prim.Native.Nat.{ℕ}
-use Rattle.model.specs.Calls as M
-use Rattle.model.specs.Calls.{Answer, refused, accepted, Outcome}
+use Rattle.calls.specs.Refusals as M
+use Rattle.calls.specs.Outcomes.{Answer, refused, accepted, Outcome}
 use Rattle.answers.specs.declared.Refusal as R
 use Rattle.answers.specs.declared.Refusal.the-variants as V₁
 use Rattle.answers.specs.declared.Done as D
@@ -38,6 +37,6 @@ abbrev pub foundOf : F.Found → Answer ℕ
 foundOf (V₃.Value v) = accepted v
 foundOf (V₃.Refused r) = refused (refusalOf r)
 
--- An answer, with what the buffer that the call may write holds after it.
-abbrev pub afterCall : {A : Type 0} → Answer A → List ℕ → Outcome A
-afterCall a l = record { answer = a; buffer = l }
+-- An answer, with what the call leaves in all that it may write.
+abbrev pub afterCall : {L A : Type 0} → Answer A → L → Outcome L A
+afterCall a l = record { answer = a; lent = l }

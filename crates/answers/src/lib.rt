@@ -1,6 +1,6 @@
 // What calls answer: a result, or one refusal by its name.
 ghost use mathlib.Core.Path.{_≡_};
-ghost use Rattle.model.specs.Calls.{«refusal-number»};
+ghost use Rattle.calls.specs.Refusals.{«refusal-number»};
 ghost use Rattle.answers.specs.Meaning.{refusalOf};
 
 // Why a call is refused, in the order of the numbers 1 to 12.

@@ -5,13 +5,14 @@ ghost use mathlib.Core.List.{map};
 ghost use Prim.Native.Nat.{_*_, _≤_};
 ghost use lib.ListN.{length};
 ghost use Rattle.model.specs.Base.{all};
+ghost use Rattle.model.specs.Limits.{«most-rules», «most-nodes»};
 ghost use Rattle.model.specs.Code.{literals, «node-of»};
 ghost use Rattle.model.specs.Book.{words, entries, «in-line», cut, «body-ok»};
 use nodes::Trees;
 
 // The entries of the contents are in line, and their counts add up to the total.
 pub fn are_in_line(s: &[u8], m: usize, total: usize) -> bool
-    requires { ⌜ (m ≤ 4095) × (4 * m ≤ length (now s)) ⌝ }
+    requires { ⌜ (m ≤ «most-rules») × (4 * m ≤ length (now s)) ⌝ }
     ensures { λ r. ⌜ r ≡ «in-line» total 0 (entries m (now (s .entry))) ⌝ }
 {
     let mut sum = 0;
@@ -34,7 +35,7 @@ pub fn are_in_line(s: &[u8], m: usize, total: usize) -> bool
 
 // A body of so many nodes is one tree of nodes for n options.
 fn is_body(s: &[u8], count: usize, n: usize) -> bool
-    requires { ⌜ (count ≤ 4095) × (2 * count ≤ length (now s)) ⌝ }
+    requires { ⌜ (count ≤ «most-nodes») × (2 * count ≤ length (now s)) ⌝ }
     ensures { λ r. ⌜ r ≡ «body-ok» n (words count (now (s .entry))) ⌝ }
 {
     let mut trees = Trees::Count(0);
@@ -52,7 +53,7 @@ fn is_body(s: &[u8], count: usize, n: usize) -> bool
 
 // Every body is one tree. The contents are in line, so that the bodies lie within the nodes.
 pub fn are_bodies(contents: &[u8], m: usize, s: &[u8], total: usize, n: usize) -> bool
-    requires { ⌜ (m ≤ 4095) × (total ≤ 4095) ⌝ }
+    requires { ⌜ (m ≤ «most-rules») × (total ≤ «most-nodes») ⌝ }
     requires { ⌜ (4 * m ≤ length (now contents)) × (2 * total ≤ length (now s)) ⌝ }
     requires { ⌜ «in-line» total 0 (entries m (now contents)) ≡ true ⌝ }
     ensures { λ r. ⌜ r ≡ all («body-ok» n) (cut (entries m (now (contents .entry))) (words total (now (s .entry)))) ⌝ }
@@ -73,7 +74,7 @@ pub fn are_bodies(contents: &[u8], m: usize, s: &[u8], total: usize, n: usize) -
 
 // The literals among so many nodes.
 pub fn count_literals(s: &[u8], total: usize) -> usize
-    requires { ⌜ (total ≤ 4095) × (2 * total ≤ length (now s)) ⌝ }
+    requires { ⌜ (total ≤ «most-nodes») × (2 * total ≤ length (now s)) ⌝ }
     ensures { λ r. ⌜ r ≡ literals (map «node-of» (words total (now (s .entry)))) ⌝ }
 {
     let mut sum = 0;

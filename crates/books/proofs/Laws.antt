@@ -10,22 +10,25 @@ use lib.Dec.{eqb, leb}
 use lib.ListN.{length, take, drop, length-map}
 use borrow.Rule.Slice.PartAt.{part-to-end}
 use Rattle.model.specs.Base.{all, only-if, first-of, is-some, maybe}
-use Rattle.model.specs.Code.{literals, weight, node-of, head}
+use Rattle.model.specs.Code.{literals, weight, node-of}
+use Rattle.model.specs.Limits.{most-options, most-rules, most-nodes, most-weight}
 use Rattle.model.specs.Book.{word, words, entries, pieces, cut, codes-ok, option-of-code, in-line, body-ok, options-of, rules-of, size-of, head-in-limits, codes-end, contents-end, length-due, codes-of, contents-of, numbers-of, bodies-of, book-nodes}
-use Rattle.model.specs.Calls.{Refusal, code-refused, contents-refused, body-refused, weight-refused, option-refused, refused, accepted, answer, book-refusal, checkOf, lookupOf}
+use Rattle.calls.specs.Refusals.{Refusal, code-refused, contents-refused, body-refused, weight-refused, option-refused}
+use Rattle.calls.specs.Outcomes.{refused, accepted, answer}
+use Rattle.calls.specs.Chains.{part-refusal, book-refusal, lookup-refusal}
+use Rattle.calls.specs.Calls.{checkOf, lookupOf}
 use Rattle.answers.specs.declared.Refusal.{Refusal as Why}
 use Rattle.answers.specs.declared.Done.{Done}
 use Rattle.answers.specs.declared.Done.the-variants.{Accepted, Refused}
 use Rattle.answers.specs.Meaning.{refusalOf, dueOf, doneOf}
 use Rattle.theory.specs.Logic.{and-split}
-use Rattle.theory.specs.Refusals.{Sized, part-refusal}
+use Rattle.call_laws.specs.Books.{Sized, accepted-book}
 use Rattle.theory.specs.Bytes.{length-words}
 use Rattle.theory.specs.Scan.{literals-within}
-use Rattle.theory.specs.Loading.{accepted-book}
 
 -- The head: the first number over its limit makes it bad.
 module _ (b : List ℕ) (n m t : ℕ) (pn : n ≡ word b 0) (pm : m ≡ word b 2) (pt : t ≡ word b 4) where
-  pub head-tests : head-in-limits b ≡ (leb n 512 && leb m 4095 && leb t 4095 && eqb (word b 6) 0)
+  pub head-tests : head-in-limits b ≡ (leb n most-options && leb m most-rules && leb t most-nodes && eqb (word b 6) 0)
   unfolding head-in-limits options-of rules-of size-of
   head-tests = rw (pn, pm, pt)
 
@@ -54,12 +57,12 @@ module _ (b : List ℕ) (n m t : ℕ) (pn : n ≡ word b 0) (pm : m ≡ word b 2
   weight-is = rw numbers-are (omega (arith, length-map (words t (drop (8 + 13 * n + 4 * m) b)) node-of, length-words t (drop (8 + 13 * n + 4 * m) b)))
 
   -- A head within its limits.
-  pub head-limits : head-in-limits b ≡ true → (n ≤ 512) × (m ≤ 4095) × (t ≤ 4095)
+  pub head-limits : head-in-limits b ≡ true → (n ≤ most-options) × (m ≤ most-rules) × (t ≤ most-nodes)
   head-limits h =
-      let three = and-split (leb n 512 && leb m 4095 && leb t 4095) (eqb (word b 6) 0) (sym head-tests ∙ h) .0 in
-      let two = and-split (leb n 512 && leb m 4095) (leb t 4095) three in
-      let one = and-split (leb n 512) (leb m 4095) (two .0) in
-      (leb-true n 512 (one .0), leb-true m 4095 (one .1), leb-true t 4095 (two .1))
+      let three = and-split (leb n most-options && leb m most-rules && leb t most-nodes) (eqb (word b 6) 0) (sym head-tests ∙ h) .0 in
+      let two = and-split (leb n most-options && leb m most-rules) (leb t most-nodes) three in
+      let one = and-split (leb n most-options) (leb m most-rules) (two .0) in
+      (leb-true n most-options (one .0), leb-true m most-rules (one .1), leb-true t most-nodes (two .1))
 
 -- A part of a book from a place on, as it is lent.
 abbrev pub rest : List ℕ → ℕ → List ℕ
@@ -72,7 +75,7 @@ by-tests codes contents bodies w =
     (only-if (not codes) code-refused)
     (first-of
     (only-if (not contents) contents-refused)
-    (first-of (only-if (not bodies) body-refused) (only-if (not (leb w 4096)) weight-refused)))
+    (first-of (only-if (not bodies) body-refused) (only-if (not (leb w most-weight)) weight-refused)))
 
 module _ {b : List ℕ} {n m t : ℕ} (s : Sized b n m t) where
   pub tests-are : {x y z : Bool} {q : ℕ} → x ≡ codes-ok (pieces 13 n (rest b 8)) → y ≡ in-line t 0 (entries m (rest b (8 + 13 * n))) → z ≡ all (body-ok n) (cut (entries m (rest b (8 + 13 * n))) (words t (rest b (8 + 13 * n + 4 * m)))) → q ≡ literals (map node-of (words t (rest b (8 + 13 * n + 4 * m)))) → by-tests x y z (1 + t + q) ≡ part-refusal b
@@ -92,13 +95,13 @@ pub bodies-bad : (w : ℕ) → some body-refused ≡ by-tests true true false w
 unfolding by-tests first-of only-if
 bodies-bad w = refl
 
-pub weight-bad : (w : ℕ) → 4096 < w → some weight-refused ≡ by-tests true true true w
+pub weight-bad : (w : ℕ) → most-weight < w → some weight-refused ≡ by-tests true true true w
 unfolding by-tests first-of only-if
-weight-bad w h = rw (lt-leb w 4096 h)
+weight-bad w h = rw (lt-leb w most-weight h)
 
-pub all-good : (w : ℕ) → w ≤ 4096 → none ≡ by-tests true true true w
+pub all-good : (w : ℕ) → w ≤ most-weight → none ≡ by-tests true true true w
 unfolding by-tests first-of only-if
-all-good w h = rw (le-leb w 4096 h)
+all-good w h = rw (le-leb w most-weight h)
 
 -- There are no more literals than nodes.
 pub few-literals : (t : ℕ) (l : List ℕ) {q : ℕ} → q ≡ literals (map node-of (words t l)) → q ≤ t
@@ -136,16 +139,16 @@ codes-room b n e p = let a = accepted-book b e in rw p (omega (arith, a .long))
 
 -- The lookup's answer: the book's refusal, the option, or that there is none.
 pub lookup-refused : (b code : List ℕ) (d : Done) (r : Why) → doneOf d ≡ checkOf b → d ≡ Refused r → refused (refusalOf r) ≡ lookupOf b code
-unfolding lookupOf answer first-of
+unfolding lookupOf lookup-refusal answer first-of
 lookup-refused b code d r e q = rw (← due-of-check b d e, q)
 
 module _ (b code : List ℕ) (good : book-refusal b ≡ none) where
   pub lookup-found : (v : ℕ) → option-of-code code 0 (codes-of b) ≡ some v → accepted v ≡ lookupOf b code
-  unfolding lookupOf answer first-of only-if is-some maybe
+  unfolding lookupOf lookup-refusal answer first-of only-if is-some maybe
   lookup-found v e = rw (good, e)
 
   pub lookup-missing : option-of-code code 0 (codes-of b) ≡ none → refused option-refused ≡ lookupOf b code
-  unfolding lookupOf answer first-of only-if is-some maybe
+  unfolding lookupOf lookup-refusal answer first-of only-if is-some maybe
   lookup-missing e = rw (good, e)
 
 -- What was found among the codes, as they are lent.

@@ -2,27 +2,35 @@
 ghost use mathlib.Core.Path.{_≡_};
 ghost use Prim.Native.Nat.{_≤_};
 ghost use lib.ListN.{length};
+ghost use Rattle.model.specs.Limits.{«head-length»};
 ghost use Rattle.model.specs.Book.{«head-in-limits»};
-ghost use Rattle.model.specs.Calls.{checkOf, lookupOf};
-ghost use Rattle.theory.specs.Refusals.{Sized, «part-refusal»};
+ghost use Rattle.calls.specs.Calls.{checkOf, lookupOf};
+ghost use Rattle.calls.specs.Chains.{«part-refusal»};
+ghost use Rattle.call_laws.specs.Books.{Sized};
 ghost use Rattle.answers.specs.Meaning.{doneOf, dueOf, foundOf};
 use answers::Done;
 use answers::Found;
 use answers::Refusal;
 use codes::Place;
+use limits::CODE_LENGTH;
+use limits::HEAD_LENGTH;
+use limits::MOST_NODES;
+use limits::MOST_OPTIONS;
+use limits::MOST_RULES;
+use limits::MOST_WEIGHT;
 
 // The numbers of the head are within their limits, and the fourth is zero.
 fn is_head(book: &[u8]) -> bool
-    requires { ⌜ 8 ≤ length (now book) ⌝ }
+    requires { ⌜ «head-length» ≤ length (now book) ⌝ }
     ensures { λ r. ⌜ r ≡ «head-in-limits» (now (book .entry)) ⌝ }
 {
-    if 512 < numbers::word_at(book, 0) {
+    if MOST_OPTIONS < numbers::word_at(book, 0) {
         return false;
     }
-    if 4095 < numbers::word_at(book, 2) {
+    if MOST_RULES < numbers::word_at(book, 2) {
         return false;
     }
-    if 4095 < numbers::word_at(book, 4) {
+    if MOST_NODES < numbers::word_at(book, 4) {
         return false;
     }
     numbers::word_at(book, 6) == 0
@@ -33,9 +41,9 @@ fn check_parts(book: &[u8], n: usize, m: usize, t: usize) -> Done
     requires { ⌜ Sized (now book) n m t ⌝ }
     ensures { λ r. ⌜ dueOf r ≡ «part-refusal» (now (book .entry)) ⌝ }
 {
-    let contents = 8 + 13 * n;
+    let contents = HEAD_LENGTH + CODE_LENGTH * n;
     let bodies = contents + 4 * m;
-    if !chains::are_codes(&book[8..], n) {
+    if !chains::are_codes(&book[HEAD_LENGTH..], n) {
         return Done::Refused(Refusal::Code);
     }
     if !bodies::are_in_line(&book[contents..], m, t) {
@@ -44,7 +52,7 @@ fn check_parts(book: &[u8], n: usize, m: usize, t: usize) -> Done
     if !bodies::are_bodies(&book[contents..], m, &book[bodies..], t, n) {
         return Done::Refused(Refusal::Body);
     }
-    if 4096 < 1 + t + bodies::count_literals(&book[bodies..], t) {
+    if MOST_WEIGHT < 1 + t + bodies::count_literals(&book[bodies..], t) {
         return Done::Refused(Refusal::Weight);
     }
     Done::Accepted
@@ -54,7 +62,7 @@ fn check_parts(book: &[u8], n: usize, m: usize, t: usize) -> Done
 pub fn check(book: &[u8]) -> Done
     ensures { λ r. ⌜ doneOf r ≡ checkOf (now (book .entry)) ⌝ }
 {
-    if book.len() < 8 {
+    if book.len() < HEAD_LENGTH {
         return Done::Refused(Refusal::Length);
     }
     if !is_head(book) {
@@ -63,7 +71,7 @@ pub fn check(book: &[u8]) -> Done
     let n = numbers::word_at(book, 0);
     let m = numbers::word_at(book, 2);
     let t = numbers::word_at(book, 4);
-    if book.len() != 8 + 13 * n + 4 * m + 2 * t {
+    if book.len() != HEAD_LENGTH + CODE_LENGTH * n + 4 * m + 2 * t {
         return Done::Refused(Refusal::Length);
     }
     check_parts(book, n, m, t)
@@ -78,7 +86,7 @@ pub fn lookup(book: &[u8], code: &[u8]) -> Found
         return Found::Refused(r);
     }
     let n = numbers::word_at(book, 0);
-    let place = codes::find(&book[8..], n, code);
+    let place = codes::find(&book[HEAD_LENGTH..], n, code);
     if let Place::Index(v) = place {
         return Found::Value(v);
     }

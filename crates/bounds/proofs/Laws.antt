@@ -11,10 +11,11 @@ use lib.Dec.{eqb, ltb}
 use lib.ListN.{length, getD, drop, set}
 use lib.Seq.{getD-set-same, getD-set-other}
 use Rattle.model.specs.Code.{Node, encode, decode, kind}
-use Rattle.model.specs.Base.{least}
+use Rattle.model.specs.Base.{is-some}
 use Rattle.model.specs.Literal.{Literal}
 use Rattle.model.specs.Forest.{Forest, nil, lit, node, size, kids, literal-at}
-use Rattle.model.specs.Sheet.{is-sheet, used-in, nodes-in}
+use Rattle.model.specs.Rules.{rewrite}
+use Rattle.model.specs.Sheet.{used-in, nodes-in}
 use Rattle.model.specs.Strategy.{Redex, least-j, least-i, least-place}
 use Rattle.theory.specs.Least.{least-found}
 use Rattle.theory.specs.Logic.{true-false, none-some, either, only-some}
@@ -23,7 +24,8 @@ use Rattle.theory.specs.Leaves.{head-inner}
 use Rattle.theory.specs.Flat.{spell, Fits, fits-tree}
 use Rattle.theory.specs.Stretches.{spell-to, sheet-stretch}
 use Rattle.theory.specs.Children.{first-left}
-use Rattle.search.proofs.Laws.{p-none}
+use Rattle.theory.specs.Sheets.{Formed}
+use Rattle.search.proofs.Laws.{i-never, p-none}
 use Rattle.bounds.specs.Tables.{Bounds, High, Rises}
 
 pub rises-same : (t : List ℕ) → Rises t t
@@ -66,7 +68,7 @@ first-is (lit x f) z h e = (x, refl)
 first-is (node c k f) z h e = true-false (sym e ∙ head-inner c (size k) (fits-tree c k f h .0))
 
 -- The first tree of what stands at a literal's number is that literal.
-sheet-literal : (s : List ℕ) → is-sheet s ≡ true → (p : ℕ) → p < used-in s → is-literal (getD s (2 + p) 0) ≡ true → (l : Literal) × (literal-at (decode (drop p (nodes-in s))) ≡ some l)
+sheet-literal : (s : List ℕ) → Formed s → (p : ℕ) → p < used-in s → is-literal (getD s (2 + p) 0) ≡ true → (l : Literal) × (literal-at (decode (drop p (nodes-in s))) ≡ some l)
 unfolding spell-to
 sheet-literal s h p within it =
     let w = sheet-stretch s p h (omega arith) in
@@ -107,12 +109,12 @@ module _ (ns : List Node) (t : List ℕ) (rule place : ℕ) (long : place < leng
 
 -- At a literal no rule applies, and its bound may be any.
 literal-quiet : (r p : ℕ) (f : Forest) {l : Literal} → literal-at f ≡ some l → none ≡ least-i r p f
-unfolding literal-at least-i least size kids
+unfolding literal-at rewrite is-some
 literal-quiet r p nil e = none-some e
-literal-quiet r p (lit x f) e = refl
+literal-quiet r p (lit x f) e = i-never r p (lit x f) (λ i j. refl)
 literal-quiet r p (node c k f) e = none-some e
 
-module _ (s t : List ℕ) (h : is-sheet s ≡ true) (place x : ℕ) (long : place < length t) (within : place < used-in s) (it : is-literal (getD s (2 + place) 0) ≡ true) where
+module _ (s t : List ℕ) (h : Formed s) (place x : ℕ) (long : place < length t) (within : place < used-in s) (it : is-literal (getD s (2 + place) 0) ≡ true) where
   pub literal-none : (r : ℕ) → none ≡ least-i r place (decode (drop place (nodes-in s)))
   literal-none r =
       let w = sheet-literal s h place within it in
@@ -143,6 +145,6 @@ pub rule-found : (r : ℕ) (ns : List Node) {x : Redex} → least-place r ns ≡
 unfolding least-place least-i least-j
 rule-found r ns e =
     let a = least-found (length ns) (λ p. least-i r p (decode (drop p ns))) e in
-    let b = least-found (size (kids (decode (drop (a .number) ns)))) (λ i. least-j r (a .number) i (decode (drop (a .number) ns))) (a .answer) in
+    let b = least-found (suc (size (kids (decode (drop (a .number) ns))))) (λ i. least-j r (a .number) i (decode (drop (a .number) ns))) (a .answer) in
     let c = least-found _ _ (b .answer) in
     sym (ap (λ y. y .rule) (only-some _ _ (c .answer) .1))

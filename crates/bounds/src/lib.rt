@@ -1,27 +1,33 @@
 // The strategy's search by bounds: beside each place a number below which no rule applies there, so that a place is tried again only
 // where its bound was lowered.
 ghost use mathlib.Core.Path.{_≡_};
-ghost use mathlib.Core.Bool.{true};
 ghost use mathlib.Core.Option.{none};
-ghost use Prim.Native.Nat.{ℕ, _+_, _≤_, _<_};
+ghost use Prim.Native.Nat.{_+_, _≤_, _<_};
 ghost use lib.ListN.{length, getD, drop};
+ghost use Rattle.model.specs.Limits.{«sheet-room», «last-rule», «no-rule»};
 ghost use Rattle.model.specs.Code.{decode};
 ghost use Rattle.model.specs.Strategy.{«least-i», «least-place», next};
-ghost use Rattle.model.specs.Sheet.{«is-sheet», «used-in», «nodes-in»};
+ghost use Rattle.model.specs.Sheet.{«used-in», «nodes-in»};
+ghost use Rattle.theory.specs.Sheets.{Formed};
 ghost use Rattle.sizes.specs.Tables.{Sized};
 ghost use Rattle.search.specs.Meaning.{spotOf, nextOf};
 ghost use Rattle.bounds.specs.Tables.{Bounds, High, Rises};
 ghost use Rattle.bounds.specs.Floors.{floorOf, ruleOf, placeOf};
+use limits::LAST_RULE;
+use limits::NO_RULE;
 use search::Next;
 use search::Spot;
+
+// The bound of a place where no rule applies.
+const PAST_ALL: u16 = NO_RULE as u16;
 
 // Where the rule applies at a place whose bound has come to the rule; the bound rises past it where the rule does not apply, and past
 // all rules at a literal.
 fn try_at(sheet: &[u16], sizes: &[u16], low: &mut [u16], rule: usize, place: usize) -> Spot
-    requires { ⌜ (1 ≤ rule) × (rule ≤ 14) ⌝ }
-    requires { ⌜ («is-sheet» (now sheet) ≡ true) × (place < «used-in» (now sheet)) ⌝ }
-    requires { ⌜ (length (now sizes) ≡ 4096) × Sized 0 (drop 2 (now sheet)) (now sizes) ⌝ }
-    requires { ⌜ (length (now low) ≡ 4096) × (rule ≤ getD (now low) place 0) × Bounds («nodes-in» (now sheet)) (now low) ⌝ }
+    requires { ⌜ (1 ≤ rule) × (rule ≤ «last-rule») ⌝ }
+    requires { ⌜ Formed (now sheet) × (place < «used-in» (now sheet)) ⌝ }
+    requires { ⌜ (length (now sizes) ≡ «sheet-room») × Sized 0 (drop 2 (now sheet)) (now sizes) ⌝ }
+    requires { ⌜ (length (now low) ≡ «sheet-room») × (rule ≤ getD (now low) place 0) × Bounds («nodes-in» (now sheet)) (now low) ⌝ }
     ensures { λ r. ⌜ spotOf rule place r ≡ «least-i» rule place (decode (drop place («nodes-in» (now (sheet .entry))))) ⌝ }
     ensures { λ r. ⌜ Bounds («nodes-in» (now (sheet .entry))) (now (low .exit)) × Rises (now (low .entry)) (now (low .exit)) ⌝ }
     ensures { λ r. ⌜ (spotOf rule place r ≡ none → rule < getD (now (low .exit)) place 0) ⌝ }
@@ -31,7 +37,7 @@ fn try_at(sheet: &[u16], sizes: &[u16], low: &mut [u16], rule: usize, place: usi
     }
     let from = 2 + place;
     if nodes::is_literal(numbers::wide16(sheet[from])) {
-        low[place] = 15;
+        low[place] = PAST_ALL;
         return Spot::Nowhere;
     }
     let spot = search::least_at(sheet, sizes, rule, place);
@@ -44,10 +50,10 @@ fn try_at(sheet: &[u16], sizes: &[u16], low: &mut [u16], rule: usize, place: usi
 
 // The least place for a rule that all bounds have come to, from a start on before which all are past it.
 fn least_place(sheet: &[u16], sizes: &[u16], low: &mut [u16], rule: usize, start: usize) -> Next
-    requires { ⌜ (1 ≤ rule) × (rule ≤ 14) ⌝ }
-    requires { ⌜ «is-sheet» (now sheet) ≡ true ⌝ }
-    requires { ⌜ (length (now sizes) ≡ 4096) × Sized 0 (drop 2 (now sheet)) (now sizes) ⌝ }
-    requires { ⌜ (length (now low) ≡ 4096) × Bounds («nodes-in» (now sheet)) (now low) ⌝ }
+    requires { ⌜ (1 ≤ rule) × (rule ≤ «last-rule») ⌝ }
+    requires { ⌜ Formed (now sheet) ⌝ }
+    requires { ⌜ (length (now sizes) ≡ «sheet-room») × Sized 0 (drop 2 (now sheet)) (now sizes) ⌝ }
+    requires { ⌜ (length (now low) ≡ «sheet-room») × Bounds («nodes-in» (now sheet)) (now low) ⌝ }
     requires { ⌜ High rule 0 («used-in» (now sheet)) (now low) ⌝ }
     requires { ⌜ (start ≤ «used-in» (now sheet)) × High (rule + 1) 0 start (now low) ⌝ }
     ensures { λ r. ⌜ nextOf r ≡ «least-place» rule («nodes-in» (now (sheet .entry))) ⌝ }
@@ -74,10 +80,10 @@ pub fn next_redex(
     floor: usize,
     cursor: usize,
 ) -> Next
-    requires { ⌜ (1 ≤ floor) × (floor ≤ 15) ⌝ }
-    requires { ⌜ «is-sheet» (now sheet) ≡ true ⌝ }
-    requires { ⌜ (length (now sizes) ≡ 4096) × Sized 0 (drop 2 (now sheet)) (now sizes) ⌝ }
-    requires { ⌜ (length (now low) ≡ 4096) × Bounds («nodes-in» (now sheet)) (now low) ⌝ }
+    requires { ⌜ (1 ≤ floor) × (floor ≤ «no-rule») ⌝ }
+    requires { ⌜ Formed (now sheet) ⌝ }
+    requires { ⌜ (length (now sizes) ≡ «sheet-room») × Sized 0 (drop 2 (now sheet)) (now sizes) ⌝ }
+    requires { ⌜ (length (now low) ≡ «sheet-room») × Bounds («nodes-in» (now sheet)) (now low) ⌝ }
     requires { ⌜ High floor 0 («used-in» (now sheet)) (now low) ⌝ }
     requires { ⌜ (cursor ≤ «used-in» (now sheet)) × High (floor + 1) 0 cursor (now low) ⌝ }
     ensures { λ r. ⌜ nextOf r ≡ next («nodes-in» (now (sheet .entry))) ⌝ }
@@ -86,7 +92,7 @@ pub fn next_redex(
 {
     let mut rule = floor;
     let mut start = cursor;
-    while rule <= 14 {
+    while rule <= LAST_RULE {
         let found = least_place(sheet, sizes, low, rule, start);
         if let Next::Redex(r, p, i, j) = found {
             return Next::Redex(r, p, i, j);
@@ -99,10 +105,10 @@ pub fn next_redex(
 
 // The bound of a place rises up to a limit, or to the least rule below it that applies there: the number it has come to.
 fn raise(sheet: &[u16], sizes: &[u16], low: &mut [u16], place: usize, limit: usize) -> usize
-    requires { ⌜ (1 ≤ limit) × (limit ≤ 15) ⌝ }
-    requires { ⌜ («is-sheet» (now sheet) ≡ true) × (place < «used-in» (now sheet)) ⌝ }
-    requires { ⌜ (length (now sizes) ≡ 4096) × Sized 0 (drop 2 (now sheet)) (now sizes) ⌝ }
-    requires { ⌜ (length (now low) ≡ 4096) × (1 ≤ getD (now low) place 0) × Bounds («nodes-in» (now sheet)) (now low) ⌝ }
+    requires { ⌜ (1 ≤ limit) × (limit ≤ «no-rule») ⌝ }
+    requires { ⌜ Formed (now sheet) × (place < «used-in» (now sheet)) ⌝ }
+    requires { ⌜ (length (now sizes) ≡ «sheet-room») × Sized 0 (drop 2 (now sheet)) (now sizes) ⌝ }
+    requires { ⌜ (length (now low) ≡ «sheet-room») × (1 ≤ getD (now low) place 0) × Bounds («nodes-in» (now sheet)) (now low) ⌝ }
     ensures { λ r. ⌜ (1 ≤ r) × (r ≤ limit) × (r ≤ getD (now (low .exit)) place 0) ⌝ }
     ensures { λ r. ⌜ Bounds («nodes-in» (now (sheet .entry))) (now (low .exit)) × Rises (now (low .entry)) (now (low .exit)) ⌝ }
 {
@@ -129,10 +135,10 @@ pub fn raise_all(
     to: usize,
     limit: usize,
 ) -> usize
-    requires { ⌜ (1 ≤ limit) × (limit ≤ 15) ⌝ }
-    requires { ⌜ («is-sheet» (now sheet) ≡ true) × (from ≤ to) × (to ≤ «used-in» (now sheet)) ⌝ }
-    requires { ⌜ (length (now sizes) ≡ 4096) × Sized 0 (drop 2 (now sheet)) (now sizes) ⌝ }
-    requires { ⌜ (length (now low) ≡ 4096) × High 1 from to (now low) × Bounds («nodes-in» (now sheet)) (now low) ⌝ }
+    requires { ⌜ (1 ≤ limit) × (limit ≤ «no-rule») ⌝ }
+    requires { ⌜ Formed (now sheet) × (from ≤ to) × (to ≤ «used-in» (now sheet)) ⌝ }
+    requires { ⌜ (length (now sizes) ≡ «sheet-room») × Sized 0 (drop 2 (now sheet)) (now sizes) ⌝ }
+    requires { ⌜ (length (now low) ≡ «sheet-room») × High 1 from to (now low) × Bounds («nodes-in» (now sheet)) (now low) ⌝ }
     ensures { λ r. ⌜ (1 ≤ r) × (r ≤ limit) × High r from to (now (low .exit)) ⌝ }
     ensures { λ r. ⌜ Bounds («nodes-in» (now (sheet .entry))) (now (low .exit)) × Rises (now (low .entry)) (now (low .exit)) ⌝ }
 {

@@ -11,8 +11,8 @@ use lib.ListN.{length, getD, take, drop}
 use lib.Seq.{length-take-le, take-all, take-take, drop-length}
 use Rattle.model.specs.Base.{pick}
 use Rattle.model.specs.Forest.{or, root}
-use Rattle.theory.specs.Evaluation.{fails-empty, fails-both}
-use Rattle.theory.specs.Values.{fails-all}
+use Rattle.theory.specs.Evaluation.{fails-all}
+use Rattle.theory.specs.Values.{or-none, or-more, root-none, root-more}
 use Rattle.theory.specs.Logic.{either, or-right, and-split, and-join, same-test, true-false}
 use Rattle.breaking.specs.Stacks.{among, Places, begin, failing, broken, Stacked, bottom, standing, Counted, Made}
 use Rattle.breaking.proofs.Among.{among-take, among-cut}
@@ -21,46 +21,46 @@ use Rattle.breaking.proofs.Entries.{even-entry, odd-entry, standing-mor
 module _ (q : ℕ) where
   -- A conjunction fails where one of its trees does.
   pub some-fails : (ls fs : List ℕ) → standing fs < length fs → fails-all root (broken q ls fs) ≡ true
-  unfolding fails-all fails-both broken
+  unfolding broken
   some-fails ls [] h = absurd (omega arith)
   some-fails ls (f ∷ fs) h = ⊎-elim
-      (λ e. rw e)
-      (λ e. or-right (failing f || among q (drop (begin f) ls)) (some-fails (take (begin f) ls) fs (omega (arith, standing-more f fs e))))
+      (λ (e : failing f ≡ true). rw (root-more, e))
+      (λ e. rw root-more (or-right (failing f || among q (drop (begin f) ls)) (some-fails (take (begin f) ls) fs (omega (arith, standing-more f fs e)))))
       (either (failing f))
 
   -- Where none does, the literals of all of them break it.
   pub none-fails : (ls fs : List ℕ) {n : ℕ} → length ls ≡ n → Stacked n fs → standing fs ≡ length fs → fails-all root (broken q ls fs) ≡ among q (drop (bottom n fs) ls)
-  unfolding fails-all fails-empty fails-both broken bottom among
-  none-fails ls [] e s h = rw (← e, drop-length ls)
+  unfolding broken bottom among
+  none-fails ls [] e s h = rw (root-none, ← e, drop-length ls)
   none-fails ls (f ∷ fs) e s h = ⊎-elim
       (λ b. absurd (omega (arith, standing-same f fs b, standing-most fs)))
       (λ (b : failing f ≡ false).
       let low = s .0 in
       let rest = none-fails (take (begin f) ls) fs (length-take-le (begin f) ls (omega arith)) (s .2) (omega (arith, standing-more f fs b)) in
-      rw (b, rest)
+      rw (root-more, b, rest)
       (or-comm (among q (drop (begin f) ls)) (among q (drop (bottom (begin f) fs) (take (begin f) ls))) ∙ sym (among-cut q (bottom (begin f) fs) (begin f) ls (bottom-low (begin f) fs (s .2)) (omega arith))))
       (either (failing f))
 
   -- A disjunction fails where all of its trees do.
   pub all-fail : (ls fs : List ℕ) → standing fs ≡ 0 → fails-all or (broken q ls fs) ≡ true
-  unfolding fails-all fails-empty fails-both broken
-  all-fail ls [] h = refl
+  unfolding broken
+  all-fail ls [] h = or-none
   all-fail ls (f ∷ fs) h = ⊎-elim
-      (λ e. rw e (all-fail (take (begin f) ls) fs (sym (standing-same f fs e) ∙ h)))
+      (λ (e : failing f ≡ true). rw (or-more, e) (all-fail (take (begin f) ls) fs (sym (standing-same f fs e) ∙ h)))
       (λ e. absurd (omega (arith, standing-more f fs e)))
       (either (failing f))
 
   -- Where all but one do, the literals of that one break it.
   pub one-stands : (ls fs : List ℕ) {n : ℕ} → length ls ≡ n → Stacked n fs → standing fs ≡ 1 → fails-all or (broken q ls fs) ≡ among q (drop (bottom n fs) ls)
-  unfolding fails-all fails-both broken bottom standing
+  unfolding broken bottom standing
   one-stands ls [] e s h = absurd (omega arith)
   one-stands ls (f ∷ fs) e s h = ⊎-elim
       (λ (b : failing f ≡ true).
       let same : take (begin f) ls ≡ ls = take-all (begin f) ls (omega (arith, s .1 b)) in
-      rw (b, same) (one-stands ls fs (e ∙ sym (s .1 b)) (s .2) (sym (standing-same f fs b) ∙ h)))
+      rw (or-more, b, same) (one-stands ls fs (e ∙ sym (s .1 b)) (s .2) (sym (standing-same f fs b) ∙ h)))
       (λ (b : failing f ≡ false).
       let none : standing fs ≡ 0 = omega (arith, standing-more f fs b) in
-      rw (b, all-fail (take (begin f) ls) fs none, bottom-none (begin f) fs none (s .2)) (and-true (among q (drop (begin f) ls))))
+      rw (or-more, b, all-fail (take (begin f) ls) fs none, bottom-none (begin f) fs none (s .2)) (and-true (among q (drop (begin f) ls))))
       (either (failing f))
 
 -- Where literals were counted, those of the last trees whose counts are at the number break a disjunction.

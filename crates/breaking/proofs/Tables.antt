@@ -9,12 +9,13 @@ use borrow.Author.Tests.{eqb-true, eqb-false, eq-eqb, ne-eqb}
 use lib.Dec.{eqb}
 use lib.ListN.{length, getD, set, List·getD-eq-default}
 use lib.Seq.{getD-set-same, getD-set-other, set-out}
+use Rattle.model.specs.Limits.{most-literals}
 use Rattle.model.specs.Base.{pick}
 use Rattle.theory.specs.Logic.{either, pick-true, pick-false, pick-keeps}
 use Rattle.breaking.specs.Breaking.{opposite}
 use Rattle.breaking.specs.Stacks.{tried}
 
-pub opposite-below : (p : ℕ) → p < 1024 → opposite p < 1024
+pub opposite-below : (p : ℕ) → p < most-literals → opposite p < most-literals
 unfolding opposite
 opposite-below p h = ⊎-elim
     (λ e. rw (pick-true (eqb (p % 2) 0) (p + 1) (p - 1) e) (omega (arith, eqb-true (p % 2) 0 e)))
@@ -32,11 +33,11 @@ module _ (t : List ℕ) (q : ℕ) where
   tried-not e = pick-true (eqb (getD t (opposite q) 0) 1) t (set t q 1) (eq-eqb (getD t (opposite q) 0) 1 e)
 
 -- At a place outside, the table is as it is.
-pub tried-none : (t : List ℕ) → length t ≡ 1024 → tried t 1024 ≡ t
+pub tried-none : (t : List ℕ) → length t ≡ most-literals → tried t most-literals ≡ t
 unfolding opposite pick
 tried-none t h =
-    let out : getD t 1025 0 ≡ 0 = List·getD-eq-default t 0 (omega arith) in
-    tried-asked t 1024 (λ e. omega arith) ∙ set-out t 1024 1 (omega arith)
+    let out : getD t (most-literals + 1) 0 ≡ 0 = List·getD-eq-default t 0 (omega arith) in
+    tried-asked t most-literals (λ e. omega arith) ∙ set-out t most-literals 1 (omega arith)
 
 -- Whether a literal fails: where it did, or where it is the one and its complement does not.
 module _ (t : List ℕ) (q p : ℕ) (inside : p < length t) where

@@ -8,8 +8,9 @@ use Prim.Native.Nat.{ℕ, suc, _+_, _/_, _%_, _≤_, _<_}
 use lib.Dec.{eqb}
 use lib.ListN.{length, getD, set, take, drop}
 use Rattle.model.specs.Base.{pick}
+use Rattle.model.specs.Limits.{sheet-room, most-literals}
 use Rattle.model.specs.Forest.{or}
-use Rattle.theory.specs.Values.{fails-all}
+use Rattle.theory.specs.Evaluation.{fails-all}
 use Rattle.breaking.specs.Breaking.{opposite}
 
 -- Whether a number is one of a list.
@@ -19,7 +20,7 @@ among q (x ∷ xs) = eqb q x || among q xs
 
 -- All numbers of a list are places of a table.
 abbrev pub Places : List ℕ → Type 0
-Places ls = (x : ℕ) → among x ls ≡ true → x < 1024
+Places ls = (x : ℕ) → among x ls ≡ true → x < most-literals
 
 -- What an entry says: half of it is where the tree's literals begin, and it is odd where the tree fails as it is.
 unfoldable pub begin : ℕ → ℕ
@@ -58,7 +59,7 @@ raised n ls held x = pick (among x ls && eqb (getD held x 0) n) (n + 1) (getD he
 
 -- Every count is zero.
 abbrev pub Blank : List ℕ → Type 0
-Blank held = (length held ≡ 1024) × ((x : ℕ) → getD held x 0 ≡ 0)
+Blank held = (length held ≡ most-literals) × ((x : ℕ) → getD held x 0 ≡ 0)
 
 -- No count but those of a list's numbers differs from zero.
 abbrev pub Blank-but : List ℕ → List ℕ → Type 0
@@ -66,7 +67,7 @@ Blank-but ls held = (x : ℕ) → (getD held x 0 ≡ 0) ⊎ (among x ls ≡ true
 
 -- The entries of the trees last read, whose literals stand from a base to an end.
 pub record Children (places fs : List ℕ) (base end : ℕ) : Type 0 where
-  pub few : length fs ≤ 4096
+  pub few : length fs ≤ sheet-room
   pub room : end ≤ length places
   pub inside : Places (take end places)
   pub stacked : Stacked end fs

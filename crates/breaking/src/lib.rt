@@ -6,18 +6,26 @@ ghost use Prim.Native.Nat.{ℕ, _+_, _≤_, _<_};
 ghost use lib.Dec.{eqb};
 ghost use lib.ListN.{length, getD, take, drop};
 ghost use Rattle.model.specs.Base.{pick};
+ghost use Rattle.model.specs.Limits.{«sheet-room», «most-literals»};
 ghost use Rattle.model.specs.Forest.{or, root};
-ghost use Rattle.model.specs.Code.{kind, value};
-ghost use Rattle.theory.specs.Values.{«fails-all»};
+ghost use Rattle.model.specs.Code.{kind, children};
+ghost use Rattle.theory.specs.Evaluation.{«fails-all»};
 ghost use Rattle.theory.specs.Scan.{«is-literal»};
 ghost use Rattle.evaluation.specs.Reading.{«place-at», «with-node», «Spells-tree»};
 ghost use Rattle.breaking.specs.Breaking.{opposite, Breaking};
 ghost use Rattle.breaking.specs.Stacks.{among, Places, broken, Stacked, bottom, standing, tried, raised, Blank, «Blank-but», Children, Counted, Made, Stack};
+use limits::MOST_LITERALS;
 
 // A tree that is made: its entry, and where its literals end.
 pub struct Tree {
     pub first: u16,
     pub end: usize,
+}
+
+// What a pass over a tree tells: so many literals break it, or it fails as it is.
+pub enum Verdict {
+    BrokenBy(usize),
+    Fails,
 }
 
 // Where the stack begins, and where its literals end.
@@ -28,7 +36,7 @@ pub struct Top {
 
 // The place of the complement of the literal at a place.
 pub fn opposite_of(place: usize) -> usize
-    requires { ⌜ place < 1024 ⌝ }
+    requires { ⌜ place < «most-literals» ⌝ }
     ensures { λ r. ⌜ r ≡ opposite place ⌝ }
 {
     if place % 2 == 0 {
@@ -39,7 +47,7 @@ pub fn opposite_of(place: usize) -> usize
 
 // Raises the count of each literal of a list that is at a number.
 fn hold(list: &[u16], held: &mut [u16], count: u16)
-    requires { ⌜ Places (now list) × (length (now held) ≡ 1024) × (count < 65535) ⌝ }
+    requires { ⌜ Places (now list) × (length (now held) ≡ «most-literals») × (count < 65535) ⌝ }
     ensures { λ r. ⌜ ((x : ℕ) → getD (now (held .exit)) x 0 ≡ raised count (now (list .entry)) (now (held .entry)) x) ⌝ }
 {
     let mut i = 0;
@@ -55,7 +63,7 @@ fn hold(list: &[u16], held: &mut [u16], count: u16)
 // Counts, for each literal, how many trees have it, as long as each has it that does not fail as it is. How many those are.
 fn hold_all(children: &[u16], places: &[u16], end: usize, held: &mut [u16]) -> u16
     requires { ⌜ (end ≤ length (now places)) × Places (take end (now places)) × Blank (now held) ⌝ }
-    requires { ⌜ (length (now children) ≤ 4096) × Stacked end (now children) ⌝ }
+    requires { ⌜ (length (now children) ≤ «sheet-room») × Stacked end (now children) ⌝ }
     ensures { λ r. ⌜ Counted (take end (now (places .entry))) (now (children .entry)) (now (held .exit)) r ⌝ }
 {
     let mut count = 0;
@@ -76,7 +84,7 @@ fn hold_all(children: &[u16], places: &[u16], end: usize, held: &mut [u16]) -> u
 
 // Keeps of a list, from its start on, each literal once whose count is at a number, and sets the counts back. How many.
 fn keep(list: &mut [u16], count: u16, held: &mut [u16]) -> usize
-    requires { ⌜ Places (now list) × (length (now held) ≡ 1024) × (1 ≤ count) × «Blank-but» (now list) (now held) ⌝ }
+    requires { ⌜ Places (now list) × (length (now held) ≡ «most-literals») × (1 ≤ count) × «Blank-but» (now list) (now held) ⌝ }
     ensures { λ r. ⌜ (r ≤ length (now (list .entry))) × ((x : ℕ) → among x (take r (now (list .exit))) ≡ (among x (now (list .entry)) && eqb (getD (now (held .entry)) x 0) count)) ⌝ }
     ensures { λ r. ⌜ ((x : ℕ) → getD (now (held .exit)) x 0 ≡ 0) ⌝ }
 {
@@ -137,7 +145,7 @@ fn join(
     places: &mut [u16],
     held: &mut [u16],
 ) -> Tree
-    requires { ⌜ Children (now places) (now children) base end × (length (now places) ≡ 4096) × Blank (now held) ⌝ }
+    requires { ⌜ Children (now places) (now children) base end × (length (now places) ≡ «sheet-room») × Blank (now held) ⌝ }
     ensures { λ r. ⌜ Made (λ q. «fails-all» (pick disjunction or root) (broken q (take end (now (places .entry))) (now (children .entry)))) (take end (now (places .entry))) (now (children .entry)) (take (r .end) (now (places .exit))) (r .first) ⌝ }
     ensures { λ r. ⌜ (r .end ≤ end) × Blank (now (held .exit)) ⌝ }
 {
@@ -178,8 +186,8 @@ fn base_of(children: &[u16], end: usize) -> usize
 
 // A literal fails as it is, or is broken by itself; not where its complement fails, since then nobody asks.
 fn read_literal(place: usize, failed: &[u8], end: usize, places: &mut [u16]) -> Tree
-    requires { ⌜ (place < 1024) × (length (now failed) ≡ 1024) ⌝ }
-    requires { ⌜ (end < length (now places)) × (length (now places) ≡ 4096) × Places (take end (now places)) ⌝ }
+    requires { ⌜ (place < «most-literals») × (length (now failed) ≡ «most-literals») ⌝ }
+    requires { ⌜ (end < length (now places)) × (length (now places) ≡ «sheet-room») × Places (take end (now places)) ⌝ }
     ensures { λ r. ⌜ Made (λ q. eqb (getD (tried (now (failed .entry)) q) place 0) 1) (take end (now (places .entry))) [] (take (r .end) (now (places .exit))) (r .first) ⌝ }
     ensures { λ r. ⌜ r .end ≤ end + 1 ⌝ }
 {
@@ -212,12 +220,12 @@ fn read_group(
     firsts: &[u16],
     held: &mut [u16],
 ) -> Tree
-    requires { ⌜ (top + value x ≤ length (now firsts)) × (length (now firsts) ≡ 4096) × Stack (now places) (now firsts) top end ⌝ }
-    requires { ⌜ (length (now places) ≡ 4096) × Blank (now held) ⌝ }
-    ensures { λ r. ⌜ Made (λ q. «fails-all» (pick (eqb (kind x) 4) or root) (broken q (take end (now (places .entry))) (take (value x) (drop top (now (firsts .entry)))))) (take end (now (places .entry))) (take (value x) (drop top (now (firsts .entry)))) (take (r .end) (now (places .exit))) (r .first) ⌝ }
+    requires { ⌜ (top + children x ≤ length (now firsts)) × (length (now firsts) ≡ «sheet-room») × Stack (now places) (now firsts) top end ⌝ }
+    requires { ⌜ (length (now places) ≡ «sheet-room») × Blank (now held) ⌝ }
+    ensures { λ r. ⌜ Made (λ q. «fails-all» (pick (eqb (kind x) 4) or root) (broken q (take end (now (places .entry))) (take (children x) (drop top (now (firsts .entry)))))) (take end (now (places .entry))) (take (children x) (drop top (now (firsts .entry)))) (take (r .end) (now (places .exit))) (r .first) ⌝ }
     ensures { λ r. ⌜ (r .end ≤ end) × Blank (now (held .exit)) ⌝ }
 {
-    let to = top + nodes::value_of(x);
+    let to = top + nodes::children_of(x);
     let base = base_of(&firsts[top..to], end);
     join(
         &firsts[top..to],
@@ -239,9 +247,9 @@ fn read_node(
     firsts: &mut [u16],
     held: &mut [u16],
 ) -> Top
-    requires { ⌜ (1 ≤ top) × («is-literal» x ≡ true → «place-at» x < 1024) × («is-literal» x ≡ false → top + value x ≤ length (now firsts)) ⌝ }
-    requires { ⌜ (end < 4096) × (length (now places) ≡ 4096) × (length (now firsts) ≡ 4096) × Stack (now places) (now firsts) top end ⌝ }
-    requires { ⌜ (length (now failed) ≡ 1024) × Blank (now held) ⌝ }
+    requires { ⌜ (1 ≤ top) × («is-literal» x ≡ true → «place-at» x < «most-literals») × («is-literal» x ≡ false → top + children x ≤ length (now firsts)) ⌝ }
+    requires { ⌜ (end < «sheet-room») × (length (now places) ≡ «sheet-room») × (length (now firsts) ≡ «sheet-room») × Stack (now places) (now firsts) top end ⌝ }
+    requires { ⌜ (length (now failed) ≡ «most-literals») × Blank (now held) ⌝ }
     ensures { λ r. ⌜ (r .end ≤ end + 1) × Stack (now (places .exit)) (now (firsts .exit)) (r .top) (r .end) × Blank (now (held .exit)) ⌝ }
     ensures { λ r. ⌜ ((q : ℕ) → broken q (take (r .end) (now (places .exit))) (drop (r .top) (now (firsts .exit))) ≡ «with-node» (tried (now (failed .entry)) q) x (broken q (take end (now (places .entry))) (drop top (now (firsts .entry))))) ⌝ }
 {
@@ -254,7 +262,7 @@ fn read_node(
             end: tree.end,
         };
     }
-    let new = top + nodes::value_of(x) - 1;
+    let new = top + nodes::children_of(x) - 1;
     let tree = read_group(x, top, end, places, firsts, held);
     firsts[new] = tree.first;
     Top {
@@ -263,13 +271,13 @@ fn read_node(
     }
 }
 
-// The literals that break a tree: their places, at the start of a list, and how many; or a number above 4,096, where the tree
-// fails as it is. The stack is lent; what the list and the stack hold before does not matter.
-pub fn breaking(tree: &[u16], failed: &[u8], places: &mut [u16], firsts: &mut [u16]) -> usize
-    requires { ⌜ «Spells-tree» (now tree) × (length (now tree) ≤ 4096) × (length (now failed) ≡ 1024) × (length (now places) ≡ 4096) × (length (now firsts) ≡ 4096) ⌝ }
+// The literals that break a tree, unless it fails as it is: their places, at the start of a list, and how many. The stack is lent;
+// what the list and the stack hold before does not matter.
+pub fn breaking(tree: &[u16], failed: &[u8], places: &mut [u16], firsts: &mut [u16]) -> Verdict
+    requires { ⌜ «Spells-tree» (now tree) × (length (now tree) ≤ «sheet-room») × (length (now failed) ≡ «most-literals») × (length (now places) ≡ «sheet-room») × (length (now firsts) ≡ «sheet-room») ⌝ }
     ensures { λ r. ⌜ Breaking (now (failed .entry)) (now (tree .entry)) (now (places .exit)) r ⌝ }
 {
-    let mut held = [0u16; 1024];
+    let mut held = [0u16; MOST_LITERALS];
     let mut top = firsts.len();
     let mut end = 0;
     let mut i = tree.len();
@@ -288,7 +296,7 @@ pub fn breaking(tree: &[u16], failed: &[u8], places: &mut [u16], firsts: &mut [u
         end = next.end;
     }
     if firsts[top] % 2 == 1 {
-        return 4097;
+        return Verdict::Fails;
     }
-    end
+    Verdict::BrokenBy(end)
 }

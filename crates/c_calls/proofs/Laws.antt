@@ -2,7 +2,7 @@
 use mathlib.Core.List.{List}
 use Prim.Native.Nat.{ℕ}
 use native.Mathlib.Omega.{arith}
-use Rattle.model.specs.Calls.{lookupOf}
+use Rattle.calls.specs.Calls.{lookupOf}
 use Rattle.books.proofs.Found.{found-small}
 use Rattle.c_calls.specs.Packed.{Fits}
 

@@ -1,7 +1,8 @@
 -- An answer as one number: the refusal in the low 8 bits (0: accepted), the value in the rest.
 use mathlib.Core.Path.{_≡_}
 use Prim.Native.Nat.{ℕ, _*_, _<_}
-use Rattle.model.specs.Calls.{Answer, refused, accepted, refusal-number}
+use Rattle.calls.specs.Refusals.{refusal-number}
+use Rattle.calls.specs.Outcomes.{Answer, refused, accepted}
 
 abbrev pub packed : {A : Type 0} → (A → ℕ) → Answer A → ℕ
 packed value (refused r) = refusal-number r

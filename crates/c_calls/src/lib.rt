@@ -1,7 +1,8 @@
 // The two calls that the order desk, a C program, makes on plain bytes. Each answers one number: its low 8 bits are the refusal (0:
 // accepted), the rest is the value (the option that a lookup found, else 0).
 ghost use mathlib.Core.Path.{_≡_};
-ghost use Rattle.model.specs.Calls.{«refusal-number», checkOf, lookupOf};
+ghost use Rattle.calls.specs.Refusals.{«refusal-number»};
+ghost use Rattle.calls.specs.Calls.{checkOf, lookupOf};
 ghost use Rattle.answers.specs.Meaning.{refusalOf, doneOf, foundOf};
 ghost use Rattle.c_calls.specs.Packed.{packedDone, packedValue, Fits};
 use answers::Done;

@@ -10,20 +10,21 @@ use lib.Dec.{eqb}
 use lib.ListN.{length, getD, take, set, replicate, length-set, length-replicate, getD-replicate}
 use lib.Seq.{getD-take, getD-set-same, getD-set-other}
 use Rattle.model.specs.Base.{same-list}
+use Rattle.model.specs.Limits.{most-options, code-length}
 use Rattle.model.specs.Book.{same-code, code-ok, codes-ok, pieces}
 use Rattle.codes.specs.Places.{code-at}
 use Rattle.codes.proofs.Laws.{from-first}
-use Rattle.chains.specs.Chains.{comes-from, comes-after, quad, hash, Link, Links, Walk}
+use Rattle.chains.specs.Chains.{comes-from, comes-after, quad, hash, Link, Links, Walk, buckets}
 use Rattle.chains.proofs.Laws.{ok-from, ok-more, ok-past, comes-more, comes-past}
 
 -- The hash of a code is read off its 13 bytes.
-quad-take : (s : List ℕ) (k : ℕ) → k + 4 ≤ 13 → quad (take 13 s) k ≡ quad s k
+quad-take : (s : List ℕ) (k : ℕ) → k + 4 ≤ code-length → quad (take code-length s) k ≡ quad s k
 unfolding quad
-quad-take s k h = rw (getD-take 13 s k 0 (omega arith), getD-take 13 s (k + 1) 0 (omega arith), getD-take 13 s (k + 2) 0 (omega arith), getD-take 13 s (k + 3) 0 (omega arith))
+quad-take s k h = rw (getD-take code-length s k 0 (omega arith), getD-take code-length s (k + 1) 0 (omega arith), getD-take code-length s (k + 2) 0 (omega arith), getD-take code-length s (k + 3) 0 (omega arith))
 
-pub hash-take : (s : List ℕ) → hash (take 13 s) ≡ hash s
+pub hash-take : (s : List ℕ) → hash (take code-length s) ≡ hash s
 unfolding hash
-hash-take s = rw (quad-take s 0 (omega arith), quad-take s 4 (omega arith), quad-take s 8 (omega arith), getD-take 13 s 12 0 (omega arith))
+hash-take s = rw (quad-take s 0 (omega arith), quad-take s 4 (omega arith), quad-take s 8 (omega arith), getD-take code-length s 12 0 (omega arith))
 
 -- Codes of different hashes are different.
 both : (a b : Bool) → a && b ≡ true → (a ≡ true) × (b ≡ true)
@@ -76,13 +77,13 @@ module _ (n : ℕ) (s : List ℕ) where
 pub record Entered (n : ℕ) (s first next : List ℕ) (i : ℕ) : Type 0 where
   pub left : i ≤ n
   pub good : ok-from n s i ≡ true
-  pub hashes : length first ≡ 1024
-  pub places : length next ≡ 512
-  pub heads : (h : ℕ) → h < 1024 → Link n s i h (getD first h 0)
+  pub hashes : length first ≡ buckets
+  pub places : length next ≡ most-options
+  pub heads : (h : ℕ) → h < buckets → Link n s i h (getD first h 0)
   pub links : Links n s next i
 
 -- Before the first is entered, before one more is, and after all are.
-pub entered-none : (n : ℕ) (s : List ℕ) (a b : ℕ) → a ≡ 1024 → b ≡ 512 → n ≤ 512 → Entered n s (replicate a 65535) (replicate b 65535) n
+pub entered-none : (n : ℕ) (s : List ℕ) (a b : ℕ) → a ≡ buckets → b ≡ most-options → n ≤ most-options → Entered n s (replicate a 65535) (replicate b 65535) n
 entered-none n s a b e f l =
     let none : ℕ = 65535 in
     record {
@@ -97,7 +98,7 @@ entered-none n s a b e f l =
 pub entered-before : {n : ℕ} {s first next : List ℕ} {i : ℕ} → 0 < i → Entered n s first next i → Entered n s first next (i - 1 + 1)
 entered-before {i = i} l t = let e : i - 1 + 1 ≡ i = omega arith in rw e t
 
-pub entered-all : {n : ℕ} {s first next : List ℕ} {i : ℕ} → i ≡ 0 → Entered n s first next i → codes-ok (pieces 13 n s) ≡ true
+pub entered-all : {n : ℕ} {s first next : List ℕ} {i : ℕ} → i ≡ 0 → Entered n s first next i → codes-ok (pieces code-length n s) ≡ true
 entered-all {n} {s} e t = rw (← from-first n s) (rw e at (t .good))
 
 -- One of them that is malformed or comes again spoils all.
@@ -106,18 +107,18 @@ spoilt true true = refl
 spoilt true false = refl
 spoilt false b = refl
 
-pub bad-from : (n : ℕ) (s : List ℕ) (i : ℕ) → i ≤ n → ok-from n s i ≡ false → codes-ok (pieces 13 n s) ≡ false
+pub bad-from : (n : ℕ) (s : List ℕ) (i : ℕ) → i ≤ n → ok-from n s i ≡ false → codes-ok (pieces code-length n s) ≡ false
 bad-from n s zero l e = rw (← from-first n s) e
 bad-from n s (suc i) l e =
     bad-from n s i (omega arith) (ok-more n s i (omega arith) ∙ rw (add-one i, e) (spoilt (code-ok (code-at s i)) (not (comes-after n s i))))
 
 -- One code more, with its hash.
-module _ {n : ℕ} {s first next : List ℕ} {i : ℕ} (t : Entered n s first next (i + 1)) (few : n ≤ 512) (h : ℕ) (small : h < 1024) (key : h ≡ hash (code-at s i)) where
+module _ {n : ℕ} {s first next : List ℕ} {i : ℕ} (t : Entered n s first next (i + 1)) (few : n ≤ most-options) (h : ℕ) (small : h < buckets) (key : h ≡ hash (code-at s i)) where
   here : i < n
   here = omega (arith, t .left)
 
   -- Code i comes first of its hash, and those of other hashes stay; it leads to the code that came first before.
-  heads-more : (k : ℕ) → k < 1024 → Link n s i k (getD (set first h i) k 0)
+  heads-more : (k : ℕ) → k < buckets → Link n s i k (getD (set first h i) k 0)
   heads-more k m = go (eqb k h) refl
     where
       go : (b : Bool) → eqb k h ≡ b → Link n s i k (getD (set first h i) k 0)
@@ -132,7 +133,7 @@ module _ {n : ℕ} {s first next : List ℕ} {i : ℕ} (t : Entered n s first ne
       go false e = rw (getD-set-other next i k (getD first h 0) 0 (eqb-false k i e)) (t .links k (omega (arith, eqb-false k i e)) b)
 
   -- The later codes of its hash can be looked through, and it is entered if it is well-formed and none of them.
-  pub walk : 13 * n ≤ length s → {p : ℕ} → p ≡ getD first h 0 → Walk n s i next p
+  pub walk : code-length * n ≤ length s → {p : ℕ} → p ≡ getD first h 0 → Walk n s i next p
   walk long e = record { few = few; long = long; here = here; begun = rw (e, ← key) (t .heads h small); links = t .links }
 
   pub entered-more : code-ok (code-at s i) ≡ true → comes-after n s i ≡ false → Entered n s (set first h i) (set next i (getD first h 0)) i

@@ -3,17 +3,23 @@ ghost use mathlib.Core.Path.{_≡_};
 ghost use Prim.Native.Nat.{_+_, _*_, _-_, _≤_, _<_};
 ghost use lib.ListN.{length, take, drop};
 ghost use Rattle.model.specs.Base.{any};
+ghost use Rattle.model.specs.Limits.{«most-options», «code-length»};
 ghost use Rattle.model.specs.Book.{«same-code», «codes-ok», pieces};
-ghost use Rattle.chains.specs.Chains.{quad, hash, Walk, «comes-after»};
+ghost use Rattle.chains.specs.Chains.{quad, buckets, hash, Walk, «comes-after»};
+use limits::CODE_LENGTH;
+use limits::MOST_OPTIONS;
+
+// A list of codes for each hash: a hash has ten bits.
+const BUCKETS: usize = 1024;
 
 // The first of n codes equals a later one.
 fn is_repeated(s: &[u8], n: usize) -> bool
-    requires { ⌜ (1 ≤ n) × (13 * n ≤ length (now s)) ⌝ }
-    ensures { λ r. ⌜ r ≡ any («same-code» (take 13 (now (s .entry)))) (pieces 13 (n - 1) (drop 13 (now (s .entry)))) ⌝ }
+    requires { ⌜ (1 ≤ n) × («code-length» * n ≤ length (now s)) ⌝ }
+    ensures { λ r. ⌜ r ≡ any («same-code» (take «code-length» (now (s .entry)))) (pieces «code-length» (n - 1) (drop «code-length» (now (s .entry)))) ⌝ }
 {
     let mut i = 1;
     while i < n {
-        let at = 13 * i;
+        let at = CODE_LENGTH * i;
         if codes::is_same(s, &s[at..]) {
             return true;
         }
@@ -35,23 +41,23 @@ fn quad_at(s: &[u8], k: usize) -> usize
 // The hash of the first code: ten bits to which each of its 13 bytes contributes. The factors are odd and have no meaning; they
 // were taken because codes that differ in any two of their bytes, or in a number, spread well.
 fn hash_of(s: &[u8]) -> usize
-    requires { ⌜ 13 ≤ length (now s) ⌝ }
-    ensures { λ r. ⌜ (r ≡ hash (take 13 (now (s .entry)))) × (r < 1024) ⌝ }
+    requires { ⌜ «code-length» ≤ length (now s) ⌝ }
+    ensures { λ r. ⌜ (r ≡ hash (take «code-length» (now (s .entry)))) × (r < buckets) ⌝ }
 {
     let start = 590689913 * quad_at(s, 0) + 886825557 * quad_at(s, 4);
     let end = 694313169 * quad_at(s, 8) + 932360273 * numbers::wide(s[12]);
-    (start + end) / 4194304 % 1024
+    (start + end) / 4194304 % BUCKETS
 }
 
 // Code i of n equals a later one. A place leads to the next code of the same hash, `from` is the first after i.
-fn comes_again(s: &[u8], n: usize, i: usize, next: &[u16; 512], from: usize) -> bool
+fn comes_again(s: &[u8], n: usize, i: usize, next: &[u16; MOST_OPTIONS], from: usize) -> bool
     requires { ⌜ Walk n (now s) i (now next) from ⌝ }
     ensures { λ r. ⌜ r ≡ «comes-after» n (now (s .entry)) i ⌝ }
 {
-    let at = 13 * i;
+    let at = CODE_LENGTH * i;
     let mut q = from;
     while q < n {
-        let there = 13 * q;
+        let there = CODE_LENGTH * q;
         if codes::is_same(&s[at..], &s[there..]) {
             return true;
         }
@@ -63,15 +69,15 @@ fn comes_again(s: &[u8], n: usize, i: usize, next: &[u16; 512], from: usize) -> 
 // Each of n codes, no more than the tables hold, is well-formed and equals no other. The codes are entered from the last on:
 // `first` has for a hash the first code entered so far, `next` for a code the next one of its hash, and 65535 stands for none.
 fn are_few_codes(s: &[u8], n: usize) -> bool
-    requires { ⌜ (n ≤ 512) × (13 * n ≤ length (now s)) ⌝ }
-    ensures { λ r. ⌜ r ≡ «codes-ok» (pieces 13 n (now (s .entry))) ⌝ }
+    requires { ⌜ (n ≤ «most-options») × («code-length» * n ≤ length (now s)) ⌝ }
+    ensures { λ r. ⌜ r ≡ «codes-ok» (pieces «code-length» n (now (s .entry))) ⌝ }
 {
-    let mut first = [65535u16; 1024];
-    let mut next = [65535u16; 512];
+    let mut first = [65535u16; BUCKETS];
+    let mut next = [65535u16; MOST_OPTIONS];
     let mut i = n;
     while 0 < i {
         i -= 1;
-        let at = 13 * i;
+        let at = CODE_LENGTH * i;
         if !codes::is_code(&s[at..]) {
             return false;
         }
@@ -88,12 +94,12 @@ fn are_few_codes(s: &[u8], n: usize) -> bool
 
 // Each of n codes is well-formed and equals no other. Codes that the tables have no room for are compared with every later one.
 pub fn are_codes(s: &[u8], n: usize) -> bool
-    requires { ⌜ 13 * n ≤ length (now s) ⌝ }
-    ensures { λ r. ⌜ r ≡ «codes-ok» (pieces 13 n (now (s .entry))) ⌝ }
+    requires { ⌜ «code-length» * n ≤ length (now s) ⌝ }
+    ensures { λ r. ⌜ r ≡ «codes-ok» (pieces «code-length» n (now (s .entry))) ⌝ }
 {
     let mut i = 0;
-    while 512 < n - i {
-        let at = 13 * i;
+    while MOST_OPTIONS < n - i {
+        let at = CODE_LENGTH * i;
         if !codes::is_code(&s[at..]) {
             return false;
         }
@@ -102,6 +108,6 @@ pub fn are_codes(s: &[u8], n: usize) -> bool
         }
         i += 1;
     }
-    let rest = 13 * i;
+    let rest = CODE_LENGTH * i;
     are_few_codes(&s[rest..], n - i)
 }

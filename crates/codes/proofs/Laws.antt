@@ -7,28 +7,29 @@ use native.Mathlib.Omega.{arith}
 use borrow.Rule.Slice.PartAt.{part-to-end}
 use lib.ListN.{length, getD}
 use lib.Seq.{slice, slice-cons, drop-drop}
+use Rattle.model.specs.Limits.{code-length}
 use Rattle.model.specs.Book.{pieces}
 use Rattle.codes.specs.Places.{lent-from, code-at, codes-after, codes-from}
 
 -- What is left of a code from byte k on begins with that byte.
-pub byte-more : (k : ℕ) (s : List ℕ) → k < 13 → 13 ≤ length s → slice k 13 s ≡ getD s k 0 ∷ slice (k + 1) 13 s
-byte-more k s h l = rw (add-one k) (slice-cons k 13 s 0 h l)
+pub byte-more : (k : ℕ) (s : List ℕ) → k < code-length → code-length ≤ length s → slice k code-length s ≡ getD s k 0 ∷ slice (k + 1) code-length s
+byte-more k s h l = rw (add-one k) (slice-cons k code-length s 0 h l)
 
 -- The codes from a place on: from the first, from code i, from the one after it, and past the last.
 module _ (n : ℕ) (s : List ℕ) where
-  pub from-first : codes-from n s 0 ≡ pieces 13 n s
+  pub from-first : codes-from n s 0 ≡ pieces code-length n s
   from-first = let e : n - 0 ≡ n = omega arith in rw (part-to-end s 0, e)
 
   pub from-cons : (i : ℕ) → i < n → codes-from n s i ≡ code-at s i ∷ codes-after n s i
   unfolding pieces
-  from-cons i h = let e : n - i ≡ suc (n - i - 1) = omega arith in ap (λ k. pieces 13 k (lent-from s i)) e
+  from-cons i h = let e : n - i ≡ suc (n - i - 1) = omega arith in ap (λ k. pieces code-length k (lent-from s i)) e
 
   pub from-next : (i : ℕ) → codes-from n s (i + 1) ≡ codes-after n s i
   from-next i =
       let e : n - (i + 1) ≡ n - i - 1 = omega arith in
-      let f : 13 * (i + 1) ≡ 13 * i + 13 = omega arith in
-      rw (part-to-end s (13 * i), part-to-end s (13 * (i + 1)), drop-drop 13 (13 * i) s, e, f)
+      let f : code-length * (i + 1) ≡ code-length * i + code-length = omega arith in
+      rw (part-to-end s (code-length * i), part-to-end s (code-length * (i + 1)), drop-drop code-length (code-length * i) s, e, f)
 
   pub from-past : (i : ℕ) → n ≤ i → codes-from n s i ≡ []
   unfolding pieces
-  from-past i h = let e : n - i ≡ 0 = omega arith in ap (λ k. pieces 13 k (lent-from s i)) e
+  from-past i h = let e : n - i ≡ 0 = omega arith in ap (λ k. pieces code-length k (lent-from s i)) e

@@ -5,8 +5,10 @@ ghost use lib.ListN.{length, take};
 ghost use lib.Dec.{eqb};
 ghost use lib.Seq.{slice};
 ghost use Rattle.model.specs.Base.{all};
+ghost use Rattle.model.specs.Limits.{«code-length»};
 ghost use Rattle.model.specs.Book.{between, character, characters, «code-ok», «same-code», pieces, «option-of-code»};
 ghost use Rattle.codes.specs.Places.{placeOf};
+use limits::CODE_LENGTH;
 
 // Where a code stands among the codes, counted from 0.
 pub enum Place {
@@ -30,11 +32,11 @@ fn is_character(x: u8) -> bool
 
 // From a place on, the first 13 bytes are zero.
 fn is_zero_from(s: &[u8], from: usize) -> bool
-    requires { ⌜ (13 ≤ length (now s)) × (from ≤ 13) ⌝ }
-    ensures { λ r. ⌜ r ≡ all (eqb 0) (slice from 13 (now (s .entry))) ⌝ }
+    requires { ⌜ («code-length» ≤ length (now s)) × (from ≤ «code-length») ⌝ }
+    ensures { λ r. ⌜ r ≡ all (eqb 0) (slice from «code-length» (now (s .entry))) ⌝ }
 {
     let mut k = from;
-    while k < 13 {
+    while k < CODE_LENGTH {
         if s[k] != 0 {
             return false;
         }
@@ -45,14 +47,14 @@ fn is_zero_from(s: &[u8], from: usize) -> bool
 
 // The first code has 1 to 13 characters, then zero bytes.
 pub fn is_code(s: &[u8]) -> bool
-    requires { ⌜ 13 ≤ length (now s) ⌝ }
-    ensures { λ r. ⌜ r ≡ «code-ok» (take 13 (now (s .entry))) ⌝ }
+    requires { ⌜ «code-length» ≤ length (now s) ⌝ }
+    ensures { λ r. ⌜ r ≡ «code-ok» (take «code-length» (now (s .entry))) ⌝ }
 {
     if !is_character(s[0]) {
         return false;
     }
     let mut k = 1;
-    while k < 13 {
+    while k < CODE_LENGTH {
         if !is_character(s[k]) {
             return is_zero_from(s, k);
         }
@@ -63,11 +65,11 @@ pub fn is_code(s: &[u8]) -> bool
 
 // The first codes of two slices are the same in all 13 bytes.
 pub fn is_same(s: &[u8], t: &[u8]) -> bool
-    requires { ⌜ (13 ≤ length (now s)) × (13 ≤ length (now t)) ⌝ }
-    ensures { λ r. ⌜ r ≡ «same-code» (take 13 (now (s .entry))) (take 13 (now (t .entry))) ⌝ }
+    requires { ⌜ («code-length» ≤ length (now s)) × («code-length» ≤ length (now t)) ⌝ }
+    ensures { λ r. ⌜ r ≡ «same-code» (take «code-length» (now (s .entry))) (take «code-length» (now (t .entry))) ⌝ }
 {
     let mut k = 0;
-    while k < 13 {
+    while k < CODE_LENGTH {
         if s[k] != t[k] {
             return false;
         }
@@ -78,11 +80,11 @@ pub fn is_same(s: &[u8], t: &[u8]) -> bool
 
 // The characters of the first code are exactly those given.
 fn is_spelled(s: &[u8], given: &[u8]) -> bool
-    requires { ⌜ 13 ≤ length (now s) ⌝ }
-    ensures { λ r. ⌜ r ≡ «same-code» (now (given .entry)) (characters (take 13 (now (s .entry)))) ⌝ }
+    requires { ⌜ «code-length» ≤ length (now s) ⌝ }
+    ensures { λ r. ⌜ r ≡ «same-code» (now (given .entry)) (characters (take «code-length» (now (s .entry)))) ⌝ }
 {
     let n = given.len();
-    if 13 < n {
+    if CODE_LENGTH < n {
         return false;
     }
     let mut j = 0;
@@ -95,7 +97,7 @@ fn is_spelled(s: &[u8], given: &[u8]) -> bool
         }
         j += 1;
     }
-    if n == 13 {
+    if n == CODE_LENGTH {
         return true;
     }
     s[n] == 0
@@ -103,12 +105,12 @@ fn is_spelled(s: &[u8], given: &[u8]) -> bool
 
 // Where the code with the given characters stands among n codes.
 pub fn find(s: &[u8], n: usize, given: &[u8]) -> Place
-    requires { ⌜ 13 * n ≤ length (now s) ⌝ }
-    ensures { λ r. ⌜ placeOf r ≡ «option-of-code» (now (given .entry)) 0 (pieces 13 n (now (s .entry))) ⌝ }
+    requires { ⌜ «code-length» * n ≤ length (now s) ⌝ }
+    ensures { λ r. ⌜ placeOf r ≡ «option-of-code» (now (given .entry)) 0 (pieces «code-length» n (now (s .entry))) ⌝ }
 {
     let mut i = 0;
     while i < n {
-        let at = 13 * i;
+        let at = CODE_LENGTH * i;
         if is_spelled(&s[at..], given) {
             return Place::Index(i);
         }

@@ -3,13 +3,14 @@ use mathlib.Core.Bool.{true, false}
 use mathlib.Core.List.{List}
 use mathlib.Core.Logic.{_⊎_, inl, inr, ⊎-elim}
 use mathlib.Core.Path.{_≡_, sym, ap, subst, _∙_}
-use Prim.Native.Nat.{ℕ, _+_, _-_, _/_, _≤_, _<_}
+use Prim.Native.Nat.{ℕ, _+_, _-_, _/_, _≤_, _<_, _*_}
 use native.Mathlib.Omega.{arith}
 use borrow.Author.Tests.{eqb-true, eqb-false, ltb-true, lt-ltb}
 use lib.Dec.{eqb}
 use lib.ListN.{length, getD, drop, set}
 use lib.Seq.{getD-set-other, getD-set-same, drop-drop}
-use Rattle.model.specs.Code.{kind, value}
+use Rattle.model.specs.Limits.{kind-factor}
+use Rattle.model.specs.Code.{kind, children}
 use Rattle.theory.specs.Logic.{true-false, either, or-split, pick-true, pick-false, pick-keeps}
 use Rattle.theory.specs.Scan.{is-literal}
 use Rattle.theory.specs.Spans.{span, span-none, span-end}
@@ -18,16 +19,16 @@ use Rattle.sizes.proofs.Laws.{span-hop}
 use Rattle.factor.specs.Walks.{unit-place, among, group-here}
 use Rattle.factor.proofs.Walk.{unit-further}
 use Rattle.factor.proofs.Here.{shares-group}
-use Rattle.commons.specs.Held.{entry, Noted, Carried}
+use Rattle.commons.specs.Held.{entry, Noted, Carried, literal-numbers}
 
 -- Literals are of kinds 1 and 2, so the table has an entry for each.
-pub literal-bounds : (x : ℕ) → is-literal x ≡ true → (4096 ≤ x) × (x < 12288)
+pub literal-bounds : (x : ℕ) → is-literal x ≡ true → (kind-factor ≤ x) × (x < 3 * kind-factor)
 unfolding is-literal kind
 literal-bounds x h =
     ⊎-elim
-    (λ e. let k = eqb-true (x / 4096) 1 e in (omega arith, omega arith))
-    (λ e. let k = eqb-true (x / 4096) 2 e in (omega arith, omega arith))
-    (or-split (eqb (x / 4096) 1) _ h)
+    (λ e. let k = eqb-true (x / kind-factor) 1 e in (omega arith, omega arith))
+    (λ e. let k = eqb-true (x / kind-factor) 2 e in (omega arith, omega arith))
+    (or-split (eqb (x / kind-factor) 1) _ h)
 
 -- A number that is no literal's leaves the table as it is.
 pub noted-other : {x : ℕ} (groups : ℕ) (held : List ℕ) → is-literal x ≡ false → Noted x groups held held
@@ -35,16 +36,16 @@ noted-other groups held h =
     record { higher = λ y. omega arith; risen = λ e n. true-false (sym e ∙ h) }
 
 -- An entry that has reached just so many conjunctions rises by one.
-pub noted-literal : {x groups : ℕ} (held : List ℕ) → is-literal x ≡ true → length held ≡ 8192 → getD held (x - 4096) 0 ≡ groups → Noted x groups held (set held (x - 4096) (groups + 1))
+pub noted-literal : {x groups : ℕ} (held : List ℕ) → is-literal x ≡ true → length held ≡ literal-numbers → getD held (x - kind-factor) 0 ≡ groups → Noted x groups held (set held (x - kind-factor) (groups + 1))
 noted-literal {x} {groups} held h long e =
-    let same : entry x (set held (x - 4096) (groups + 1)) ≡ groups + 1 =
-    getD-set-same held (x - 4096) (groups + 1) 0 (omega (arith, literal-bounds x h)) in
+    let same : entry x (set held (x - kind-factor) (groups + 1)) ≡ groups + 1 =
+    getD-set-same held (x - kind-factor) (groups + 1) 0 (omega (arith, literal-bounds x h)) in
     record {
       higher = λ y. ⊎-elim
-          (λ t. let q : x - 4096 ≡ y - 4096 = eqb-true (x - 4096) (y - 4096) t in
-          subst (λ k. getD held k 0 ≤ getD (set held (x - 4096) (groups + 1)) k 0) q (omega (arith, same, e)))
-          (λ t. omega (arith, getD-set-other held (x - 4096) (y - 4096) (groups + 1) 0 (λ d. eqb-false (x - 4096) (y - 4096) t (sym d))))
-          (either (eqb (x - 4096) (y - 4096)));
+          (λ t. let q : x - kind-factor ≡ y - kind-factor = eqb-true (x - kind-factor) (y - kind-factor) t in
+          subst (λ k. getD held k 0 ≤ getD (set held (x - kind-factor) (groups + 1)) k 0) q (omega (arith, same, e)))
+          (λ t. omega (arith, getD-set-other held (x - kind-factor) (y - kind-factor) (groups + 1) 0 (λ d. eqb-false (x - kind-factor) (y - kind-factor) t (sym d))))
+          (either (eqb (x - kind-factor) (y - kind-factor)));
       risen = λ t n. omega (arith, same);
     }
 
@@ -96,10 +97,10 @@ holding-more groups m start l old new {last} left from h some inside {y} read n 
         inl (subst (λ z. is-literal z ≡ true → groups ≤ entry z new → groups < entry z last) same (n .risen) lit up)
     go up later (inr e) = inr (omega (arith, n .higher x), among-further x left from l some inside (eqb-false (getD l from 0) x e) later)
 
-pub holding-all : (groups at : ℕ) (l old new : List ℕ) (left from : ℕ) → is-literal (getD l at 0) ≡ false → Holding groups (value (getD l at 0)) (at + 1) l old new left from → (left ≡ 0) ⊎ (length l ≤ from) → Carried groups (groups + 1) (drop at l) old new
+pub holding-all : (groups at : ℕ) (l old new : List ℕ) (left from : ℕ) → is-literal (getD l at 0) ≡ false → Holding groups (children (getD l at 0)) (at + 1) l old new left from → (left ≡ 0) ⊎ (length l ≤ from) → Carried groups (groups + 1) (drop at l) old new
 holding-all groups at l old new left from inner h past x lit shared reached =
     let found = shares-group x (drop at l) shared (ap is-literal (first-left at l) ∙ inner) in
-    let there : among x (value (getD l at 0)) (drop (at + 1) l) ≡ true = rw (first-left at l, drop-drop 1 at l) at (found .1) in
+    let there : among x (children (getD l at 0)) (drop (at + 1) l) ≡ true = rw (first-left at l, drop-drop 1 at l) at (found .1) in
     ⊎-elim
     (λ risen. omega (arith, risen))
     (λ t. absurd (among-none x left from l past (t .1)))

@@ -11,7 +11,7 @@ use lib.ListN.{length, getD, drop, length-drop}
 use lib.Seq.{drop-drop, getD-drop}
 use Rattle.model.specs.Base.{is-some}
 use Rattle.model.specs.Forest.{Forest, nil, lit, node, _⊕_, size, after, kids}
-use Rattle.model.specs.Code.{encode, kind, value}
+use Rattle.model.specs.Code.{encode, kind, children}
 use Rattle.model.specs.Rules.{rewrite}
 use Rattle.theory.specs.Logic.{true-false, either, fails-if}
 use Rattle.theory.specs.Forests.{size-after}
@@ -20,7 +20,7 @@ use Rattle.theory.specs.Spans.{arity, arity-leaf, arity-head, arity-inner, span
 use Rattle.theory.specs.Flat.{spell, Fits, fits-lit, fits-tree}
 use Rattle.theory.specs.Stretches.{Stretch, forest-in}
 use Rattle.theory.specs.Heads.{Headed}
-use Rattle.theory.specs.Children.{headed-group, group-value, first-left, child-stands, child-fits}
+use Rattle.theory.specs.Children.{headed-group, group-children, first-left, child-stands, child-fits}
 use Rattle.sizes.proofs.Laws.{child-next}
 use Rattle.firsts.specs.Firsts.{First-inner}
 use Rattle.factor.specs.Walks.{unit-place, unit-of, sharing}
@@ -40,19 +40,19 @@ first-arity z f nil n h = absurd (omega arith)
 first-arity z f (lit x g) n h = arity-leaf x (fits-lit x (g ⊕ f) h .0)
 first-arity z f (node c m g) n h = arity-head c (size m) (fits-tree c m (g ⊕ f) h .0)
 
-pub child-arity : {r : ℕ} {l : List ℕ} → Stretch l → (h : Headed r l) → (i : ℕ) {at : ℕ} → i < value (getD l 0 0) → at ≡ child-at i l → arity (getD l at 0) ≡ size (kids (after i (kids (forest-in l))))
+pub child-arity : {r : ℕ} {l : List ℕ} → Stretch l → (h : Headed r l) → (i : ℕ) {at : ℕ} → i < children (getD l 0 0) → at ≡ child-at i l → arity (getD l at 0) ≡ size (kids (after i (kids (forest-in l))))
 unfolding kids
 child-arity {r} {l} s h i there e =
     let g = headed-group s h in
     let k = h .children in
-    let within : i < size k = omega (arith, group-value g) in
+    let within : i < size k = omega (arith, group-children g) in
     let some-left : 1 ≤ size (after i k) = omega (arith, size-after i k) in
     rw (e, h .forest)
     (ap arity (sym (first-left (child-at i l) l) ∙ ap (λ t. getD t 0 0) (child-stands g i (omega arith)))
     ∙ first-arity (h .zeros) (h .rest) (after i k) some-left (child-fits g i (omega arith) .1))
 
--- A conjunction has as many as its value.
-pub conjunction-arity : (x : ℕ) → kind x ≡ 3 → arity x ≡ value x
+-- A conjunction has as many as its number says.
+pub conjunction-arity : (x : ℕ) → kind x ≡ 3 → arity x ≡ children x
 unfolding is-literal
 conjunction-arity x e = arity-inner x (rw e)
 
@@ -64,15 +64,15 @@ pub inner-next : (at j : ℕ) (l : List ℕ) → let from = at + child-at j (dro
 inner-next at j l = rw (child-next j (drop at l), drop-drop (child-at j (drop at l)) at l) (omega arith)
 
 -- A number that a group offers is that of its child j, a literal.
-unit-literal : (j : ℕ) (l : List ℕ) → (unit-of j l ≡ 0 → ⊥) → (j < value (getD l 0 0)) × (is-literal (getD l (child-at j l) 0) ≡ true) × (unit-of j l ≡ getD l (child-at j l) 0)
+unit-literal : (j : ℕ) (l : List ℕ) → (unit-of j l ≡ 0 → ⊥) → (j < children (getD l 0 0)) × (is-literal (getD l (child-at j l) 0) ≡ true) × (unit-of j l ≡ getD l (child-at j l) 0)
 unit-literal j l some-unit =
     ⊎-elim
-    (λ past. absurd (some-unit (unit-past j l (leb-true (value (getD l 0 0)) j past))))
-    (λ before. let within = leb-false (value (getD l 0 0)) j before in
+    (λ past. absurd (some-unit (unit-past j l (leb-true (children (getD l 0 0)) j past))))
+    (λ before. let within = leb-false (children (getD l 0 0)) j before in
     ⊎-elim (offered within) (λ inner. absurd (some-unit (unit-inner j l within inner))) (either (is-literal (getD l (child-at j l) 0))))
-    (either (leb (value (getD l 0 0)) j))
+    (either (leb (children (getD l 0 0)) j))
   where
-    offered : j < value (getD l 0 0) → is-literal (getD l (child-at j l) 0) ≡ true → (j < value (getD l 0 0)) × (is-literal (getD l (child-at j l) 0) ≡ true) × (unit-of j l ≡ getD l (child-at j l) 0)
+    offered : j < children (getD l 0 0) → is-literal (getD l (child-at j l) 0) ≡ true → (j < children (getD l 0 0)) × (is-literal (getD l (child-at j l) 0) ≡ true) × (unit-of j l ≡ getD l (child-at j l) 0)
     offered within literal =
         let place = unit-place (getD l (child-at j l) 0) j (drop 1 l) in
         let end = span j (drop 1 l) in
@@ -85,11 +85,11 @@ unit-literal j l some-unit =
 -- among them.
 record Common (at j : ℕ) (l : List ℕ) : Type 0 where
   pub conjunction : kind (getD l at 0) ≡ 3
-  pub within : j < value (getD l at 0)
+  pub within : j < children (getD l at 0)
   pub literal : is-literal (getD l (at + child-at j (drop at l)) 0) ≡ true
-  pub shared : 2 ≤ sharing (getD l (at + child-at j (drop at l)) 0) (value (getD l 0 0)) (drop 1 l)
+  pub shared : 2 ≤ sharing (getD l (at + child-at j (drop at l)) 0) (children (getD l 0 0)) (drop 1 l)
 
-module _ {l : List ℕ} (s : Stretch l) (h : Headed 14 l) (i : ℕ) (there : (i < value (getD l 0 0)) × (1 + i ≡ child-at i l)) where
+module _ {l : List ℕ} (s : Stretch l) (h : Headed 14 l) (i : ℕ) (there : (i < children (getD l 0 0)) × (1 + i ≡ child-at i l)) where
   -- So it is where the rule applies.
   common : (j : ℕ) → is-some (rewrite 14 i j (forest-in l)) ≡ true → Common (1 + i) j l
   common j t = subst (λ at. Common at j l) (sym (there .1)) here
@@ -111,7 +111,7 @@ module _ {l : List ℕ} (s : Stretch l) (h : Headed 14 l) (i : ℕ) (there : (i 
       here =
           let u = unit-literal j (drop at l) some-unit in
           let its : unit-of j (drop at l) ≡ getD l (at + child-at j (drop at l)) 0 = u .2 ∙ getD-drop at l (child-at j (drop at l)) 0 in
-          let two = leb-true 2 (sharing (unit-of j (drop at l)) (value (getD l 0 0)) (drop 1 l)) (asks-shared s h i j (there .0) conj (sym (there .1)) some-unit ∙ t) in
+          let two = leb-true 2 (sharing (unit-of j (drop at l)) (children (getD l 0 0)) (drop 1 l)) (asks-shared s h i j (there .0) conj (sym (there .1)) some-unit ∙ t) in
           record {
             conjunction = conj;
             within = rw (first-left at l) at (u .0);
@@ -123,7 +123,7 @@ module _ {l : List ℕ} (s : Stretch l) (h : Headed 14 l) (i : ℕ) (there : (i 
   pub other-none : (kind (getD l (1 + i) 0) ≡ 3 → ⊥) → (j : ℕ) → is-some (rewrite 14 i j (forest-in l)) ≡ false
   other-none other j = fails-if (is-some (rewrite 14 i j (forest-in l))) (λ t. other (common j t .conjunction))
 
-  pub past-none : (j : ℕ) → value (getD l (1 + i) 0) ≤ j → is-some (rewrite 14 i j (forest-in l)) ≡ false
+  pub past-none : (j : ℕ) → children (getD l (1 + i) 0) ≤ j → is-some (rewrite 14 i j (forest-in l)) ≡ false
   past-none j past = fails-if (is-some (rewrite 14 i j (forest-in l))) (λ t. omega (arith, common j t .within))
 
   module _ (groups : ℕ) (held : List ℕ) (filter : Filter groups l held) (j : ℕ) where
@@ -137,14 +137,14 @@ module _ {l : List ℕ} (s : Stretch l) (h : Headed 14 l) (i : ℕ) (there : (i 
         fails-if (is-some (rewrite 14 i j (forest-in l)))
         (λ t. let c = common j t in
         let lit : is-literal x ≡ true = rw its at (c .literal) in
-        let two : 2 ≤ sharing x (value (getD l 0 0)) (drop 1 l) = rw its at (c .shared) in
+        let two : 2 ≤ sharing x (children (getD l 0 0)) (drop 1 l) = rw its at (c .shared) in
         omega (arith, filter x lit two .1, barred refused lit))
 
   -- The children of a conjunction stand within the stretch.
-  pub inner-room : kind (getD l (1 + i) 0) ≡ 3 → (j : ℕ) → j < value (getD l (1 + i) 0) → 1 + i + child-at j (drop (1 + i) l) < length l
-  inner-room = subst (λ at. kind (getD l at 0) ≡ 3 → (j : ℕ) → j < value (getD l at 0) → at + child-at j (drop at l) < length l) (sym (there .1)) here
+  pub inner-room : kind (getD l (1 + i) 0) ≡ 3 → (j : ℕ) → j < children (getD l (1 + i) 0) → 1 + i + child-at j (drop (1 + i) l) < length l
+  inner-room = subst (λ at. kind (getD l at 0) ≡ 3 → (j : ℕ) → j < children (getD l at 0) → at + child-at j (drop at l) < length l) (sym (there .1)) here
     where
-      here : let at = child-at i l in kind (getD l at 0) ≡ 3 → (j : ℕ) → j < value (getD l at 0) → at + child-at j (drop at l) < length l
+      here : let at = child-at i l in kind (getD l at 0) ≡ 3 → (j : ℕ) → j < children (getD l at 0) → at + child-at j (drop at l) < length l
       here conj j within =
           let at = child-at i l in
           let room = conjunction-room s h i j (conjunction-there s h i j (there .0) conj .1) in

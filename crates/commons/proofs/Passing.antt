@@ -7,7 +7,7 @@ use Prim.Native.Nat.{ℕ, _+_, _-_, _≤_, _<_}
 use native.Mathlib.Omega.{arith}
 use borrow.Author.Tests.{ne-eqb}
 use lib.ListN.{length, getD, drop}
-use Rattle.model.specs.Code.{kind, value}
+use Rattle.model.specs.Code.{kind, children}
 use Rattle.theory.specs.Logic.{true-false, either, and-split}
 use Rattle.theory.specs.Scan.{is-literal}
 use Rattle.theory.specs.Spans.{span}
@@ -19,10 +19,10 @@ use Rattle.commons.specs.Held.{entry, Carried, Filter}
 
 -- Some children passed: their conjunctions are counted; a literal that all share is shared by those left and has reached the count.
 pub record Passing (groups : ℕ) (l held : List ℕ) (left from : ℕ) : Type 0 where
-  pub counted : groups-in (value (getD l 0 0)) (drop 1 l) ≡ groups + groups-in left (drop from l)
-  pub reached : (x : ℕ) → is-literal x ≡ true → all-share x (value (getD l 0 0)) (drop 1 l) ≡ true → (all-share x left (drop from l) ≡ true) × (groups ≤ entry x held)
+  pub counted : groups-in (children (getD l 0 0)) (drop 1 l) ≡ groups + groups-in left (drop from l)
+  pub reached : (x : ℕ) → is-literal x ≡ true → all-share x (children (getD l 0 0)) (drop 1 l) ≡ true → (all-share x left (drop from l) ≡ true) × (groups ≤ entry x held)
 
-pub passing-none : (l held : List ℕ) → Passing 0 l held (value (getD l 0 0)) 1
+pub passing-none : (l held : List ℕ) → Passing 0 l held (children (getD l 0 0)) 1
 passing-none l held = record { counted = omega arith; reached = λ x lit h. (h, omega arith) }
 
 -- One child more.
@@ -38,7 +38,7 @@ passing-more {groups} {with} {l} {held} {last} {left} {from} p some inside e car
 -- All children passed.
 pub passing-all : {groups : ℕ} {l held : List ℕ} {left from : ℕ} → Passing groups l held left from → (left ≡ 0) ⊎ (length l ≤ from) → Filter groups l held
 passing-all {groups} {l} {held} {left} {from} p past x lit two =
-    let k = value (getD l 0 0) in
+    let k = children (getD l 0 0) in
     let over : groups-in left (drop from l) ≡ 0 = ⊎-elim (groups-none left from l) (groups-end left from l) past in
     ⊎-elim
     (λ all. (omega (arith, sharing-all x k (drop 1 l) all, p .counted, over), p .reached x lit all .1))
@@ -49,7 +49,7 @@ passing-all {groups} {l} {held} {left} {from} p past x lit two =
 pub passing-other : {groups : ℕ} {l held : List ℕ} {left from : ℕ} (last : List ℕ) → Passing groups l held left from → 0 < left → from < length l → 3 < kind (getD l from 0) → Filter 0 l last
 unfolding is-literal
 passing-other {groups} {l} {held} {left} {from} last p some inside other x lit two =
-    let k = value (getD l 0 0) in
+    let k = children (getD l 0 0) in
     let inner : is-literal (getD (drop from l) 0 0) ≡ false =
     ap is-literal (first-left from l) ∙ rw (ne-eqb (kind (getD l from 0)) 1 (λ e. omega arith), ne-eqb (kind (getD l from 0)) 2 (λ e. omega arith)) in
     let no : shares-here x (drop from l) ≡ false = shares-not x (drop from l) inner (λ e. omega (arith, ap kind (first-left from l))) in

@@ -2,15 +2,19 @@
 use mathlib.Core.Bool.{Bool, true, false}
 use mathlib.Core.List.{List}
 use mathlib.Core.Path.{_≡_}
-use Prim.Native.Nat.{ℕ, _-_, _≤_, _<_}
+use Prim.Native.Nat.{ℕ, _*_, _-_, _≤_, _<_}
 use lib.ListN.{getD, drop}
-use Rattle.model.specs.Code.{value}
+use Rattle.model.specs.Limits.{kind-factor}
+use Rattle.model.specs.Code.{children}
 use Rattle.theory.specs.Scan.{is-literal}
 use Rattle.factor.specs.Walks.{shares-here, sharing}
 
--- The entry of a literal's number: literals are the numbers from 4,096 to 12,287.
+-- Literals are the numbers of two kinds, 1 and 2; the entry of a literal's number.
+abbrev pub literal-numbers : ℕ
+literal-numbers = 2 * kind-factor
+
 abbrev pub entry : ℕ → List ℕ → ℕ
-entry x held = getD held (x - 4096) 0
+entry x held = getD held (x - kind-factor) 0
 
 -- A number is noted: no entry falls, and a literal's rises above so many conjunctions where it had reached them.
 pub record Noted (x groups : ℕ) (old new : List ℕ) : Type 0 where
@@ -26,7 +30,7 @@ Carried before with l old new =
 -- A literal that all children of the first tree share, two conjunctions among them, has reached all conjunctions.
 abbrev pub Filter : ℕ → List ℕ → List ℕ → Type 0
 Filter groups l held =
-    (x : ℕ) → is-literal x ≡ true → 2 ≤ sharing x (value (getD l 0 0)) (drop 1 l) → (2 ≤ groups) × (groups ≤ entry x held)
+    (x : ℕ) → is-literal x ≡ true → 2 ≤ sharing x (children (getD l 0 0)) (drop 1 l) → (2 ≤ groups) × (groups ≤ entry x held)
 
 -- A number that is refused is no literal's, or its entry has not reached all conjunctions.
 abbrev pub Barred : Bool → ℕ → ℕ → List ℕ → Type 0

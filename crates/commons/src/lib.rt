@@ -2,24 +2,29 @@
 ghost use mathlib.Core.Path.{_≡_};
 ghost use Prim.Native.Nat.{_+_, _≤_, _<_};
 ghost use lib.ListN.{length, getD, drop};
-ghost use Rattle.model.specs.Code.{value};
+ghost use Rattle.model.specs.Limits.{«sheet-room»};
+ghost use Rattle.model.specs.Code.{children};
 ghost use Rattle.theory.specs.Spans.{«child-at»};
 ghost use Rattle.theory.specs.Stretches.{Stretch};
 ghost use Rattle.theory.specs.Heads.{Headed};
 ghost use Rattle.sizes.specs.Tables.{Sized};
 ghost use Rattle.factor.specs.Walks.{«group-here»};
 ghost use Rattle.firsts.specs.Firsts.{«First-inner»};
-ghost use Rattle.commons.specs.Held.{Noted, Carried, Filter, Barred};
+ghost use Rattle.commons.specs.Held.{«literal-numbers», Noted, Carried, Filter, Barred};
+use limits::KIND_FACTOR;
+
+// The literals are the numbers of two kinds, from kind 1 on.
+const LITERAL_NUMBERS: usize = 2 * KIND_FACTOR;
 
 // A child of a conjunction is noted: a literal that each of the conjunctions before holds is held by one more.
 fn note(held: &mut [u16], x: usize, groups: u16)
-    requires { ⌜ (length (now held) ≡ 8192) × (groups ≤ 4096) ⌝ }
+    requires { ⌜ (length (now held) ≡ «literal-numbers») × (groups ≤ «sheet-room») ⌝ }
     ensures { λ r. ⌜ Noted x groups (now (held .entry)) (now (held .exit)) ⌝ }
 {
     if !nodes::is_literal(x) {
         return;
     }
-    let k = x - 4096;
+    let k = x - KIND_FACTOR;
     if held[k] == groups {
         held[k] = groups + 1;
     }
@@ -27,9 +32,9 @@ fn note(held: &mut [u16], x: usize, groups: u16)
 
 // The tree at a place, after so many conjunctions: the children of a conjunction are noted. The conjunctions with it.
 fn hold(part: &[u16], sizes: &[u16], at: usize, groups: u16, held: &mut [u16]) -> u16
-    requires { ⌜ (at < length (now part)) × (length (now part) ≤ 4096) × (groups ≤ 4096) ⌝ }
+    requires { ⌜ (at < length (now part)) × (length (now part) ≤ «sheet-room») × (groups ≤ «sheet-room») ⌝ }
     requires { ⌜ (length (now sizes) ≡ length (now part)) × Sized 0 (now part) (now sizes) ⌝ }
-    requires { ⌜ length (now held) ≡ 8192 ⌝ }
+    requires { ⌜ length (now held) ≡ «literal-numbers» ⌝ }
     ensures { λ r. ⌜ r ≡ groups + «group-here» (getD (now (part .entry)) at 0) ⌝ }
     ensures { λ r. ⌜ Carried groups r (drop at (now (part .entry))) (now (held .entry)) (now (held .exit)) ⌝ }
 {
@@ -37,7 +42,7 @@ fn hold(part: &[u16], sizes: &[u16], at: usize, groups: u16, held: &mut [u16]) -
     if nodes::is_literal(head) {
         return groups;
     }
-    let mut left = nodes::value_of(head);
+    let mut left = nodes::children_of(head);
     let mut from = at + 1;
     while 0 < left && from < part.len() {
         note(held, numbers::wide16(part[from]), groups);
@@ -50,14 +55,14 @@ fn hold(part: &[u16], sizes: &[u16], at: usize, groups: u16, held: &mut [u16]) -
 // The children of the first tree, one after the other; how many conjunctions there are, or 0 where some child is neither a
 // literal nor a conjunction, so that no literal is shared.
 fn hold_all(part: &[u16], sizes: &[u16], held: &mut [u16]) -> u16
-    requires { ⌜ (1 ≤ length (now part)) × (length (now part) ≤ 4096) ⌝ }
+    requires { ⌜ (1 ≤ length (now part)) × (length (now part) ≤ «sheet-room») ⌝ }
     requires { ⌜ (length (now sizes) ≡ length (now part)) × Sized 0 (now part) (now sizes) ⌝ }
-    requires { ⌜ length (now held) ≡ 8192 ⌝ }
+    requires { ⌜ length (now held) ≡ «literal-numbers» ⌝ }
     ensures { λ r. ⌜ Filter r (now (part .entry)) (now (held .exit)) ⌝ }
 {
     let mut groups = 0;
     let mut at = 1;
-    let mut left = nodes::value_of(numbers::wide16(part[0]));
+    let mut left = nodes::children_of(numbers::wide16(part[0]));
     while 0 < left && at < part.len() {
         if 3 < nodes::kind_of(numbers::wide16(part[at])) {
             return 0;
@@ -71,19 +76,19 @@ fn hold_all(part: &[u16], sizes: &[u16], held: &mut [u16]) -> u16
 
 // By the table, all conjunctions may share a number.
 fn may_share(held: &[u16], x: usize, groups: u16) -> bool
-    requires { ⌜ length (now held) ≡ 8192 ⌝ }
+    requires { ⌜ length (now held) ≡ «literal-numbers» ⌝ }
     ensures { λ r. ⌜ Barred r x groups (now (held .entry)) ⌝ }
 {
-    nodes::is_literal(x) && groups <= held[x - 4096]
+    nodes::is_literal(x) && groups <= held[x - KIND_FACTOR]
 }
 
 // The first literal with which the rule applies, where only those are tried that the table leaves.
 fn first_sifted(part: &[u16], sizes: &[u16], i: usize, held: &[u16], groups: u16) -> usize
     requires { ⌜ Stretch (now part) ⌝ }
     requires { ⌜ Headed 14 (now part) ⌝ }
-    requires { ⌜ (i < value (getD (now part) 0 0)) × (1 + i ≡ «child-at» i (now part)) ⌝ }
+    requires { ⌜ (i < children (getD (now part) 0 0)) × (1 + i ≡ «child-at» i (now part)) ⌝ }
     requires { ⌜ (length (now sizes) ≡ length (now part)) × Sized 0 (now part) (now sizes) ⌝ }
-    requires { ⌜ (length (now held) ≡ 8192) × Filter groups (now part) (now held) ⌝ }
+    requires { ⌜ (length (now held) ≡ «literal-numbers») × Filter groups (now part) (now held) ⌝ }
     ensures { λ r. ⌜ «First-inner» 14 i r (now (part .entry)) ⌝ }
 {
     let head = numbers::wide16(part[1 + i]);
@@ -108,11 +113,11 @@ fn first_sifted(part: &[u16], sizes: &[u16], i: usize, held: &[u16], groups: u16
 fn first_held(part: &[u16], sizes: &[u16], i: usize) -> usize
     requires { ⌜ Stretch (now part) ⌝ }
     requires { ⌜ Headed 14 (now part) ⌝ }
-    requires { ⌜ (i < value (getD (now part) 0 0)) × (1 + i ≡ «child-at» i (now part)) ⌝ }
+    requires { ⌜ (i < children (getD (now part) 0 0)) × (1 + i ≡ «child-at» i (now part)) ⌝ }
     requires { ⌜ (length (now sizes) ≡ length (now part)) × Sized 0 (now part) (now sizes) ⌝ }
     ensures { λ r. ⌜ «First-inner» 14 i r (now (part .entry)) ⌝ }
 {
-    let mut held = [0u16; 8192];
+    let mut held = [0u16; LITERAL_NUMBERS];
     let groups = hold_all(part, sizes, &mut held);
     first_sifted(part, sizes, i, &held, groups)
 }
@@ -121,7 +126,7 @@ fn first_held(part: &[u16], sizes: &[u16], i: usize) -> usize
 fn first_tried(part: &[u16], i: usize) -> usize
     requires { ⌜ Stretch (now part) ⌝ }
     requires { ⌜ Headed 14 (now part) ⌝ }
-    requires { ⌜ (i < value (getD (now part) 0 0)) × (1 + i ≡ «child-at» i (now part)) ⌝ }
+    requires { ⌜ (i < children (getD (now part) 0 0)) × (1 + i ≡ «child-at» i (now part)) ⌝ }
     ensures { λ r. ⌜ «First-inner» 14 i r (now (part .entry)) ⌝ }
 {
     let m = spans::arity_of(numbers::wide16(part[1 + i]));
@@ -140,7 +145,7 @@ fn first_tried(part: &[u16], i: usize) -> usize
 pub fn first_common(part: &[u16], sizes: &[u16], i: usize) -> usize
     requires { ⌜ Stretch (now part) ⌝ }
     requires { ⌜ Headed 14 (now part) ⌝ }
-    requires { ⌜ (i < value (getD (now part) 0 0)) × (1 + i ≡ «child-at» i (now part)) ⌝ }
+    requires { ⌜ (i < children (getD (now part) 0 0)) × (1 + i ≡ «child-at» i (now part)) ⌝ }
     requires { ⌜ (length (now sizes) ≡ length (now part)) × Sized 0 (now part) (now sizes) ⌝ }
     ensures { λ r. ⌜ «First-inner» 14 i r (now (part .entry)) ⌝ }
 {

@@ -3,6 +3,7 @@ ghost use mathlib.Core.Path.{_≡_};
 ghost use mathlib.Core.List.{_++_, _∷_, []};
 ghost use Prim.Native.Nat.{_+_, _*_, _/_, _%_, _≤_, _<_};
 ghost use lib.ListN.{length, take, drop, set};
+ghost use Rattle.model.specs.Limits.{«head-length», «sheet-room»};
 ghost use Rattle.model.specs.Book.{«bytes-of», «lined-up»};
 ghost use Rattle.theory.specs.Spans.{spans};
 
@@ -17,8 +18,8 @@ fn put_word(out: &mut [u8], k: usize, x: usize)
 
 // The four numbers of the head.
 pub fn put_head(out: &mut [u8], n: usize, m: usize, t: usize)
-    requires { ⌜ 8 ≤ length (now out) ⌝ }
-    ensures { λ r. ⌜ now (out .exit) ≡ «bytes-of» (n ∷ m ∷ t ∷ 0 ∷ []) ++ drop 8 (now (out .entry)) ⌝ }
+    requires { ⌜ «head-length» ≤ length (now out) ⌝ }
+    ensures { λ r. ⌜ now (out .exit) ≡ «bytes-of» (n ∷ m ∷ t ∷ 0 ∷ []) ++ drop «head-length» (now (out .entry)) ⌝ }
 {
     put_word(out, 0, n);
     put_word(out, 2, m);
@@ -52,7 +53,7 @@ fn put_bytes(s: &[u16], count: usize, out: &mut [u8])
 
 // Where each of so many trees begins, and its node count.
 fn put_contents(s: &[u16], m: usize, out: &mut [u8])
-    requires { ⌜ (length (now s) ≤ 4096) × (4 * m ≤ length (now out)) ⌝ }
+    requires { ⌜ (length (now s) ≤ «sheet-room») × (4 * m ≤ length (now out)) ⌝ }
     ensures { λ r. ⌜ now (out .exit) ≡ «bytes-of» («lined-up» 0 (spans m (now (s .entry)))) ++ drop (4 * m) (now (out .entry)) ⌝ }
 {
     let mut at = 0;
@@ -68,7 +69,7 @@ fn put_contents(s: &[u16], m: usize, out: &mut [u8])
 
 // The contents of so many trees, and the numbers of their nodes.
 fn put_trees(s: &[u16], m: usize, out: &mut [u8])
-    requires { ⌜ (length (now s) ≤ 4096) × (4 * m + 2 * length (now s) ≤ length (now out)) ⌝ }
+    requires { ⌜ (length (now s) ≤ «sheet-room») × (4 * m + 2 * length (now s) ≤ length (now out)) ⌝ }
     ensures { λ r. ⌜ now (out .exit) ≡ («bytes-of» («lined-up» 0 (spans m (now (s .entry)))) ++ «bytes-of» (now (s .entry))) ++ drop (4 * m + 2 * length (now (s .entry))) (now (out .entry)) ⌝ }
 {
     put_contents(s, m, out);
@@ -78,7 +79,7 @@ fn put_trees(s: &[u16], m: usize, out: &mut [u8])
 
 // Codes, and the trees after them.
 pub fn put_parts(codes: &[u8], s: &[u16], m: usize, out: &mut [u8])
-    requires { ⌜ (length (now s) ≤ 4096) × (length (now codes) + (4 * m + 2 * length (now s)) ≤ length (now out)) ⌝ }
+    requires { ⌜ (length (now s) ≤ «sheet-room») × (length (now codes) + (4 * m + 2 * length (now s)) ≤ length (now out)) ⌝ }
     ensures { λ r. ⌜ now (out .exit) ≡ (now (codes .entry) ++ («bytes-of» («lined-up» 0 (spans m (now (s .entry)))) ++ «bytes-of» (now (s .entry)))) ++ drop (length (now (codes .entry)) + (4 * m + 2 * length (now (s .entry)))) (now (out .entry)) ⌝ }
 {
     let contents = codes.len();

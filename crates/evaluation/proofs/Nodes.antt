@@ -5,25 +5,25 @@ use mathlib.Core.Logic.{⊎-elim}
 use mathlib.Core.Option.{some}
 use mathlib.Core.Path.{_≡_, refl, sym, ap, ap₂, _∙_}
 use Prim.Native.Nat.{ℕ, zero, suc, _+_, _-_, _*_, _≤_, _<_}
-use native.Mathlib.Nat.{mod-lt}
 use native.Mathlib.Omega.{arith}
 use borrow.Author.Tests.{eqb-true, ltb-true, leb-true}
 use lib.Dec.{eqb, ltb, leb}
 use lib.ListN.{getD, take, drop, length, length-drop, length-map}
 use lib.Seq.{drop-cons}
 use Rattle.model.specs.Base.{pick, all}
-use Rattle.model.specs.Forest.{Conn, and, or, root, Forest, nil, lit, node, size, first, after}
-use Rattle.model.specs.Code.{head, kind, value, node-of, decode, push, trees, joined}
-use Rattle.model.specs.Sheet.{is-sheet, numbers-in, nodes-in, used-in, options-in, rooted, body-node}
+use Rattle.model.specs.Limits.{most-literals}
+use Rattle.model.specs.Forest.{Conn, and, or, root, Forest, nil, lit, node, size}
+use Rattle.model.specs.Code.{head, kind, value, node-of, decode, push, trees, joined, children}
+use Rattle.model.specs.Sheet.{numbers-in, nodes-in, used-in, options-in, rooted, body-node}
 use Rattle.theory.specs.Logic.{true-false, and-split, or-split, or-neither, then-some, only-some}
 use Rattle.theory.specs.Scan.{is-literal, inner-node}
 use Rattle.theory.specs.Codes.{encode-decode, trees-drop, size-length}
 use Rattle.theory.specs.Lists.{map-drop}
 use Rattle.theory.specs.Shape.{shaped-trees}
-use Rattle.theory.specs.Sheets.{sheet-facts, sheet-shaped}
-use Rattle.theory.specs.Evaluation.{Set, fails, values, fails-empty, fails-both}
+use Rattle.theory.specs.Sheets.{Formed}
+use Rattle.theory.specs.Evaluation.{Set, fails-all, values}
 use Rattle.theory.specs.Families.{unwrapped-values}
-use Rattle.theory.specs.Values.{fails-all, fails-values, values-first, values-after}
+use Rattle.theory.specs.Values.{and-root, values-first, values-after}
 use Rattle.theory.specs.Tables.{place-of, set-of}
 use Rattle.evaluation.specs.Reading.{place-at, with-node, tree-fails, Spells-tree}
 
@@ -34,10 +34,6 @@ literal-kind x h =
     (λ e. let k = eqb-true (kind x) 1 e in (omega arith, omega arith))
     (λ e. let k = eqb-true (kind x) 2 e in (omega arith, omega arith))
     (or-split (eqb (kind x) 1) _ h)
-
-pub value-small : (x : ℕ) → value x < 4096
-unfolding value
-value-small x = mod-lt x (omega arith)
 
 -- The values of the trees that numbers spell.
 unfoldable pub values-of : List ℕ → List ℕ → List Bool
@@ -56,15 +52,9 @@ literal-value t x f h = go (eqb (kind x) 1) refl (eqb (kind x) 2) refl h
 head-values : (s : Set) (c : Conn) (k : ℕ) (f : Forest) → values s (push (head c k) f) ≡ fails-all c (take k (values s f)) ∷ drop k (values s f)
 unfolding push values
 head-values s c k f =
-    ap₂ _∷_ (fails-values s c (first k f) ∙ ap (fails-all c) (values-first s k f)) (values-after s k f)
+    ap₂ _∷_ (ap (fails-all c) (values-first s k f)) (values-after s k f)
 
--- A conjunction fails as the root does.
-and-root : (bs : List Bool) → fails-all and bs ≡ fails-all root bs
-unfolding fails-all fails-both fails-empty
-and-root [] = refl
-and-root (b ∷ bs) = ap (λ r. b || r) (and-root bs)
-
-inner-value : (s : Set) (x : ℕ) (f : Forest) → is-literal x ≡ false → values s (push (node-of x) f) ≡ fails-all (pick (eqb (kind x) 4) or root) (take (value x) (values s f)) ∷ drop (value x) (values s f)
+inner-value : (s : Set) (x : ℕ) (f : Forest) → is-literal x ≡ false → values s (push (node-of x) f) ≡ fails-all (pick (eqb (kind x) 4) or root) (take (children x) (values s f)) ∷ drop (children x) (values s f)
 unfolding is-literal node-of pick
 inner-value s x f h =
     let n = or-neither (eqb (kind x) 1) (eqb (kind x) 2) h in
@@ -73,11 +63,11 @@ inner-value s x f h =
     bs : List Bool
     bs = values s f
 
-    go : (a : Bool) → eqb (kind x) 3 ≡ a → (b : Bool) → eqb (kind x) 4 ≡ b → values s (push (pick a (head and (value x)) (pick b (head or (value x)) (head root (value x)))) f) ≡ fails-all (pick b or root) (take (value x) bs) ∷ drop (value x) bs
+    go : (a : Bool) → eqb (kind x) 3 ≡ a → (b : Bool) → eqb (kind x) 4 ≡ b → values s (push (pick a (head and (children x)) (pick b (head or (children x)) (head root (children x)))) f) ≡ fails-all (pick b or root) (take (children x) bs) ∷ drop (children x) bs
     go true p true q = absurd (omega (arith, eqb-true (kind x) 3 p, eqb-true (kind x) 4 q))
-    go true p false q = head-values s and (value x) f ∙ ap (λ b. b ∷ drop (value x) bs) (and-root (take (value x) bs))
-    go false p true q = head-values s or (value x) f
-    go false p false q = head-values s root (value x) f
+    go true p false q = head-values s and (children x) f ∙ ap (λ b. b ∷ drop (children x) bs) (and-root (take (children x) bs))
+    go false p true q = head-values s or (children x) f
+    go false p false q = head-values s root (children x) f
 
 pub values-none : (t : List ℕ) → values-of t [] ≡ []
 unfolding values-of decode values
@@ -90,7 +80,7 @@ values-more t x xs = go (is-literal x) refl
     f : Forest
     f = decode (map node-of xs)
 
-    go : (b : Bool) → is-literal x ≡ b → values (set-of t) (push (node-of x) f) ≡ pick b (eqb (getD t (place-at x) 0) 1 ∷ values (set-of t) f) (fails-all (pick (eqb (kind x) 4) or root) (take (value x) (values (set-of t) f)) ∷ drop (value x) (values (set-of t) f))
+    go : (b : Bool) → is-literal x ≡ b → values (set-of t) (push (node-of x) f) ≡ pick b (eqb (getD t (place-at x) 0) 1 ∷ values (set-of t) f) (fails-all (pick (eqb (kind x) 4) or root) (take (children x) (values (set-of t) f)) ∷ drop (children x) (values (set-of t) f))
     go true e = literal-value t x f e
     go false e = inner-value (set-of t) x f e
 
@@ -100,7 +90,7 @@ module _ (t : List ℕ) (x : ℕ) (bs : List Bool) where
   unfolding with-node pick
   with-literal h = rw h
 
-  pub with-inner : is-literal x ≡ false → with-node t x bs ≡ fails-all (pick (eqb (kind x) 4) or root) (take (value x) bs) ∷ drop (value x) bs
+  pub with-inner : is-literal x ≡ false → with-node t x bs ≡ fails-all (pick (eqb (kind x) 4) or root) (take (children x) bs) ∷ drop (children x) bs
   unfolding with-node pick
   with-inner h = rw h
 
@@ -139,19 +129,19 @@ rooted-literal n (x ∷ xs) (suc i) e h l =
     ltb-true (value y) n r
 
 -- A connective has its children among the trees that it joins.
-takes-enough : (x t : ℕ) {u : ℕ} → is-literal x ≡ false → joined (node-of x) t ≡ some u → value x ≤ t
+takes-enough : (x t : ℕ) {u : ℕ} → is-literal x ≡ false → joined (node-of x) t ≡ some u → children x ≤ t
 unfolding joined
 takes-enough x t h e =
     let w = inner-node x h in
-    leb-true (value x) t (only-some (leb (value x) t) _ (sym (ap (λ y. joined y t) (w .1)) ∙ e) .0)
+    leb-true (children x) t (only-some (leb (children x) t) _ (sym (ap (λ y. joined y t) (w .1)) ∙ e) .0)
 
 -- The numbers of a tree from a place on: the number at the place and those after it; there are no more trees after it than
 -- numbers; a literal stands in a table of 1,024, and a connective has its children.
 pub record Node-here (xs : List ℕ) (i : ℕ) : Type 0 where
   pub numbers : drop i xs ≡ getD xs i 0 ∷ drop (suc i) xs
   pub few : trees-of (drop (suc i) xs) + suc i ≤ length xs
-  pub inside : is-literal (getD xs i 0) ≡ true → place-at (getD xs i 0) < 1024
-  pub enough : is-literal (getD xs i 0) ≡ false → value (getD xs i 0) ≤ trees-of (drop (suc i) xs)
+  pub inside : is-literal (getD xs i 0) ≡ true → place-at (getD xs i 0) < most-literals
+  pub enough : is-literal (getD xs i 0) ≡ false → children (getD xs i 0) ≤ trees-of (drop (suc i) xs)
 
 module _ (xs : List ℕ) (h : Spells-tree xs) where
   trees-from : (i : ℕ) → (u : ℕ) × (trees (map node-of (drop i xs)) ≡ some u)
@@ -182,16 +172,16 @@ module _ (xs : List ℕ) (h : Spells-tree xs) where
   tree-value t = unwrapped-values (set-of t) root _ (encode-decode (map node-of xs) 1 (h .one) .1)
 
 -- The numbers of a sheet.
-module _ (s : List ℕ) (h : is-sheet s ≡ true) where
+module _ (s : List ℕ) (h : Formed s) where
   pub numbers-long : length (numbers-in s) ≡ used-in s
   unfolding nodes-in
-  numbers-long = sym (length-map (numbers-in s) node-of) ∙ sheet-facts s h .count
+  numbers-long = sym (length-map (numbers-in s) node-of) ∙ h .count
 
   pub sheet-tree : Spells-tree (numbers-in s)
   unfolding nodes-in place-at
   sheet-tree =
-      let k = sheet-facts s h in
+      let k = h in
       record {
-        one = shaped-trees (sheet-shaped s h);
+        one = shaped-trees (h .shaped);
         inside = λ i l e. omega (arith, literal-kind (getD (numbers-in s) i 0) e, k .options, rooted-literal (options-in s) (numbers-in s) i (k .rooted) l e);
       }

@@ -7,12 +7,12 @@ use Prim.Native.Nat.{ℕ, _+_, _-_, _*_, _<_}
 use lib.Dec.{eqb}
 use lib.ListN.{length, getD, take, drop}
 use Rattle.model.specs.Base.{pick}
+use Rattle.model.specs.Limits.{most-literals}
 use Rattle.model.specs.Forest.{or, root}
-use Rattle.model.specs.Code.{kind, value, node-of, decode, trees}
+use Rattle.model.specs.Code.{kind, value, children, node-of, decode, trees}
 use Rattle.theory.specs.Scan.{is-literal}
-use Rattle.theory.specs.Evaluation.{fails}
+use Rattle.theory.specs.Evaluation.{fails-all, fails}
 use Rattle.theory.specs.Tables.{set-of}
-use Rattle.theory.specs.Values.{fails-all}
 
 -- The place in a table of the literal that a number of kind 1 or 2 is.
 unfoldable pub place-at : ℕ → ℕ
@@ -23,7 +23,7 @@ unfoldable pub with-node : List ℕ → ℕ → List Bool → List Bool
 with-node t x bs =
     pick (is-literal x)
     (eqb (getD t (place-at x) 0) 1 ∷ bs)
-    (fails-all (pick (eqb (kind x) 4) or root) (take (value x) bs) ∷ drop (value x) bs)
+    (fails-all (pick (eqb (kind x) 4) or root) (take (children x) bs) ∷ drop (children x) bs)
 
 -- Whether one of the trees that numbers spell fails under a table of failed literals.
 unfoldable pub tree-fails : List ℕ → List ℕ → Bool
@@ -32,4 +32,4 @@ tree-fails t xs = fails (set-of t) root (decode (map node-of xs))
 -- Numbers that spell one tree, whose literals have places in a table of 1,024.
 pub record Spells-tree (xs : List ℕ) : Type 0 where
   pub one : trees (map node-of xs) ≡ some 1
-  pub inside : (i : ℕ) → i < length xs → is-literal (getD xs i 0) ≡ true → place-at (getD xs i 0) < 1024
+  pub inside : (i : ℕ) → i < length xs → is-literal (getD xs i 0) ≡ true → place-at (getD xs i 0) < most-literals

@@ -9,9 +9,10 @@ use borrow.Author.Tests.{lt-leb, leb-true, leb-false, eq-eqb, eqb-true, not-true
 use lib.Dec.{leb}
 use lib.ListN.{length, getD, drop, length-map}
 use Rattle.model.specs.Base.{pick, is-some, then}
+use Rattle.model.specs.Limits.{sheet-room}
 use Rattle.model.specs.Literal.{Literal}
 use Rattle.model.specs.Forest.{Conn, and, Forest, lit, _⊕_, size, first, after, literal-at, conjunction-at, literals-only, has-unit}
-use Rattle.model.specs.Code.{leaf, head, encode, kind, value, number-of}
+use Rattle.model.specs.Code.{leaf, head, encode, kind, children, number-of}
 use Rattle.model.specs.Rules.{factor, change, rewrite, shares, groups}
 use Rattle.theory.specs.Logic.{true-false, and-split, fails-if, pick-true, pick-false, is-some-of, is-some-only, then-some, only-some}
 use Rattle.theory.specs.Forests.{first-after, size-first, size-after, conjunction-here, literal-here}
@@ -21,7 +22,7 @@ use Rattle.theory.specs.Spans.{child-at}
 use Rattle.theory.specs.Flat.{spell, spell-⊕, spell-node, Fits, fits-⊕, fits-lit}
 use Rattle.theory.specs.Stretches.{Stretch, forest-in}
 use Rattle.theory.specs.Heads.{Headed}
-use Rattle.theory.specs.Children.{first-left, code, Group, group-value, group-few, child-within, child-place, child-room, child-fits, child-stands, child-group, child-literal, child-conjunction, headed-group}
+use Rattle.theory.specs.Children.{first-left, code, Group, group-children, group-few, child-within, child-place, child-room, child-fits, child-stands, child-group, child-literal, child-conjunction, headed-group}
 use Rattle.theory.specs.Turns.{family-at, family-asks}
 use Rattle.factor.specs.Walks.{among, unit-of, sharing}
 use Rattle.theory.specs.Leaves.{leaf-literal}
@@ -74,7 +75,7 @@ module _ {l : List ℕ} {c : Conn} {k f : Forest} {z : ℕ} (g : Group l c k f z
     unit-is : unit-of j l ≡ pick (has-unit a (first j k)) 0 (number-of (leaf a))
     unfolding unit-of pick
     unit-is =
-        rw (group-value g, lt-leb (size k) j within, number-there, leaf-literal a unit-fits, among-before)
+        rw (group-children g, lt-leb (size k) j within, number-there, leaf-literal a unit-fits, among-before)
 
     pub unit-first : has-unit a (first j k) ≡ false → unit-of j l ≡ number-of (leaf a)
     unit-first n = unit-is ∙ pick-false _ 0 (number-of (leaf a)) n
@@ -84,10 +85,10 @@ module _ {l : List ℕ} {c : Conn} {k f : Forest} {z : ℕ} (g : Group l c k f z
   unit-none j e = go (leb (size k) j) refl
     where
       go : (b : Bool) → leb (size k) j ≡ b → unit-of j l ≡ 0
-      go true t = unit-past j l (rw (group-value g) (leb-true (size k) j t))
+      go true t = unit-past j l (rw (group-children g) (leb-true (size k) j t))
       go false t =
           let n : j < size k = leb-false (size k) j t in
-          unit-inner j l (rw (group-value g) n) (child-literal g j n ∙ ap is-some e)
+          unit-inner j l (rw (group-children g) n) (child-literal g j n ∙ ap is-some e)
 
   -- Where it is not zero, it is the literal's number.
   pub record Unit (j : ℕ) : Type 0 where
@@ -157,7 +158,7 @@ sharing-trees a h f r w = rw (share-trees a h f r w, groups-trees f r w)
 
 -- The test, on the numbers.
 module _ {l : List ℕ} (s : Stretch l) (h : Headed 14 l) where
-  its-group : Group l (h .row .conn) (h .children) (h .rest) (h .zeros)
+  its-group : Group l (h .conn) (h .children) (h .rest) (h .zeros)
   its-group = headed-group s h
 
   pub stretch-some : 1 ≤ length l
@@ -167,26 +168,26 @@ module _ {l : List ℕ} (s : Stretch l) (h : Headed 14 l) where
   kids-numbers = ap (drop 1) (group-numbers its-group)
 
   module _ (i j : ℕ) where
-    pub rule-asks : is-some (rewrite 14 i j (forest-in l)) ≡ is-some (factor (h .row .conn) i j (h .children))
+    pub rule-asks : is-some (rewrite 14 i j (forest-in l)) ≡ is-some (factor (h .conn) i j (h .children))
     unfolding family-at pick change
     rule-asks = family-asks h i j
 
     asks-not : (Applied i j (h .children) → ⊥) → false ≡ is-some (rewrite 14 i j (forest-in l))
     asks-not n =
-        sym (rule-asks ∙ fails-if (is-some (factor (h .row .conn) i j (h .children))) (λ t. n (applied (h .row .conn) i j (h .children) t)))
+        sym (rule-asks ∙ fails-if (is-some (factor (h .conn) i j (h .children))) (λ t. n (applied (h .conn) i j (h .children) t)))
 
     -- Child i is a conjunction: it has few children before it, and its own stand where they should.
     module _ {m : Forest} (e : conjunction-at (after i (h .children)) ≡ some m) where
       pub conjunction-group : Group (drop (child-at i l) l) and m (after (suc i) (h .children) ⊕ h .rest) (h .zeros)
       conjunction-group = child-group its-group i (conjunction-here i (h .children) e)
 
-      pub conjunction-index : i ≤ 4096
+      pub conjunction-index : i ≤ sheet-room
       conjunction-index = omega (arith, child-within i (h .children) (conjunction-here i (h .children) e), group-few its-group)
 
-      pub conjunction-room : let t = drop (child-at i l) l in (1 ≤ length t) × (j < value (getD t 0 0) → child-at j t < length t)
+      pub conjunction-room : let t = drop (child-at i l) l in (1 ≤ length t) × (j < children (getD t 0 0) → child-at j t < length t)
       conjunction-room =
           let g = conjunction-group in
-          (omega (arith, child-room g 0 (omega arith)), λ b. omega (arith, group-value g, child-room g j (omega (arith, group-value g))))
+          (omega (arith, child-room g 0 (omega arith)), λ b. omega (arith, group-children g, child-room g j (omega (arith, group-children g))))
 
     -- No literal but the first copy counts.
     pub asks-nothing : unit-of j (drop (child-at i l) l) ≡ 0 → false ≡ is-some (rewrite 14 i j (forest-in l))
@@ -195,9 +196,9 @@ module _ {l : List ℕ} (s : Stretch l) (h : Headed 14 l) where
         (λ t. let g = conjunction-group (t .conjunction) in
         leaf-some (t .literal) (unit-fits g j (t .there)) (sym (unit-first g j (t .there) (t .new)) ∙ e))
 
-    module _ (n : i < value (getD l 0 0)) where
+    module _ (n : i < children (getD l 0 0)) where
       child-there : i < size (h .children)
-      child-there = rw (group-value its-group) at n
+      child-there = rw (group-children its-group) at n
 
       pub child-inside : child-at i l < length l
       child-inside = omega (arith, child-room its-group i (omega (arith, child-there)), child-there)
@@ -224,18 +225,18 @@ module _ {l : List ℕ} (s : Stretch l) (h : Headed 14 l) where
         conjunction-there =
             is-some-of (conjunction-at (after i (h .children))) (sym (child-conjunction its-group i child-there) ∙ eq-eqb (kind (getD l (child-at i l) 0)) 3 e)
 
-        pub asks-shared : child-at i l ≡ 1 + i → (unit-of j (drop (child-at i l) l) ≡ 0 → ⊥) → leb 2 (sharing (unit-of j (drop (child-at i l) l)) (value (getD l 0 0)) (drop 1 l)) ≡ is-some (rewrite 14 i j (forest-in l))
+        pub asks-shared : child-at i l ≡ 1 + i → (unit-of j (drop (child-at i l) l) ≡ 0 → ⊥) → leb 2 (sharing (unit-of j (drop (child-at i l) l)) (children (getD l 0 0)) (drop 1 l)) ≡ is-some (rewrite 14 i j (forest-in l))
         unfolding pick
         asks-shared p some-unit =
             let k = h .children in
             let u = unit-found (conjunction-group (conjunction-there .1)) j some-unit in
             let a = u .literal in
             let before : shares a k ≡ true → literals-only (first i k) ≡ true = λ q. short-literals a i k (omega (arith, child-there)) q (omega (arith, place)) in
-            let count : sharing (unit-of j (drop (child-at i l) l)) (value (getD l 0 0)) (drop 1 l) ≡ pick (shares a k) (groups k) 0 =
-            ap₂ (λ x m. sharing x m (drop 1 l)) (u .its-number) (group-value its-group) ∙ ap (sharing (number-of (leaf a)) (size k)) kids-numbers ∙ sharing-trees a (u .fitting) k (spell (h .rest) (h .zeros)) (group-fits its-group) in
+            let count : sharing (unit-of j (drop (child-at i l) l)) (children (getD l 0 0)) (drop 1 l) ≡ pick (shares a k) (groups k) 0 =
+            ap₂ (λ x m. sharing x m (drop 1 l)) (u .its-number) (group-children its-group) ∙ ap (sharing (number-of (leaf a)) (size k)) kids-numbers ∙ sharing-trees a (u .fitting) k (spell (h .rest) (h .zeros)) (group-fits its-group) in
             ap (leb 2) count
             ∙ go (groups k) (shares a k) (literals-only (first i k)) before
-            ∙ sym (rule-asks ∙ asked (h .row .conn) i j k (conjunction-there .1) (u .there) (u .new))
+            ∙ sym (rule-asks ∙ asked (h .conn) i j k (conjunction-there .1) (u .there) (u .new))
           where
             go : (x : ℕ) (b lo : Bool) → (b ≡ true → lo ≡ true) → leb 2 (pick b x 0) ≡ (lo && b && leb 2 x)
             go x true lo f = rw (f refl)

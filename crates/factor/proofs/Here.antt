@@ -7,7 +7,7 @@ use borrow.Author.Tests.{le-leb, lt-leb, lt-ltb, le-ltb, eqb-true, eq-eqb, ne-eq
 use lib.Dec.{eqb, ltb}
 use lib.ListN.{getD, drop}
 use Rattle.model.specs.Base.{pick}
-use Rattle.model.specs.Code.{kind, value}
+use Rattle.model.specs.Code.{kind, children}
 use Rattle.theory.specs.Logic.{and-split}
 use Rattle.theory.specs.Scan.{is-literal}
 use Rattle.theory.specs.Spans.{span, child-at}
@@ -23,33 +23,33 @@ module _ (a : ℕ) (l : List ℕ) where
   unfolding shares-here
   shares-not h k = rw (h, ne-eqb (kind (getD l 0 0)) 3 k)
 
-  pub shares-among : is-literal (getD l 0 0) ≡ false → kind (getD l 0 0) ≡ 3 → shares-here a l ≡ ltb (unit-place a (value (getD l 0 0)) (drop 1 l)) (span (value (getD l 0 0)) (drop 1 l))
+  pub shares-among : is-literal (getD l 0 0) ≡ false → kind (getD l 0 0) ≡ 3 → shares-here a l ≡ ltb (unit-place a (children (getD l 0 0)) (drop 1 l)) (span (children (getD l 0 0)) (drop 1 l))
   unfolding shares-here among
   shares-among h k = rw (h, eq-eqb (kind (getD l 0 0)) 3 k)
 
 -- The literal that is child j of a group, for the first time.
 module _ (j : ℕ) (l : List ℕ) where
-  pub unit-past : value (getD l 0 0) ≤ j → unit-of j l ≡ 0
+  pub unit-past : children (getD l 0 0) ≤ j → unit-of j l ≡ 0
   unfolding unit-of pick
-  unit-past h = rw (le-leb (value (getD l 0 0)) j h)
+  unit-past h = rw (le-leb (children (getD l 0 0)) j h)
 
-  module _ (h : j < value (getD l 0 0)) where
+  module _ (h : j < children (getD l 0 0)) where
     pub unit-inner : is-literal (getD l (child-at j l) 0) ≡ false → unit-of j l ≡ 0
     unfolding unit-of pick
-    unit-inner e = rw (lt-leb (value (getD l 0 0)) j h, e)
+    unit-inner e = rw (lt-leb (children (getD l 0 0)) j h, e)
 
     module _ (e : is-literal (getD l (child-at j l) 0) ≡ true) where
       pub unit-again : unit-place (getD l (child-at j l) 0) j (drop 1 l) < span j (drop 1 l) → unit-of j l ≡ 0
       unfolding unit-of pick among
-      unit-again k = rw (lt-leb (value (getD l 0 0)) j h, e, lt-ltb (unit-place (getD l (child-at j l) 0) j (drop 1 l)) (span j (drop 1 l)) k)
+      unit-again k = rw (lt-leb (children (getD l 0 0)) j h, e, lt-ltb (unit-place (getD l (child-at j l) 0) j (drop 1 l)) (span j (drop 1 l)) k)
 
       pub unit-new : span j (drop 1 l) ≤ unit-place (getD l (child-at j l) 0) j (drop 1 l) → unit-of j l ≡ getD l (child-at j l) 0
       unfolding unit-of pick among
-      unit-new k = rw (lt-leb (value (getD l 0 0)) j h, e, le-ltb (unit-place (getD l (child-at j l) 0) j (drop 1 l)) (span j (drop 1 l)) k)
+      unit-new k = rw (lt-leb (children (getD l 0 0)) j h, e, le-ltb (unit-place (getD l (child-at j l) 0) j (drop 1 l)) (span j (drop 1 l)) k)
 
 -- A group that shares a number is a conjunction that has it among its children.
-pub shares-group : (a : ℕ) (l : List ℕ) → shares-here a l ≡ true → is-literal (getD l 0 0) ≡ false → (kind (getD l 0 0) ≡ 3) × (among a (value (getD l 0 0)) (drop 1 l) ≡ true)
+pub shares-group : (a : ℕ) (l : List ℕ) → shares-here a l ≡ true → is-literal (getD l 0 0) ≡ false → (kind (getD l 0 0) ≡ 3) × (among a (children (getD l 0 0)) (drop 1 l) ≡ true)
 unfolding shares-here
 shares-group a l h e =
-    let s = and-split (eqb (kind (getD l 0 0)) 3) (among a (value (getD l 0 0)) (drop 1 l)) (rw e at h) in
+    let s = and-split (eqb (kind (getD l 0 0)) 3) (among a (children (getD l 0 0)) (drop 1 l)) (rw e at h) in
     (eqb-true (kind (getD l 0 0)) 3 (s .0), s .1)

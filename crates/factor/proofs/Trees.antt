@@ -15,7 +15,7 @@ use Rattle.model.specs.Code.{leaf, head, encode, conn-kind, number-of}
 use Rattle.model.specs.Rules.{without-unit, shares, groups}
 use Rattle.theory.specs.Logic.{true-false, or-neither}
 use Rattle.theory.specs.Literals.{same-is}
-use Rattle.theory.specs.Numbers.{fits, amount, kind-number, value-number}
+use Rattle.theory.specs.Numbers.{fits, head-kind, head-children}
 use Rattle.theory.specs.Scan.{is-literal}
 use Rattle.theory.specs.Spans.{span-encode}
 use Rattle.theory.specs.Flat.{Fits, fits-lit}
@@ -141,10 +141,10 @@ module _ (a : Literal) (fit : fits (leaf a) ≡ true) where
   here-lit x s h = shares-literal (number-of (leaf a)) (number-of (leaf x) ∷ s) (leaf-literal x h)
 
   here-node : (c : Conn) (k : Forest) (s : List ℕ) → fits (head c (size k)) ≡ true → Fits k → shares-here (number-of (leaf a)) (number-of (head c (size k)) ∷ (code k ++ s)) ≡ (same-conn and c && has-unit a k)
-  unfolding shares-here same-conn number-of conn-kind fits amount is-literal
-  here-node and k s h w = rw (kind-number 3 (size k) h, value-number 3 (size k) h) (among-trees k s w)
-  here-node or k s h w = rw (kind-number 4 (size k) h)
-  here-node root k s h w = rw (kind-number 5 (size k) h)
+  unfolding shares-here same-conn conn-kind is-literal
+  here-node and k s h w = rw (head-kind and (size k) h, head-children and (size k) h) (among-trees k s w)
+  here-node or k s h w = rw (head-kind or (size k) h)
+  here-node root k s h w = rw (head-kind root (size k) h)
 
   share-lit : (x : Literal) (n : ℕ) (s : List ℕ) → fits (leaf x) ≡ true → all-share (number-of (leaf a)) (suc n) (number-of (leaf x) ∷ s) ≡ all-share (number-of (leaf a)) n s
   unfolding all-share

@@ -5,7 +5,7 @@ use Prim.Native.Nat.{ℕ, zero, suc, _+_}
 use lib.Dec.{eqb, leb, ltb}
 use lib.ListN.{getD, drop}
 use Rattle.model.specs.Base.{pick}
-use Rattle.model.specs.Code.{kind, value}
+use Rattle.model.specs.Code.{kind, children}
 use Rattle.theory.specs.Scan.{is-literal}
 use Rattle.theory.specs.Spans.{span, child-at}
 
@@ -31,13 +31,13 @@ among a n l = ltb (unit-place a n l) (span n l)
 unfoldable pub unit-of : ℕ → List ℕ → ℕ
 unit-of j l =
     let x = getD l (child-at j l) 0 in
-    pick (leb (value (getD l 0 0)) j) 0 (pick (is-literal x) (pick (among x j (drop 1 l)) 0 x) 0)
+    pick (leb (children (getD l 0 0)) j) 0 (pick (is-literal x) (pick (among x j (drop 1 l)) 0 x) 0)
 
 -- The first tree is a literal, or a conjunction that has the number among its children; and so each of so many.
 unfoldable pub shares-here : ℕ → List ℕ → Bool
 shares-here a l =
     let x = getD l 0 0 in
-    is-literal x || (eqb (kind x) 3 && among a (value x) (drop 1 l))
+    is-literal x || (eqb (kind x) 3 && among a (children x) (drop 1 l))
 
 unfoldable pub all-share : ℕ → ℕ → List ℕ → Bool
 all-share a n l = walk (λ s later. shares-here a s && later) true n l

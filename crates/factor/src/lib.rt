@@ -3,7 +3,8 @@ ghost use mathlib.Core.Path.{_≡_};
 ghost use Prim.Native.Nat.{_≤_, _<_};
 ghost use lib.ListN.{length, getD};
 ghost use Rattle.model.specs.Base.{«is-some»};
-ghost use Rattle.model.specs.Code.{value};
+ghost use Rattle.model.specs.Limits.{«sheet-room»};
+ghost use Rattle.model.specs.Code.{children};
 ghost use Rattle.model.specs.Rules.{rewrite};
 ghost use Rattle.theory.specs.Spans.{«child-at»};
 ghost use Rattle.theory.specs.Stretches.{Stretch, «forest-in»};
@@ -12,7 +13,7 @@ ghost use Rattle.factor.specs.Walks.{«group-here», sharing, «shares-h
 
 // The place of the first of so many trees that is the literal itself, or the place after them where none is.
 pub fn unit_place(part: &[u16], trees: usize, literal: u16) -> usize
-    requires { ⌜ length (now part) ≤ 4096 ⌝ }
+    requires { ⌜ length (now part) ≤ «sheet-room» ⌝ }
     ensures { λ r. ⌜ (r ≡ «unit-place» literal trees (now (part .entry))) × (r ≤ length (now (part .entry))) ⌝ }
 {
     let mut at = 0;
@@ -29,11 +30,11 @@ pub fn unit_place(part: &[u16], trees: usize, literal: u16) -> usize
 
 // The literal that is child j of the group, where no earlier child is the same literal; and else 0.
 pub fn unit_of(part: &[u16], j: usize) -> u16
-    requires { ⌜ (1 ≤ length (now part)) × (length (now part) ≤ 4096) ⌝ }
-    requires { ⌜ (j < value (getD (now part) 0 0) → «child-at» j (now part) < length (now part)) ⌝ }
+    requires { ⌜ (1 ≤ length (now part)) × (length (now part) ≤ «sheet-room») ⌝ }
+    requires { ⌜ (j < children (getD (now part) 0 0) → «child-at» j (now part) < length (now part)) ⌝ }
     ensures { λ r. ⌜ r ≡ «unit-of» j (now (part .entry)) ⌝ }
 {
-    if nodes::value_of(numbers::wide16(part[0])) <= j {
+    if nodes::children_of(numbers::wide16(part[0])) <= j {
         return 0;
     }
     let before = spans::span_of(&part[1..], j);
@@ -49,7 +50,7 @@ pub fn unit_of(part: &[u16], j: usize) -> u16
 
 // The first tree is a literal, or a conjunction that has the literal among its children.
 fn shares(part: &[u16], literal: u16) -> bool
-    requires { ⌜ (1 ≤ length (now part)) × (length (now part) ≤ 4096) ⌝ }
+    requires { ⌜ (1 ≤ length (now part)) × (length (now part) ≤ «sheet-room») ⌝ }
     ensures { λ r. ⌜ r ≡ «shares-here» literal (now (part .entry)) ⌝ }
 {
     let x = numbers::wide16(part[0]);
@@ -59,7 +60,7 @@ fn shares(part: &[u16], literal: u16) -> bool
     if nodes::kind_of(x) != 3 {
         return false;
     }
-    let m = nodes::value_of(x);
+    let m = nodes::children_of(x);
     unit_place(&part[1..], m, literal) < spans::span_of(&part[1..], m)
 }
 
@@ -75,7 +76,7 @@ fn group_of(x: u16) -> u16
 
 // The number of groups among so many trees, where each shares the literal; and else 0.
 pub fn sharing_groups(part: &[u16], trees: usize, literal: u16) -> u16
-    requires { ⌜ (length (now part) ≤ 4096) × (trees ≤ 4096) ⌝ }
+    requires { ⌜ (length (now part) ≤ «sheet-room») × (trees ≤ «sheet-room») ⌝ }
     ensures { λ r. ⌜ r ≡ sharing literal trees (now (part .entry)) ⌝ }
 {
     let mut groups = 0;
@@ -97,7 +98,7 @@ pub fn sharing_groups(part: &[u16], trees: usize, literal: u16) -> u16
 pub fn asks(part: &[u16], i: usize, j: usize, at: usize) -> bool
     requires { ⌜ Stretch (now part) ⌝ }
     requires { ⌜ Headed 14 (now part) ⌝ }
-    requires { ⌜ (i < value (getD (now part) 0 0)) × (at ≡ «child-at» i (now part)) ⌝ }
+    requires { ⌜ (i < children (getD (now part) 0 0)) × (at ≡ «child-at» i (now part)) ⌝ }
     ensures { λ r. ⌜ r ≡ «is-some» (rewrite 14 i j («forest-in» (now (part .entry)))) ⌝ }
 {
     if at != 1 + i {
@@ -110,6 +111,6 @@ pub fn asks(part: &[u16], i: usize, j: usize, at: usize) -> bool
     if literal == 0 {
         return false;
     }
-    let k = nodes::value_of(numbers::wide16(part[0]));
+    let k = nodes::children_of(numbers::wide16(part[0]));
     2 <= sharing_groups(&part[1..], k, literal)
 }

@@ -6,15 +6,15 @@ use Prim.Native.Nat.{ℕ, suc, _≤_, _<_}
 use lib.ListN.{getD}
 use Rattle.model.specs.Base.{is-some}
 use Rattle.model.specs.Forest.{size, after, kids}
-use Rattle.model.specs.Code.{value}
+use Rattle.model.specs.Code.{children}
 use Rattle.model.specs.Rules.{rewrite}
 use Rattle.theory.specs.Stretches.{forest-in}
 
 -- The first child with which a rule applies whose inner child is always 0; as many as there are children where there is none.
 pub record First-child (rule i : ℕ) (l : List ℕ) : Type 0 where
-  pub few : i ≤ value (getD l 0 0)
+  pub few : i ≤ children (getD l 0 0)
   pub before : (k : ℕ) → k < i → is-some (rewrite rule k 0 (forest-in l)) ≡ false
-  pub there : i < value (getD l 0 0) → is-some (rewrite rule i 0 (forest-in l)) ≡ true
+  pub there : i < children (getD l 0 0) → is-some (rewrite rule i 0 (forest-in l)) ≡ true
 
 -- One more than the inner children of child i.
 abbrev pub inner-bound : ℕ → List ℕ → ℕ

@@ -4,9 +4,9 @@ use mathlib.Core.List.{List}
 use Prim.Native.Nat.{ℕ}
 use lib.Dec.{eqb, leb}
 use lib.ListN.{getD}
-use Rattle.model.specs.Code.{kind, value}
+use Rattle.model.specs.Code.{kind, children}
 use Rattle.rules.specs.Columns.{kindFor, fewestFor}
 
 -- The first number is of the rule's kind and has enough children.
 unfoldable pub headed : ℕ → List ℕ → Bool
-headed r l = eqb (kind (getD l 0 0)) (kindFor r) && leb (fewestFor r) (value (getD l 0 0))
+headed r l = eqb (kind (getD l 0 0)) (kindFor r) && leb (fewestFor r) (children (getD l 0 0))

@@ -11,8 +11,10 @@ use lib.Dec.{eqb}
 use lib.ListN.{length, take, drop, getD, drop-of-length-le}
 use lib.Seq.{drop-cons, drop-drop, drop-length}
 use Rattle.model.specs.Base.{pick}
-use Rattle.model.specs.Calls.{Refusal, option-refused, Answer, refused, accepted, lookupOf, chooseOf}
-use Rattle.model.specs.Desk.{before-line, lines, choose-found, keyed, go-on, all-keyed}
+use Rattle.calls.specs.Refusals.{Refusal, option-refused}
+use Rattle.calls.specs.Outcomes.{Answer, refused, accepted}
+use Rattle.calls.specs.Calls.{lookupOf, chooseOf}
+use Rattle.calls.specs.Desk.{before-line, lines, choose-found, keyed, go-on, all-keyed}
 use Rattle.answers.specs.Meaning.{afterCall}
 use Rattle.keying.specs.Endings.{ending, dropped}
 

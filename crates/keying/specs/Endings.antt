@@ -3,7 +3,7 @@ use mathlib.Core.List.{List, [], _∷_}
 use Prim.Native.Nat.{ℕ, suc}
 use lib.Dec.{eqb}
 use Rattle.model.specs.Base.{pick}
-use Rattle.model.specs.Calls.{Answer, refused, accepted}
+use Rattle.calls.specs.Outcomes.{Answer, refused, accepted}
 
 -- The bytes before the first line end, or all of them.
 unfoldable pub ending : List ℕ → ℕ

@@ -2,8 +2,8 @@
 ghost use mathlib.Core.Path.{_≡_};
 ghost use Prim.Native.Nat.{_≤_};
 ghost use lib.ListN.{length};
-ghost use Rattle.model.specs.Calls.{lookupOf};
-ghost use Rattle.model.specs.Desk.{lines, «choose-found», keyed, «all-keyed»};
+ghost use Rattle.calls.specs.Calls.{lookupOf};
+ghost use Rattle.calls.specs.Desk.{lines, «choose-found», keyed, «all-keyed»};
 ghost use Rattle.answers.specs.Meaning.{doneOf, foundOf, afterCall};
 ghost use Rattle.keying.specs.Endings.{ending, dropped};
 use answers::Done;

@@ -13,17 +13,18 @@ use lib.Seq.{slice, slice-empty, slice-cons, take-add, drop-at, length-take-le, 
 use Rattle.model.specs.Base.{pick, all, is-some, then}
 use Rattle.model.specs.Literal.{Literal}
 use Rattle.model.specs.Forest.{Conn, and, Forest, nil, lit, node, _⊕_, size, first, after, literal-at, conjunction-at, literals-only}
-use Rattle.model.specs.Code.{leaf, encode, value, number, conn-kind, number-of}
+use Rattle.model.specs.Code.{leaf, head, encode, children, number, number-of}
 use Rattle.model.specs.Rules.{lift, merge, lifts, merges, change, rewrite}
 use Rattle.theory.specs.Logic.{true-false, some-inj, fails-if, pick-keeps, is-some-of, is-some-only, is-some-then, is-some-first, only-some, then-some}
 use Rattle.theory.specs.Forests.{size-⊕, size-first, size-after, past-end, conjunction-here, literal-here}
+use Rattle.theory.specs.Numbers.{head-number}
 use Rattle.theory.specs.Scan.{is-literal}
 use Rattle.theory.specs.Leaves.{leaf-literal, head-inner}
 use Rattle.theory.specs.Spans.{child-at}
 use Rattle.theory.specs.Flat.{spell, spell-⊕, Fits, fits-⊕, fits-lit, fits-tree}
 use Rattle.theory.specs.Stretches.{Stretch, forest-in}
 use Rattle.theory.specs.Heads.{Headed, rewritten-to}
-use Rattle.theory.specs.Children.{moved-at, first-left, code, spell-parts, Group, group-head, group-value, group-bounds, opening, child-opened, child-within, child-place, headed-group, child-stands, child-room, child-fits, child-split, child-group, child-literal}
+use Rattle.theory.specs.Children.{moved-at, first-left, code, spell-parts, Group, group-head, group-children, group-bounds, opening, child-opened, child-within, child-place, headed-group, child-stands, child-room, child-fits, child-split, child-group, child-literal}
 use Rattle.theory.specs.Turns.{family-at, family-asks, family-turn}
 use Rattle.lift.specs.Asked.{literalChild, othersLiteral}
 
@@ -70,7 +71,7 @@ others-literals {l} {c} {k} {f} {z} g i h =
 -- A child that is a literal.
 literal-child : {l : List ℕ} {c : Conn} {k f : Forest} {z : ℕ} → Group l c k f z → (j : ℕ) → literalChild j l ≡ is-some (literal-at (after j k))
 unfolding literalChild literal-at is-some
-literal-child {l} {k = k} g j = rw (group-value g) (go (ltb j (size k)) refl)
+literal-child {l} {k = k} g j = rw (group-children g) (go (ltb j (size k)) refl)
   where
     go : (b : Bool) → ltb j (size k) ≡ b → (b && is-literal (getD l (child-at j l) 0)) ≡ is-some (literal-at (after j k))
     go true e = child-literal g j (ltb-true j (size k) e)
@@ -102,7 +103,7 @@ module _ (r : ℕ) (c : Conn) (i j : ℕ) (k : Forest) where
 module _ {r : ℕ} {l : List ℕ} (s : Stretch l) (h : Headed r l) (i j : ℕ) where
   pub asks-nothing : 11 ≤ r → r ≤ 13 → is-some (conjunction-at (after i (h .children))) ≡ false → false ≡ is-some (rewrite r i j (forest-in l))
   asks-nothing a b e =
-      sym (fails-if (is-some (rewrite r i j (forest-in l))) (λ t. true-false (sym (conjunction-asked r (h .row .conn) i j (h .children) a b (sym (family-asks h i j) ∙ t)) ∙ e)))
+      sym (fails-if (is-some (rewrite r i j (forest-in l))) (λ t. true-false (sym (conjunction-asked r (h .conn) i j (h .children) a b (sym (family-asks h i j) ∙ t)) ∙ e)))
 
   -- Child i is a conjunction.
   module _ {m : Forest} (e : conjunction-at (after i (h .children)) ≡ some m) where
@@ -111,10 +112,10 @@ module _ {r : ℕ} {l : List ℕ} (s : Stretch l) (h : Headed r l) (i j : ℕ) w
 
     pub asks-literal : 11 ≤ r → r ≤ 12 → literalChild j (drop (child-at i l) l) ≡ is-some (rewrite r i j (forest-in l))
     asks-literal a b =
-        literal-child conjunction-group j ∙ sym (family-asks h i j ∙ literal-asked r (h .row .conn) i j (h .children) e a b)
+        literal-child conjunction-group j ∙ sym (family-asks h i j ∙ literal-asked r (h .conn) i j (h .children) e a b)
 
     asks-beside : r ≡ 13 → is-some (rewrite r i j (forest-in l)) ≡ (eqb j 0 && literals-only (first i (h .children)) && literals-only (after (suc i) (h .children)))
-    asks-beside q = family-asks h i j ∙ others-asked r (h .row .conn) i j (h .children) e q
+    asks-beside q = family-asks h i j ∙ others-asked r (h .conn) i j (h .children) e q
 
     pub asks-others-none : r ≡ 13 → (j ≡ 0 → ⊥) → false ≡ is-some (rewrite r i j (forest-in l))
     asks-others-none q n = sym (asks-beside q ∙ rw (ne-eqb j 0 n))
@@ -141,39 +142,39 @@ literal-moved {l} {c} {k} {f} {z} g i j {m} {q} {u} {x} e w =
     sym (child-stands g i h) ∙ child-split d j n ∙ ap (λ t. opening and m j ++ spell (t ⊕ (q ⊕ f)) z) w in
     let split : l ≡ opening c k i ++ (opening and m j ++ number-of (leaf x) ∷ r) = child-split g i h ∙ ap (λ t. opening c k i ++ t) inside in
     let put : set (set l 0 v) a y ≡ (v ∷ code p) ++ ((y ∷ code o) ++ number-of (leaf x) ∷ r) =
-    ap (λ t. set (set t 0 v) a y) split ∙ set-at (v ∷ code p) (number (conn-kind and) (size m)) (code o ++ number-of (leaf x) ∷ r) y a (child-place g i h) in
-    let new : v ≡ number (conn-kind c) (size (p ⊕ lit x (node and (o ⊕ u) q))) = omega (arith, group-head g, size-after i k, ap size e, size-⊕ p (lit x (node and (o ⊕ u) q)), size-first i k h) in
-    let less : y ≡ number (conn-kind and) (size (o ⊕ u)) = omega (arith, first-left a l, group-head d, size-after j m, ap size w, size-⊕ o u, size-first j m n) in
+    ap (λ t. set (set t 0 v) a y) split ∙ set-at (v ∷ code p) (number-of (head and (size m))) (code o ++ number-of (leaf x) ∷ r) y a (child-place g i h) in
+    let new : v ≡ number-of (head c (size (p ⊕ lit x (node and (o ⊕ u) q)))) = omega (arith, group-head g, head-number c (size (p ⊕ lit x (node and (o ⊕ u) q))), size-after i k, ap size e, size-⊕ p (lit x (node and (o ⊕ u) q)), size-first i k h) in
+    let less : y ≡ number-of (head and (size (o ⊕ u))) = omega (arith, first-left a l, head-number and (size (o ⊕ u)), group-head d, size-after j m, ap size w, size-⊕ o u, size-first j m n) in
     moved-at (v ∷ code p) (y ∷ code o) r (set (set l 0 v) a y) (number-of (leaf x)) a b put (child-place g i h) (omega (arith, child-place d j n))
     ∙ ap₂ (λ s t. s ∷ (code p ++ number-of (leaf x) ∷ (t ∷ (code o ++ r)))) new less
-    ∙ sym (spell-parts c p (lit x (node and (o ⊕ u) q)) f z ∙ ap (λ t. number (conn-kind c) (size (p ⊕ lit x (node and (o ⊕ u) q))) ∷ (code p ++ number-of (leaf x) ∷ t)) (spell-parts and o u (q ⊕ f) z))
+    ∙ sym (spell-parts c p (lit x (node and (o ⊕ u) q)) f z ∙ ap (λ t. number-of (head c (size (p ⊕ lit x (node and (o ⊕ u) q)))) ∷ (code p ++ number-of (leaf x) ∷ t)) (spell-parts and o u (q ⊕ f) z))
 
 -- The step, on the numbers.
 module _ {r : ℕ} {l : List ℕ} (s : Stretch l) (h : Headed r l) (i j : ℕ) (t : is-some (rewrite r i j (forest-in l)) ≡ true) where
   -- The conjunction among the children, and the place of its literal.
   pub conjunction-there : 11 ≤ r → r ≤ 13 → (m : Forest) × (conjunction-at (after i (h .children)) ≡ some m)
   conjunction-there a b =
-      is-some-of (conjunction-at (after i (h .children))) (conjunction-asked r (h .row .conn) i j (h .children) a b (sym (family-asks h i j) ∙ t))
+      is-some-of (conjunction-at (after i (h .children))) (conjunction-asked r (h .conn) i j (h .children) a b (sym (family-asks h i j) ∙ t))
 
   pub literal-within : 11 ≤ r → r ≤ 12 → {m : Forest} → conjunction-at (after i (h .children)) ≡ some m → j < size m
   unfolding size
   literal-within a b {m} e =
-      let w = is-some-of (literal-at (after j m)) (sym (family-asks h i j ∙ literal-asked r (h .row .conn) i j (h .children) e a b) ∙ t) in
+      let w = is-some-of (literal-at (after j m)) (sym (family-asks h i j ∙ literal-asked r (h .conn) i j (h .children) e a b) ∙ t) in
       omega (arith, size-after j m, ap size (literal-here j m (w .1)))
 
   -- The conjunction's head goes.
-  pub turns-merge : {out : List ℕ} → r ≡ 13 → length out ≡ length l → let a = child-at i l in let new = set l 0 (getD l 0 0 + value (getD l a 0) - 1) in out ≡ take a new ++ (drop (a + 1) new ++ replicate 1 0) → out ≡ rewritten-to r i j l
+  pub turns-merge : {out : List ℕ} → r ≡ 13 → length out ≡ length l → let a = child-at i l in let new = set l 0 (getD l 0 0 + children (getD l a 0) - 1) in out ≡ take a new ++ (drop (a + 1) new ++ replicate 1 0) → out ≡ rewritten-to r i j l
   unfolding family-at pick change merge _⊕_
   turns-merge q n e =
-      let c = h .row .conn in
+      let c = h .conn in
       let k = h .children in
       let g = headed-group s h in
       family-turn h i j (h .zeros + 1) t
       (λ new w. let o = then-some (conjunction-at (after i k)) _ (rw q at w) in
       let m = o .0 in
       let here = conjunction-here i k (o .1) in
-      let more : getD l 0 0 + value (getD l (child-at i l) 0) - 1 + 1 ≡ getD l 0 0 + size m =
-      rw (← first-left (child-at i l) l) (omega (arith, group-value (child-group g i here), group-bounds g)) in
+      let more : getD l 0 0 + children (getD l (child-at i l) 0) - 1 + 1 ≡ getD l 0 0 + size m =
+      rw (← first-left (child-at i l) l) (omega (arith, group-children (child-group g i here), group-bounds g)) in
       e ∙ child-opened g i here _ more ∙ ap (λ f. spell (f ⊕ h .rest) (h .zeros + 1)) (only-some _ (node c (first i k ⊕ m ⊕ after (suc i) k) nil) (o .2) .1))
       n
 

@@ -6,13 +6,13 @@ use lib.Dec.{ltb}
 use lib.ListN.{getD}
 use lib.Seq.{slice}
 use Rattle.model.specs.Base.{all}
-use Rattle.model.specs.Code.{value}
+use Rattle.model.specs.Code.{children}
 use Rattle.theory.specs.Scan.{is-literal}
 use Rattle.theory.specs.Spans.{child-at}
 
 -- Child j is there, and a literal.
 unfoldable pub literalChild : ℕ → List ℕ → Bool
-literalChild j l = ltb j (value (getD l 0 0)) && is-literal (getD l (child-at j l) 0)
+literalChild j l = ltb j (children (getD l 0 0)) && is-literal (getD l (child-at j l) 0)
 
 -- Of k children, as many numbers as there are before child i are literals, and as many as there are after it.
 unfoldable pub othersLiteral : ℕ → ℕ → List ℕ → Bool

@@ -5,13 +5,15 @@ ghost use Prim.Native.Nat.{_+_, _-_, _≤_, _<_};
 ghost use lib.ListN.{length, getD};
 ghost use lib.Seq.{slice};
 ghost use Rattle.model.specs.Base.{all, «is-some»};
-ghost use Rattle.model.specs.Code.{value};
+ghost use Rattle.model.specs.Limits.{«sheet-room»};
+ghost use Rattle.model.specs.Code.{children};
 ghost use Rattle.model.specs.Rules.{rewrite};
 ghost use Rattle.theory.specs.Scan.{«is-literal»};
 ghost use Rattle.theory.specs.Spans.{«child-at»};
 ghost use Rattle.theory.specs.Stretches.{Stretch, «forest-in»};
 ghost use Rattle.theory.specs.Heads.{Headed, «rewritten-to»};
 ghost use Rattle.lift.specs.Asked.{literalChild, othersLiteral};
+use limits::KIND_FACTOR_16;
 
 // Every number from one place up to another is a literal.
 fn are_literals(part: &[u16], from: usize, to: usize) -> bool
@@ -30,11 +32,11 @@ fn are_literals(part: &[u16], from: usize, to: usize) -> bool
 
 // Child j of the group that a stretch begins with is there, and a literal.
 fn is_literal_child(part: &[u16], j: usize) -> bool
-    requires { ⌜ (1 ≤ length (now part)) × (length (now part) ≤ 4096) ⌝ }
-    requires { ⌜ (j < value (getD (now part) 0 0) → «child-at» j (now part) < length (now part)) ⌝ }
+    requires { ⌜ (1 ≤ length (now part)) × (length (now part) ≤ «sheet-room») ⌝ }
+    requires { ⌜ (j < children (getD (now part) 0 0) → «child-at» j (now part) < length (now part)) ⌝ }
     ensures { λ r. ⌜ r ≡ literalChild j (now (part .entry)) ⌝ }
 {
-    if nodes::value_of(numbers::wide16(part[0])) <= j {
+    if nodes::children_of(numbers::wide16(part[0])) <= j {
         return false;
     }
     let from = spans::child_at(part, j);
@@ -43,7 +45,7 @@ fn is_literal_child(part: &[u16], j: usize) -> bool
 
 // Rule 13's condition on the children other than child i, of k in all.
 fn are_others_literals(part: &[u16], i: usize, k: usize) -> bool
-    requires { ⌜ (i < k) × (k < length (now part)) × (length (now part) ≤ 4096) ⌝ }
+    requires { ⌜ (i < k) × (k < length (now part)) × (length (now part) ≤ «sheet-room») ⌝ }
     requires { ⌜ «child-at» (i + 1) (now part) + (k - 1 - i) ≤ length (now part) ⌝ }
     ensures { λ r. ⌜ r ≡ othersLiteral i k (now (part .entry)) ⌝ }
 {
@@ -59,14 +61,14 @@ pub fn asks(part: &[u16], rule: usize, i: usize, j: usize, at: usize) -> bool
     requires { ⌜ (11 ≤ rule) × (rule ≤ 13) ⌝ }
     requires { ⌜ Stretch (now part) ⌝ }
     requires { ⌜ Headed rule (now part) ⌝ }
-    requires { ⌜ (i < value (getD (now part) 0 0)) × (at ≡ «child-at» i (now part)) ⌝ }
+    requires { ⌜ (i < children (getD (now part) 0 0)) × (at ≡ «child-at» i (now part)) ⌝ }
     ensures { λ r. ⌜ r ≡ «is-some» (rewrite rule i j («forest-in» (now (part .entry)))) ⌝ }
 {
     if nodes::kind_of(numbers::wide16(part[at])) != 3 {
         return false;
     }
     if rule == 13 {
-        let k = nodes::value_of(numbers::wide16(part[0]));
+        let k = nodes::children_of(numbers::wide16(part[0]));
         return j == 0 && are_others_literals(part, i, k);
     }
     is_literal_child(&part[at..], j)
@@ -82,7 +84,9 @@ pub fn turn(part: &mut [u16], rule: usize, i: usize, j: usize)
 {
     let at = spans::child_at(part, i);
     if rule == 13 {
-        part[0] = part[0] + part[at] % 4096 - 1;
+        let head = numbers::wide16(part[0]);
+        let more = nodes::children_of(numbers::wide16(part[at]));
+        part[0] = (head + more - 1) as u16;
         shifts::remove(part, at, 1);
         return;
     }

@@ -1,24 +1,22 @@
 -- Inside its tree, a step of rule 9 or 10 makes a rule apply only where a child became a constant.
-use mathlib.Core.Bool.{true, false, _&&_}
+use mathlib.Core.Bool.{false}
 use mathlib.Core.List.{List}
 use mathlib.Core.Logic.{⊎-elim}
 use mathlib.Core.Option.{none, some}
 use mathlib.Core.Path.{_≡_, refl, sym, ap, _∙_}
 use Prim.Native.Nat.{ℕ, suc, _+_, _-_, _≤_, _<_}
 use native.Mathlib.Omega.{arith}
-use borrow.Author.Tests.{leb-true, ltb-true, ltb-false}
-use lib.Dec.{leb, ltb}
+use borrow.Author.Tests.{ltb-true, ltb-false}
+use lib.Dec.{ltb}
 use lib.ListN.{length, drop, length-append}
-use Rattle.model.specs.Base.{all}
 use Rattle.model.specs.Literal.{Literal}
-use Rattle.model.specs.Forest.{Conn, same-conn, Forest, nil, lit, node, _⊕_, size, first, after, kids, literal-at, conjunction-at, constant-at}
+use Rattle.model.specs.Forest.{Conn, Forest, nil, lit, node, _⊕_, size, first, after, kids, literal-at, conjunction-at, constant-at}
 use Rattle.model.specs.Code.{Node, leaf, head, encode, push, decode, trees}
-use Rattle.model.specs.Rules.{assigned, spread, lift, factor, spreads, change, table, turn, rewrite, step}
-use Rattle.theory.specs.Logic.{either, and-split, none-if, only-some, then-some, only-then}
-use Rattle.theory.specs.Lists.{all-at}
+use Rattle.model.specs.Rules.{assigned, spread, lift, factor, spreads, change, rewrite, step}
+use Rattle.theory.specs.Logic.{either, only-some, then-some}
 use Rattle.theory.specs.Forests.{literal-here, cut-at, assigned-lit}
 use Rattle.theory.specs.Codes.{encode-⊕, decode-encode}
-use Rattle.theory.specs.Inversion.{of-table, rewritten}
+use Rattle.theory.specs.Bounds.{past-last}
 use Rattle.locality.specs.Zones.{Quiet, tree-end}
 use Rattle.locality.specs.Places.{Rest, rest-as, rest-one, further, past-children, length-here}
 use Rattle.locality.specs.Turned.{Turned, old-here, new-here, turned}
@@ -46,21 +44,10 @@ module _ (b : Conn) (l : Literal) (k : Forest) (free : NoConstant (assigned b l 
   group-inside : (r : ℕ) (f g : Forest) → rewrite r i j (node c k f) ≡ none → rewrite r i j (node c (assigned b l k) g) ≡ none
   group-inside r f g = group-quiet (assigned-level b l k free) c i j lift-fades factor-fades r f g
 
--- Every rule needs a child, so none applies to a constant.
-some-children : all (λ w. leb 1 (w .fewest)) table ≡ true
-unfolding all table
-some-children = refl
-
+-- No rule applies to a constant, which has no child.
 empty-quiet : (r i j : ℕ) (d : Conn) (f : Forest) → rewrite r i j (node d nil f) ≡ none
-unfolding kids size turn
-empty-quiet r i j d f =
-    none-if (rewrite r i j (node d nil f)) (λ g e.
-    let w = rewritten r i j (node d nil f) e in
-    let fewest = w .row .fewest in
-    let o = only-then (same-conn (w .row .conn) (w .conn) && leb fewest (size (w .children))) (w .children) _ (w .turned) in
-    let enough = leb-true fewest (size (w .children)) (and-split (same-conn (w .row .conn) (w .conn)) _ (o .0) .1) in
-    let needed = leb-true 1 fewest (all-at (λ v. leb 1 (v .fewest)) table some-children (of-table r (w .of-rule))) in
-    absurd (omega (arith, ap (λ h. size (kids h)) (w .was))))
+unfolding kids size
+empty-quiet r i j d f = past-last r i j (node d nil f) (omega arith)
 
 -- The first tree of some trees, before any others.
 tree-inside : (b : Conn) (l : Literal) (t f g : Forest) → 1 ≤ size t → NoConstant (kids (assigned b l t ⊕ g)) → (r i j : ℕ) → rewrite r i j (t ⊕ f) ≡ none → rewrite r i j (assigned b l t ⊕ g) ≡ none

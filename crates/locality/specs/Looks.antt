@@ -7,7 +7,8 @@ use Prim.Native.Nat.{ℕ, suc}
 use lib.Dec.{eqb, leb}
 use Rattle.model.specs.Base.{only-if, then}
 use Rattle.model.specs.Literal.{Literal, option}
-use Rattle.model.specs.Forest.{Conn, same-conn, Forest, lit, node, _⊕_, size, first, after, literal-at, constant-at, literals-only, has-unit, mentions}
+use Rattle.model.specs.Forest.{Conn, Forest, lit, node, _⊕_, size, first, after, literal-at, constant-at, literals-only, has-unit, mentions}
+use Rattle.model.specs.Code.{conn-kind}
 use Rattle.model.specs.Rules.{neutral, deciding, shares, groups, absorb, omit, unwrap, spread, lift, merge, factor, Family, absorbs, omits, unwraps, spreads, lifts, merges, factors, change, Row, row-of, turn, rewrite}
 use Rattle.theory.specs.Logic.{none-some, and-split, and-join}
 use Rattle.locality.specs.Mentions.{both-ways}
@@ -104,7 +105,7 @@ module _ {n : ℕ} {k m : Forest} (x : Alike (suc n) k m) (c : Conn) (i j : ℕ)
     turn-fades : (w : Row) → Fades (turn w c i j k) (turn w c i j m)
     unfolding turn
     turn-fades w =
-        rw (alike-size x) (fades-when (same-conn (w .conn) c && leb (w .fewest) (size m)) k m (change (w .family) c i j) (change-fades (w .family)))
+        rw (alike-size x) (fades-when (eqb (w .kind) (conn-kind c) && leb (w .fewest) (size m)) k m (change (w .family) c i j) (change-fades (w .family)))
 
     pub group-quiet : (r : ℕ) (f g : Forest) → rewrite r i j (node c k f) ≡ none → rewrite r i j (node c m g) ≡ none
     unfolding rewrite

@@ -1,9 +1,10 @@
 -- Small combinators over Bool, Option and List that the definitions are written with.
 use mathlib.Core.Bool.{Bool, true, false, _&&_, _||_}
-use mathlib.Core.List.{List, [], _∷_}
+use mathlib.Core.List.{List, [], _∷_, _++_}
 use mathlib.Core.Option.{Option, none, some}
 use Prim.Native.Nat.{ℕ, zero, suc}
 use lib.Dec.{eqb}
+use lib.ListN.{length, drop}
 
 module _ {A : Type 0} where
   -- One of two values, by a test.
@@ -46,6 +47,10 @@ maybe b f (some a) = f a
 unfoldable pub then : {A B : Type 0} → Option A → (A → Option B) → Option B
 then none f = none
 then (some a) f = f a
+
+-- "Fills from the start; bytes beyond stay": a buffer after numbers were put at its start.
+unfoldable pub placed : List ℕ → List ℕ → List ℕ
+placed new old = new ++ drop (length new) old
 
 -- Two lists of numbers have the same numbers in the same order.
 unfoldable pub same-list : List ℕ → List ℕ → Bool

@@ -9,7 +9,7 @@ use Rattle.model.specs.Base.{pick, all, any, same-list}
 use Rattle.model.specs.Forest.{Forest, nil, lit, node, kids, size, root}
 use Rattle.model.specs.Code.{Node, head, encode, decode, one-tree, node-of}
 use Rattle.model.specs.Clauses.{Clause, clauses}
-use Rattle.model.specs.Limits.{usual, most-rules, most-nodes, code-length}
+use Rattle.model.specs.Limits.{usual, most-rules, most-nodes, head-length, code-length}
 use Rattle.model.specs.Sheet.{body-node, options-in, numbers-in, nodes-in}
 
 -- "16-bit numbers, low byte first."
@@ -43,7 +43,7 @@ head-in-limits b =
 
 -- "The length is exactly 8 + 13N + 4M + 2T."
 unfoldable pub codes-end : List ℕ → ℕ
-codes-end b = 8 + code-length * options-of b
+codes-end b = head-length + code-length * options-of b
 
 unfoldable pub contents-end : List ℕ → ℕ
 contents-end b = codes-end b + 4 * rules-of b
@@ -57,7 +57,7 @@ pieces k zero b = []
 pieces k (suc n) b = take k b ∷ pieces k n (drop k b)
 
 unfoldable pub codes-of : List ℕ → List (List ℕ)
-codes-of b = pieces code-length (options-of b) (drop 8 b)
+codes-of b = pieces code-length (options-of b) (drop head-length b)
 
 -- "Then M pairs (first node, node count)."
 pub record Entry : Type 0 where
@@ -145,7 +145,7 @@ written-rules s = kids (decode (nodes-in s))
 unfoldable pub written : List ℕ → List ℕ → List ℕ
 written s b =
     bytes-of (options-in s ∷ size (written-rules s) ∷ length (drop 1 (numbers-in s)) ∷ 0 ∷ [])
-    ++ (take (code-length * options-in s) (drop 8 b)
+    ++ (take (code-length * options-in s) (drop head-length b)
     ++ (bytes-of (lined-up 0 (counts (written-rules s))) ++ bytes-of (drop 1 (numbers-in s))))
 
 -- "A code to look up is given as its characters alone": the bytes of a code before its zeros.

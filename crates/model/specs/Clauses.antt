@@ -1,8 +1,9 @@
 -- Meaning: clauses, derived literals, contradiction.
 use mathlib.Core.List.{List, [], _∷_, _++_, map, List·Memᴰ}
 use mathlib.Core.Path.{_≡_}
+use Prim.Native.Nat.{ℕ, zero, suc}
 use Rattle.model.specs.Literal.{Literal, complement}
-use Rattle.model.specs.Forest.{Conn, and, or, root, Forest, nil, lit, node}
+use Rattle.model.specs.Forest.{Conn, and, or, root, Forest, nil, lit, node, size}
 
 -- "A clause is a set, so duplicates merge." A list that is only ever asked for its members.
 abbrev pub Clause : Type 0
@@ -13,23 +14,32 @@ unfoldable pub unions : List Clause → List Clause → List Clause
 unions [] ds = []
 unions (c ∷ cs) ds = map (λ d. c ++ d) ds ++ unions cs ds
 
--- "So true has no clause and false has the empty one."
-unfoldable pub no-child : Conn → List Clause
-no-child and = []
-no-child or = [] ∷ []
-no-child root = []
+-- From how many of its m children a clause of a node takes a clause each: "of an all-of or root, those of all children", so
+-- from one; "of an any-of, every union that takes one clause from each child", so from all.
+unfoldable pub need : Conn → ℕ → ℕ
+need and m = 1
+need or m = m
+need root m = 1
 
--- "Of an all-of or root, those of all children; of an any-of, every union that takes one clause from each child."
-unfoldable pub join : Conn → List Clause → List Clause → List Clause
-join and cs ds = cs ++ ds
-join or cs ds = unions cs ds
-join root cs ds = cs ++ ds
+-- The unions that take one clause from each of some r trees, for every choice of so many: of no tree; of a tree with these
+-- clauses and of later ones. "So true has no clause and false has the empty one."
+unfoldable pub no-tree : ℕ → List Clause
+no-tree zero = [] ∷ []
+no-tree (suc r) = []
 
--- The clauses of a node, by its connective and its children. "The clauses of a mark are one clause holding it."
+unfoldable pub one-tree-more : List Clause → (ℕ → List Clause) → ℕ → List Clause
+one-tree-more cs later zero = [] ∷ []
+one-tree-more cs later (suc r) = unions cs (later r) ++ later (suc r)
+
+-- "The clauses of a mark are one clause holding it."
+unfoldable pub some-of : Forest → ℕ → List Clause
+some-of nil = no-tree
+some-of (lit l f) = one-tree-more ((l ∷ []) ∷ []) (some-of f)
+some-of (node d k f) = one-tree-more (some-of k (need d (size k))) (some-of f)
+
+-- The clauses of a node, by its connective and its children.
 unfoldable pub clauses : Conn → Forest → List Clause
-clauses c nil = no-child c
-clauses c (lit l f) = join c ((l ∷ []) ∷ []) (clauses c f)
-clauses c (node d k f) = join c (clauses d k) (clauses c f)
+clauses c f = some-of f (need c (size f))
 
 -- "Facts are the least set such that a mark of a clause is a fact when the opposite of every other mark in that clause is a
 -- fact." Document 01's fact is a derived literal here.

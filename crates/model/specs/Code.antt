@@ -7,6 +7,7 @@ use lib.Dec.{eqb, leb}
 use lib.ListN.{length}
 use Rattle.model.specs.Base.{pick, only-if, then}
 use Rattle.model.specs.Literal.{Literal, pos, neg}
+use Rattle.model.specs.Limits.{kind-factor}
 use Rattle.model.specs.Forest.{Conn, and, or, root, Forest, nil, lit, node, size, first, after}
 
 -- A literal, or a connective with its number of children.
@@ -58,13 +59,13 @@ weight ns = length ns + literals ns
 
 -- "A node is one number: kind × 4,096 + value."
 unfoldable pub kind : ℕ → ℕ
-kind x = x / 4096
+kind x = x / kind-factor
 
 unfoldable pub value : ℕ → ℕ
-value x = x % 4096
+value x = x % kind-factor
 
 unfoldable pub number : ℕ → ℕ → ℕ
-number k v = k * 4096 + v
+number k v = k * kind-factor + v
 
 -- "Kind 1 is an option, 2 the same option barred, 3 all-of and 4 any-of, 5 the root."
 unfoldable pub conn-kind : Conn → ℕ
@@ -72,10 +73,17 @@ conn-kind and = 3
 conn-kind or = 4
 conn-kind root = 5
 
+-- "Value the number of children": the value of a node of so many children, and the children of a node by its number.
+unfoldable pub conn-value : Conn → ℕ → ℕ
+conn-value c m = m
+
+unfoldable pub children : ℕ → ℕ
+children x = value x
+
 unfoldable pub number-of : Node → ℕ
 number-of (leaf (pos v)) = number 1 v
 number-of (leaf (neg v)) = number 2 v
-number-of (head c k) = number (conn-kind c) k
+number-of (head c k) = number (conn-kind c) (conn-value c k)
 
 -- The node that a number of kind 1 to 5 is. (No other number is asked for.)
 unfoldable pub node-of : ℕ → Node
@@ -84,4 +92,6 @@ node-of x =
     (leaf (pos (value x)))
     (pick (eqb (kind x) 2)
     (leaf (neg (value x)))
-    (pick (eqb (kind x) 3) (head and (value x)) (pick (eqb (kind x) 4) (head or (value x)) (head root (value x)))))
+    (pick (eqb (kind x) 3)
+    (head and (children x))
+    (pick (eqb (kind x) 4) (head or (children x)) (head root (children x)))))

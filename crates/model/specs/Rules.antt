@@ -6,10 +6,10 @@ use mathlib.Core.Path.{_≡_}
 use Prim.Native.Nat.{ℕ, zero, suc}
 use lib.Dec.{eqb, leb}
 use lib.ListN.{getElem?, take, drop}
-use Rattle.model.specs.Base.{pick, only-if, then}
+use Rattle.model.specs.Base.{pick, only-if, is-some, then}
 use Rattle.model.specs.Literal.{Literal, complement, option, same}
-use Rattle.model.specs.Forest.{Conn, and, or, root, same-conn, Forest, nil, lit, node, constant, _⊕_, size, first, after, literal-at, conjunction-at, constant-at, literals-only, has-unit, mentions}
-use Rattle.model.specs.Code.{Node, encode, decode}
+use Rattle.model.specs.Forest.{Conn, and, or, root, Forest, nil, lit, node, constant, _⊕_, size, first, after, literal-at, conjunction-at, constant-at, literals-only, has-unit, mentions}
+use Rattle.model.specs.Code.{Node, encode, decode, conn-kind}
 
 -- The connective whose empty group adds nothing among a node's children, and the one whose empty group decides it.
 unfoldable pub neutral : Conn → Conn
@@ -128,31 +128,31 @@ change lifts c i j ks = lift c i j ks
 change merges c i j ks = merge c i j ks
 change factors c i j ks = factor c i j ks
 
--- "Node kind and fewest children of each rule stand as one fixed table of 14 rows."
+-- "Node kind and fewest children of each rule stand as one fixed table of 14 rows": "3 all-of and 4 any-of, 5 the root".
 pub record Row : Type 0 where
-  pub conn : Conn
+  pub kind : ℕ
   pub fewest : ℕ
   pub family : Family
 
-abbrev pub row : Conn → ℕ → Family → Row
-row c n f = record { conn = c; fewest = n; family = f }
+abbrev pub row : ℕ → ℕ → Family → Row
+row k n f = record { kind = k; fewest = n; family = f }
 
 unfoldable pub table : List Row
 table =
-    row and 2 absorbs
-    ∷ row or 2 absorbs
-    ∷ row root 2 absorbs
-    ∷ row and 1 omits
-    ∷ row or 1 omits
-    ∷ row root 1 omits
-    ∷ row and 1 unwraps
-    ∷ row or 1 unwraps
-    ∷ row or 2 spreads
-    ∷ row root 2 spreads
-    ∷ row and 1 lifts
-    ∷ row root 1 lifts
-    ∷ row and 1 merges
-    ∷ row or 2 factors
+    row 3 2 absorbs
+    ∷ row 4 2 absorbs
+    ∷ row 5 2 absorbs
+    ∷ row 3 1 omits
+    ∷ row 4 1 omits
+    ∷ row 5 1 omits
+    ∷ row 3 1 unwraps
+    ∷ row 4 1 unwraps
+    ∷ row 4 2 spreads
+    ∷ row 5 2 spreads
+    ∷ row 3 1 lifts
+    ∷ row 5 1 lifts
+    ∷ row 3 1 merges
+    ∷ row 4 2 factors
     ∷ []
 
 -- The row of a rule; rules count from 1.
@@ -160,9 +160,14 @@ unfoldable pub row-of : ℕ → Option Row
 row-of zero = none
 row-of (suc r) = getElem? table r
 
+-- A number is a rule where the table has its row.
+unfoldable pub is-rule : ℕ → Bool
+is-rule r = is-some (row-of r)
+
 -- A row applied to a node with its children.
 unfoldable pub turn : Row → Conn → ℕ → ℕ → Forest → Option Forest
-turn w c i j ks = then (only-if (same-conn (w .conn) c && leb (w .fewest) (size ks)) ks) (change (w .family) c i j)
+turn w c i j ks =
+    then (only-if (eqb (w .kind) (conn-kind c) && leb (w .fewest) (size ks)) ks) (change (w .family) c i j)
 
 -- A rule applied to the first tree of a forest; the trees after it stay.
 unfoldable pub rewrite : ℕ → ℕ → ℕ → Forest → Option Forest

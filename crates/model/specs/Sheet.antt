@@ -10,6 +10,7 @@ use Rattle.model.specs.Literal.{Literal}
 use Rattle.model.specs.Forest.{or, root, Forest, nil, lit, node, constant, _⊕_, kids, has-unit}
 use Rattle.model.specs.Code.{Node, encode, decode, one-tree, weight, kind, value, node-of, number-of}
 use Rattle.model.specs.Clauses.{Clause, clauses}
+use Rattle.model.specs.Propagation.{Report, report}
 use Rattle.model.specs.Limits.{usual, sheet-length, sheet-room}
 
 -- A node of a body: "kind 1 is an option (value its number, 0 to N - 1), 2 the same option barred, 3 all-of and 4 any-of".
@@ -57,6 +58,10 @@ sheet-of n ns = n ∷ length ns ∷ map number-of ns ++ replicate (sheet-room - 
 -- What the sheet's rules mean: the clauses of its root.
 unfoldable pub clauses-in : List ℕ → List Clause
 clauses-in s = clauses root (decode (nodes-in s))
+
+-- The report of a sheet.
+unfoldable pub report-in : List ℕ → Report
+report-in s = report (options-in s) (clauses-in s)
 
 -- "A bare mark is a child of the root."
 unfoldable pub is-unit : Literal → List ℕ → Bool

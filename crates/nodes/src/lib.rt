@@ -2,10 +2,11 @@
 ghost use mathlib.Core.Path.{_≡_};
 ghost use Prim.Native.Nat.{_≤_};
 ghost use Rattle.model.specs.Base.{then};
-ghost use Rattle.model.specs.Code.{kind, value};
+ghost use Rattle.model.specs.Code.{kind, value, children};
 ghost use Rattle.model.specs.Sheet.{«body-node»};
 ghost use Rattle.theory.specs.Scan.{«is-literal», «joined-by», counted};
 ghost use Rattle.nodes.specs.Trees.{treesOf};
+use limits::KIND_FACTOR;
 
 // How many trees a list of nodes spells, read from its end; or that some number is no node, or lacks children.
 pub enum Trees {
@@ -16,13 +17,20 @@ pub enum Trees {
 pub fn kind_of(x: usize) -> usize
     ensures { λ r. ⌜ r ≡ kind x ⌝ }
 {
-    x / 4096
+    x / KIND_FACTOR
 }
 
 pub fn value_of(x: usize) -> usize
     ensures { λ r. ⌜ r ≡ value x ⌝ }
 {
-    x % 4096
+    x % KIND_FACTOR
+}
+
+// The number of children of a node that is no literal.
+pub fn children_of(x: usize) -> usize
+    ensures { λ r. ⌜ r ≡ children x ⌝ }
+{
+    value_of(x)
 }
 
 // Kinds 1 and 2 are literals.
@@ -58,7 +66,7 @@ pub fn join(x: usize, n: usize, after: Trees) -> Trees
     if is_literal(x) {
         return Trees::Count(t + 1);
     }
-    let k = value_of(x);
+    let k = children_of(x);
     if t < k {
         return Trees::Malformed;
     }

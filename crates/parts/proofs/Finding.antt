@@ -10,14 +10,15 @@ use borrow.Author.Tests.{ltb-true, ltb-false}
 use lib.Dec.{ltb}
 use lib.ListN.{length, getD, set, take, drop, replicate, length-set, length-drop, length-replicate}
 use lib.Seq.{take-take, drop-drop, drop-cons, getD-take, getD-drop, length-take-le, getD-set-same, getD-set-other}
+use Rattle.model.specs.Limits.{sheet-length}
 use Rattle.model.specs.Code.{kind, trees, node-of, number-of}
-use Rattle.model.specs.Sheet.{is-sheet, used-in, numbers-in, nodes-in}
+use Rattle.model.specs.Sheet.{used-in, numbers-in, nodes-in}
 use Rattle.theory.specs.Logic.{true-false, either, or-split, or-left, or-right}
 use Rattle.theory.specs.Lists.{map-drop}
 use Rattle.theory.specs.Codes.{trees-drop}
 use Rattle.theory.specs.Spans.{span, span-within}
 use Rattle.theory.specs.Shape.{shaped-trees}
-use Rattle.theory.specs.Sheets.{sheet-facts, sheet-shaped}
+use Rattle.theory.specs.Sheets.{Formed}
 use Rattle.evaluation.specs.Reading.{tree-fails}
 use Rattle.parts.specs.Parts.{stretch, Claimed, Part, Part-fails, Parted}
 use Rattle.parts.proofs.Trees.{drop-take, conjunction-fails, none-fails, first-one, first-or-later, first-some}
@@ -49,26 +50,26 @@ module _ (i e k : ℕ) (s : List ℕ) (h : i + k ≤ e) where
 pub record Finding (s ends homes : List ℕ) (i : ℕ) : Type 0 where
   pub from : 2 ≤ i
   pub to : i ≤ 2 + used-in s
-  pub wide : length ends ≡ 4098
-  pub broad : length homes ≡ 4098
-  pub near : (n : ℕ) → getD homes n 0 < 4098
+  pub wide : length ends ≡ sheet-length
+  pub broad : length homes ≡ sheet-length
+  pub near : (n : ℕ) → getD homes n 0 < sheet-length
   pub passed : (j : ℕ) → (getD ends j 0 ≡ 0 → ⊥) → getD ends j 0 ≤ i
   pub part : (j : ℕ) → (getD ends j 0 ≡ 0 → ⊥) → Part s j (getD ends j 0)
   pub home : (j n : ℕ) → (getD ends j 0 ≡ 0 → ⊥) → j ≤ n → n < getD ends j 0 → getD homes n 0 ≡ j
   pub whole : (t : List ℕ) → tree-fails t (numbers-in s) ≡ true → Part-fails s ends t ⊎ (tree-fails t (stretch i (2 + used-in s) s) ≡ true)
   pub rest : (t : List ℕ) → tree-fails t (stretch i (2 + used-in s) s) ≡ true → tree-fails t (numbers-in s) ≡ true
 
-pub finding-none : (s : List ℕ) {ends homes : List ℕ} → ends ≡ replicate 4098 0 → homes ≡ replicate 4098 0 → Finding s ends homes 2
+pub finding-none : (s : List ℕ) {ends homes : List ℕ} → ends ≡ replicate sheet-length 0 → homes ≡ replicate sheet-length 0 → Finding s ends homes 2
 unfolding numbers-in
 finding-none s {ends} {homes} e f =
-    let none : (j : ℕ) → getD ends j 0 ≡ 0 = λ j. ap (λ t. getD t j 0) e ∙ zeros 4098 j in
+    let none : (j : ℕ) → getD ends j 0 ≡ 0 = λ j. ap (λ t. getD t j 0) e ∙ zeros sheet-length j in
     let n : 2 + used-in s - 2 ≡ used-in s = omega arith in
     record {
       from = omega arith;
       to = omega arith;
-      wide = ap length e ∙ length-replicate {A = ℕ} 4098 0;
-      broad = ap length f ∙ length-replicate {A = ℕ} 4098 0;
-      near = λ m. let z : getD homes m 0 ≡ 0 = ap (λ l. getD l m 0) f ∙ zeros 4098 m in omega arith;
+      wide = ap length e ∙ length-replicate {A = ℕ} sheet-length 0;
+      broad = ap length f ∙ length-replicate {A = ℕ} sheet-length 0;
+      near = λ m. let z : getD homes m 0 ≡ 0 = ap (λ l. getD l m 0) f ∙ zeros sheet-length m in omega arith;
       passed = λ j d. absurd (d (none j));
       part = λ j d. absurd (d (none j));
       home = λ j k d l m. absurd (d (none j));
@@ -88,9 +89,9 @@ parted {s} {ends} {homes} {i} w h =
       whole = λ t q. ⊎-elim (λ p. p) (λ p. true-false (sym p ∙ rw none (none-fails t))) (w .whole t q);
     }
 
-module _ {s ends homes : List ℕ} {i : ℕ} (sheet : is-sheet s ≡ true) (w : Finding s ends homes i) (b : i < 2 + used-in s) where
+module _ {s ends homes : List ℕ} {i : ℕ} (sheet : Formed s) (w : Finding s ends homes i) (b : i < 2 + used-in s) where
   inside : 2 + used-in s ≤ length s
-  inside = let k = sheet-facts s sheet in omega (arith, k .used, k .whole)
+  inside = let k = sheet in omega (arith, k .used, k .whole)
 
   -- A conjunction, or the root, is passed.
   pub finding-head : (kind (getD s i 0) ≡ 3) ⊎ (kind (getD s i 0) ≡ 5) → Finding s ends homes (i + 1)
@@ -123,12 +124,12 @@ module _ {s ends homes : List ℕ} {i : ℕ} (sheet : is-sheet s ≡ true) (w : 
   unfolding nodes-in
   known =
       rw tail
-      (ap (drop (i - 2)) (sheet-facts s sheet .numbers) ∙ sym (map-drop number-of (i - 2) (map node-of (numbers-in s))) ∙ ap (map number-of) (sym (map-drop node-of (i - 2) (numbers-in s))))
+      (ap (drop (i - 2)) (sheet .numbers) ∙ sym (map-drop number-of (i - 2) (map node-of (numbers-in s))) ∙ ap (map number-of) (sym (map-drop node-of (i - 2) (numbers-in s))))
 
   spelled : (u : ℕ) × (trees (map node-of (stretch i (2 + used-in s) s)) ≡ some u)
   unfolding nodes-in
   spelled =
-      let p = trees-drop (i - 2) (nodes-in s) (shaped-trees (sheet-shaped s sheet)) in
+      let p = trees-drop (i - 2) (nodes-in s) (shaped-trees (sheet .shaped)) in
       (p .0, ap (λ xs. trees (map node-of xs)) tail ∙ ap trees (map-drop node-of (i - 2) (numbers-in s)) ∙ p .1)
 
   length-left : length (stretch i (2 + used-in s) s) ≡ 2 + used-in s - i
@@ -172,7 +173,7 @@ module _ {s ends homes : List ℕ} {i : ℕ} (sheet : is-sheet s ≡ true) (w : 
           counts = λ t q. w .rest t (cut t ∙ or-left (tree-fails t (stretch (i + k) (2 + used-in s) s)) q);
         }
 
-    pub finding-part : {new : List ℕ} → Claimed i (i + k) homes new → i < 4098 → Finding s (set ends i (i + k)) new (i + k)
+    pub finding-part : {new : List ℕ} → Claimed i (i + k) homes new → i < sheet-length → Finding s (set ends i (i + k)) new (i + k)
     finding-part {new} claimed far =
         let some = part-some in
         let within = part-within in

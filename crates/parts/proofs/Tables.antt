@@ -9,9 +9,11 @@ use borrow.Author.Tests.{eqb-true, eqb-false}
 use lib.Dec.{eqb}
 use lib.ListN.{length, getD, set, drop, replicate, length-set, length-replicate}
 use lib.Seq.{getD-take, getD-drop, getD-set-same, getD-set-other}
-use Rattle.model.specs.Sheet.{is-sheet, used-in, numbers-in}
+use Rattle.model.specs.Limits.{sheet-length, most-literals}
+use Rattle.model.specs.Sheet.{used-in, numbers-in}
 use Rattle.theory.specs.Logic.{either, true-false}
 use Rattle.theory.specs.Scan.{is-literal}
+use Rattle.theory.specs.Sheets.{Formed}
 use Rattle.evaluation.specs.Reading.{place-at}
 use Rattle.evaluation.proofs.Nodes.{numbers-long, sheet-tree}
 use Rattle.parts.specs.Parts.{Claimed, Occurs, Latest, Linked}
@@ -39,14 +41,14 @@ claimed-more {from} {n} {old} {new} w a b =
     }
 
 -- The numbers of a sheet.
-module _ (s : List ℕ) (h : is-sheet s ≡ true) where
+module _ (s : List ℕ) (h : Formed s) where
   number-here : (m : ℕ) → 2 ≤ m → m < 2 + used-in s → getD (numbers-in s) (m - 2) 0 ≡ getD s m 0
   unfolding numbers-in
   number-here m a b =
       let e : 2 + (m - 2) ≡ m = omega arith in
       getD-take (used-in s) (drop 2 s) (m - 2) 0 (omega arith) ∙ getD-drop 2 s (m - 2) 0 ∙ ap (λ k. getD s k 0) e
 
-  pub literal-place : (m : ℕ) → 2 ≤ m → m < 2 + used-in s → is-literal (getD s m 0) ≡ true → place-at (getD s m 0) < 1024
+  pub literal-place : (m : ℕ) → 2 ≤ m → m < 2 + used-in s → is-literal (getD s m 0) ≡ true → place-at (getD s m 0) < most-literals
   literal-place m a b l =
       let e = number-here m a b in
       rw e at (sheet-tree s h .inside (m - 2) (omega (arith, numbers-long s h)) (rw e l))
@@ -55,9 +57,9 @@ module _ (s : List ℕ) (h : is-sheet s ≡ true) where
 pub record Linking (s last earlier : List ℕ) (i : ℕ) : Type 0 where
   pub from : 2 ≤ i
   pub to : i ≤ 2 + used-in s
-  pub wide : length last ≡ 1024
-  pub broad : length earlier ≡ 4098
-  pub lasts : (q : ℕ) → q < 1024 → Latest s q i (getD last q 0)
+  pub wide : length last ≡ most-literals
+  pub broad : length earlier ≡ sheet-length
+  pub lasts : (q : ℕ) → q < most-literals → Latest s q i (getD last q 0)
   pub before : (q n : ℕ) → n < i → Occurs s q n → Latest s q n (getD earlier n 0)
 
 pub zeros : (k i : ℕ) → _≡_ {A = ℕ} (getD (replicate k 0) i 0) 0
@@ -65,14 +67,14 @@ zeros zero i = refl
 zeros (suc k) zero = refl
 zeros (suc k) (suc i) = zeros k i
 
-pub linking-none : (s : List ℕ) {last earlier : List ℕ} → last ≡ replicate 1024 0 → length earlier ≡ 4098 → Linking s last earlier 2
+pub linking-none : (s : List ℕ) {last earlier : List ℕ} → last ≡ replicate most-literals 0 → length earlier ≡ sheet-length → Linking s last earlier 2
 linking-none s {last} {earlier} e long =
     record {
       from = omega arith;
       to = omega arith;
-      wide = ap length e ∙ length-replicate {A = ℕ} 1024 0;
+      wide = ap length e ∙ length-replicate {A = ℕ} most-literals 0;
       broad = long;
-      lasts = λ q l. record { there = inl (ap (λ t. getD t q 0) e ∙ zeros 1024 q); last = λ k m o. let f = o .from in absurd (omega arith) };
+      lasts = λ q l. record { there = inl (ap (λ t. getD t q 0) e ∙ zeros most-literals q); last = λ k m o. let f = o .from in absurd (omega arith) };
       before = λ q n l o. let f = o .from in absurd (omega arith);
     }
 
@@ -97,7 +99,7 @@ module _ {s last earlier : List ℕ} {i : ℕ} (w : Linking s last earlier i) (b
         before = λ q n l o. ⊎-elim (λ g. w .before q n g o) (λ p. absurd (d q (rw p at o))) (below-next n i l);
       }
 
-  pub linking-more : is-literal (getD s i 0) ≡ true → {p : ℕ} → p ≡ place-at (getD s i 0) → p < 1024 → i < 4098 → Linking s (set last p i) (set earlier i (getD last p 0)) (i + 1)
+  pub linking-more : is-literal (getD s i 0) ≡ true → {p : ℕ} → p ≡ place-at (getD s i 0) → p < most-literals → i < sheet-length → Linking s (set last p i) (set earlier i (getD last p 0)) (i + 1)
   linking-more e {p} f small far =
       let here : Occurs s p i = record { from = w .from; below = b; literal = e; same = sym f } in
       let lw = w .wide in

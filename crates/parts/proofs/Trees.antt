@@ -10,8 +10,8 @@ use native.Mathlib.Omega.{arith}
 use lib.Dec.{eqb}
 use lib.ListN.{length, getD, take, drop}
 use Rattle.model.specs.Base.{all, pick}
-use Rattle.model.specs.Forest.{and, root, Forest, nil, lit, node, size, first, after, _⊕_}
-use Rattle.model.specs.Code.{Node, leaf, head, kind, value, encode, push, decode, trees, node-of, number-of}
+use Rattle.model.specs.Forest.{and, root, Forest, size, first, after, _⊕_}
+use Rattle.model.specs.Code.{Node, leaf, head, kind, children, encode, push, decode, trees, node-of, number-of}
 use Rattle.theory.specs.Logic.{either}
 use Rattle.theory.specs.Lists.{all-map, all-from, map-back}
 use Rattle.theory.specs.Forests.{first-after, size-first}
@@ -20,9 +20,9 @@ use Rattle.theory.specs.Numbers.{fits, fits-node, node-number}
 use Rattle.theory.specs.Scan.{is-literal}
 use Rattle.theory.specs.Spans.{span, span-more}
 use Rattle.theory.specs.Flat.{spell, Fits, fits-⊕, take-trees, drop-trees}
-use Rattle.theory.specs.Evaluation.{Set, fails, fails-empty, fails-both}
+use Rattle.theory.specs.Evaluation.{Set, fails-all, fails}
 use Rattle.theory.specs.Tables.{set-of}
-use Rattle.theory.specs.Values.{fails-all, fails-values, fails-⊕}
+use Rattle.theory.specs.Values.{fails-values, root-empty, root-and, root-with, root-⊕}
 use Rattle.evaluation.specs.Reading.{place-at, with-node, tree-fails}
 use Rattle.evaluation.proofs.Nodes.{values-of, values-none, values-more, with-literal, with-inner}
 
@@ -37,17 +37,14 @@ drop-take (suc n) (suc m) [] = go (suc m - suc n)
     go (suc k) = refl
 drop-take (suc n) (suc m) (x ∷ l) = let e : suc m - suc n ≡ m - n = omega arith in rw e (drop-take n m l)
 
--- A conjunction fails as the root does.
-and-root : (s : Set) (f : Forest) → fails s and f ≡ fails s root f
-unfolding fails fails-empty fails-both
-and-root s nil = refl
-and-root s (lit l f) = ap (λ b. s l || b) (and-root s f)
-and-root s (node c k f) = ap (λ b. fails s c k || b) (and-root s f)
-
 -- Under a conjunction or the root stand the trees that follow it: one of them fails where the conjunction or one after it does.
 pub conjunction-fails : (t : List ℕ) (x : ℕ) (xs : List ℕ) → (kind x ≡ 3) ⊎ (kind x ≡ 5) → tree-fails t (x ∷ xs) ≡ tree-fails t xs
-unfolding tree-fails node-of pick decode push fails fails-both
-conjunction-fails t x xs h = ⊎-elim (λ e. rw e (ap (λ b. b || fails s root (after (value x) f)) (and-root s (first (value x) f)) ∙ joined)) (λ e. rw e joined) h
+unfolding tree-fails node-of pick decode push
+conjunction-fails t x xs h =
+    ⊎-elim
+    (λ e. rw e (root-with s and (first (children x) f) (after (children x) f) ∙ ap (λ b. b || fails s root (after (children x) f)) (root-and s (first (children x) f)) ∙ joined))
+    (λ e. rw e (root-with s root (first (children x) f) (after (children x) f) ∙ joined))
+    h
   where
     s : Set
     s = set-of t
@@ -55,12 +52,12 @@ conjunction-fails t x xs h = ⊎-elim (λ e. rw e (ap (λ b. b || fails s root (
     f : Forest
     f = decode (map node-of xs)
 
-    joined : (fails s root (first (value x) f) || fails s root (after (value x) f)) ≡ fails s root f
-    joined = sym (fails-⊕ s root (first (value x) f) (after (value x) f)) ∙ ap (fails s root) (first-after (value x) f)
+    joined : (fails s root (first (children x) f) || fails s root (after (children x) f)) ≡ fails s root f
+    joined = sym (root-⊕ s (first (children x) f) (after (children x) f)) ∙ ap (fails s root) (first-after (children x) f)
 
 pub none-fails : (t : List ℕ) → tree-fails t [] ≡ false
-unfolding tree-fails decode fails fails-empty
-none-fails t = refl
+unfolding tree-fails decode
+none-fails t = root-empty (set-of t)
 
 -- The first tree of numbers that spell some, and the trees after it.
 push-some : (y : Node) (f : Forest) → 1 ≤ size (push y f)
@@ -110,12 +107,12 @@ module _ (xs : List ℕ) (known : xs ≡ map number-of (map node-of xs)) {u : �
   first-one = ap trees begun ∙ trees-code (first 1 (forest xs)) ∙ ap some (size-first 1 (forest xs) (some-trees xs h))
 
   pub first-or-later : (t : List ℕ) → tree-fails t xs ≡ (tree-fails t (take (span 1 xs) xs) || tree-fails t (drop (span 1 xs) xs))
-  unfolding tree-fails fails-both
+  unfolding tree-fails
   first-or-later t =
       let s = set-of t in
       let f = forest xs in
       ap (fails s root) (sym (first-after 1 f))
-      ∙ fails-⊕ s root (first 1 f) (after 1 f)
+      ∙ root-⊕ s (first 1 f) (after 1 f)
       ∙ sym (ap₂ (λ g k. fails s root g || fails s root k) (ap decode begun ∙ decode-encode (first 1 f)) (ap decode left ∙ decode-encode (after 1 f)))
 
   pub first-some : 1 ≤ span 1 xs

@@ -5,6 +5,7 @@ use mathlib.Core.Logic.{_⊎_}
 use mathlib.Core.Path.{_≡_}
 use Prim.Native.Nat.{ℕ, _+_, _-_, _≤_, _<_}
 use lib.ListN.{length, getD, take, drop}
+use Rattle.model.specs.Limits.{sheet-length, most-literals}
 use Rattle.model.specs.Sheet.{used-in, numbers-in}
 use Rattle.theory.specs.Scan.{is-literal}
 use Rattle.evaluation.specs.Reading.{place-at, tree-fails, Spells-tree}
@@ -34,9 +35,9 @@ Part-fails s ends t = (i : ℕ) × (getD ends i 0 ≡ 0 → ⊥) × (tree-fails 
 -- The tables of the parts: the end of each part where it begins and 0 elsewhere, and the beginning of its part for each number.
 -- Where the sheet fails, one of them does.
 pub record Parted (s ends homes : List ℕ) : Type 0 where
-  pub wide : length ends ≡ 4098
-  pub broad : length homes ≡ 4098
-  pub near : (n : ℕ) → getD homes n 0 < 4098
+  pub wide : length ends ≡ sheet-length
+  pub broad : length homes ≡ sheet-length
+  pub near : (n : ℕ) → getD homes n 0 < sheet-length
   pub part : (i : ℕ) → (getD ends i 0 ≡ 0 → ⊥) → Part s i (getD ends i 0)
   pub home : (i n : ℕ) → (getD ends i 0 ≡ 0 → ⊥) → i ≤ n → n < getD ends i 0 → getD homes n 0 ≡ i
   pub whole : (t : List ℕ) → tree-fails t (numbers-in s) ≡ true → Part-fails s ends t
@@ -55,7 +56,7 @@ pub record Latest (s : List ℕ) (q n m : ℕ) : Type 0 where
 
 -- The places of the literals: the last of each, and at each place the one before it.
 pub record Linked (s last earlier : List ℕ) : Type 0 where
-  pub wide : length last ≡ 1024
-  pub broad : length earlier ≡ 4098
-  pub lasts : (q : ℕ) → q < 1024 → Latest s q (2 + used-in s) (getD last q 0)
+  pub wide : length last ≡ most-literals
+  pub broad : length earlier ≡ sheet-length
+  pub lasts : (q : ℕ) → q < most-literals → Latest s q (2 + used-in s) (getD last q 0)
   pub before : (q n : ℕ) → Occurs s q n → Latest s q n (getD earlier n 0)

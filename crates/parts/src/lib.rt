@@ -1,15 +1,15 @@
 // The parts of a sheet: the trees that hang from its root through conjunctions only. The root fails where a part does. And where
 // each literal occurs.
 ghost use mathlib.Core.Path.{_≡_};
-ghost use mathlib.Core.Bool.{true};
 ghost use Prim.Native.Nat.{_≤_};
 ghost use lib.ListN.{length, replicate};
-ghost use Rattle.model.specs.Sheet.{«is-sheet»};
+ghost use Rattle.model.specs.Limits.{«sheet-length», «most-literals»};
+ghost use Rattle.theory.specs.Sheets.{Formed};
 ghost use Rattle.parts.specs.Parts.{Claimed, Parted, Linked};
 
 // The numbers from one place to another belong to the part that begins at the first.
 fn claim(homes: &mut [u16], from: usize, to: usize)
-    requires { ⌜ (from ≤ to) × (to ≤ length (now homes)) × (to ≤ 4098) ⌝ }
+    requires { ⌜ (from ≤ to) × (to ≤ length (now homes)) × (to ≤ «sheet-length») ⌝ }
     ensures { λ r. ⌜ Claimed from to (now (homes .entry)) (now (homes .exit)) ⌝ }
 {
     let mut n = from;
@@ -21,7 +21,7 @@ fn claim(homes: &mut [u16], from: usize, to: usize)
 
 // Finds the parts: at the place where a part begins its end is noted, and at the place of each of its numbers where it begins.
 pub fn find(sheet: &[u16], ends: &mut [u16], homes: &mut [u16])
-    requires { ⌜ («is-sheet» (now sheet) ≡ true) × (now ends ≡ replicate 4098 0) × (now homes ≡ replicate 4098 0) ⌝ }
+    requires { ⌜ Formed (now sheet) × (now ends ≡ replicate «sheet-length» 0) × (now homes ≡ replicate «sheet-length» 0) ⌝ }
     ensures { λ r. ⌜ Parted (now (sheet .entry)) (now (ends .exit)) (now (homes .exit)) ⌝ }
 {
     let end = 2 + numbers::wide16(sheet[1]);
@@ -41,7 +41,7 @@ pub fn find(sheet: &[u16], ends: &mut [u16], homes: &mut [u16])
 
 // Links the places of each literal: the last of them is noted for the literal, and at each of them the one before it.
 pub fn link(sheet: &[u16], last: &mut [u16], earlier: &mut [u16])
-    requires { ⌜ («is-sheet» (now sheet) ≡ true) × (now last ≡ replicate 1024 0) × (length (now earlier) ≡ 4098) ⌝ }
+    requires { ⌜ Formed (now sheet) × (now last ≡ replicate «most-literals» 0) × (length (now earlier) ≡ «sheet-length») ⌝ }
     ensures { λ r. ⌜ Linked (now (sheet .entry)) (now (last .exit)) (now (earlier .exit)) ⌝ }
 {
     let end = 2 + numbers::wide16(sheet[1]);

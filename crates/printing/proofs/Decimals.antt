@@ -8,10 +8,10 @@ use borrow.Author.Tests.{lt-ltb, le-ltb, ltb-true, ltb-false}
 use lib.Dec.{ltb}
 use lib.ListN.{length, set, length-append}
 use Rattle.model.specs.Base.{pick}
-use Rattle.model.specs.Desk.{digits, decimal}
+use Rattle.calls.specs.Desk.{digits, decimal}
 use Rattle.theory.specs.Logic.{either}
 use Rattle.lists.proofs.Starts.{start-more}
-use Rattle.printing.specs.Placed.{after, placed}
+use Rattle.printing.specs.Placed.{after, filled}
 use Rattle.printing.proofs.Laws.{placed-by, placed-count, placed-buffer}
 
 module _ (most n : ℕ) where
@@ -69,11 +69,11 @@ unfolding ten-to
 twenty-digits n h = few-digits 19 n (omega arith)
 
 -- The digits at the start of a buffer, where those of a tenth were put there first.
-pub decimal-one : (n : ℕ) (old : List ℕ) → n < 10 → 0 < length old → after 1 (set old 0 (48 + n)) ≡ placed (decimal n) old
+pub decimal-one : (n : ℕ) (old : List ℕ) → n < 10 → 0 < length old → after 1 (set old 0 (48 + n)) ≡ filled (decimal n) old
 decimal-one n old h room =
     placed-by (decimal n) old (sym (length-small n h)) (start-more [] (decimal n) old (48 + n) (decimal-small n h) refl room refl)
 
-pub decimal-more : (n : ℕ) (old : List ℕ) {k : ℕ} {l : List ℕ} → 10 ≤ n → length (decimal n) ≤ length old → after k l ≡ placed (decimal (n / 10)) old → after (k + 1) (set l k (48 + n % 10)) ≡ placed (decimal n) old
+pub decimal-more : (n : ℕ) (old : List ℕ) {k : ℕ} {l : List ℕ} → 10 ≤ n → length (decimal n) ≤ length old → after k l ≡ filled (decimal (n / 10)) old → after (k + 1) (set l k (48 + n % 10)) ≡ filled (decimal n) old
 decimal-more n old h room e =
     let long = placed-count (decimal (n / 10)) old e in
     placed-by (decimal n) old (omega (arith, length-large n h, long))

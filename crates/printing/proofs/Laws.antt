@@ -7,33 +7,34 @@ use native.Mathlib.Omega.{arith}
 use borrow.Rule.Slice.PartMut.{midOf, putMid}
 use lib.ListN.{length, take, drop, set, length-append, length-set}
 use lib.Seq.{take-length, take-at, drop-cons, getD-set-same, getD-set-other, drop-set-lt}
-use Rattle.model.specs.Desk.{line}
+use Rattle.calls.specs.Desk.{line}
 use Rattle.lists.proofs.Lent.{lent-start}
-use Rattle.printing.specs.Placed.{after, placed}
+use Rattle.model.specs.Base.{placed}
+use Rattle.printing.specs.Placed.{after, filled}
 
 module _ (bytes old : List ℕ) {r : ℕ} {l : List ℕ} where
-  pub placed-by : r ≡ length bytes → l ≡ bytes ++ drop r old → after r l ≡ placed bytes old
-  unfolding placed
+  pub placed-by : r ≡ length bytes → l ≡ bytes ++ drop r old → after r l ≡ filled bytes old
+  unfolding filled placed
   placed-by e f = rw (f, e)
 
-  pub placed-count : after r l ≡ placed bytes old → r ≡ length bytes
-  unfolding placed
+  pub placed-count : after r l ≡ filled bytes old → r ≡ length bytes
+  unfolding filled placed
   placed-count e = ap (λ w. w .count) e
 
-  pub placed-buffer : after r l ≡ placed bytes old → l ≡ bytes ++ drop r old
-  unfolding placed
+  pub placed-buffer : after r l ≡ filled bytes old → l ≡ bytes ++ drop r old
+  unfolding filled placed
   placed-buffer e = let n = placed-count e in rw n (ap (λ w. w .buffer) e)
 
   -- They stand within the buffer, at its start.
-  pub placed-within : after r l ≡ placed bytes old → r ≤ length l
+  pub placed-within : after r l ≡ filled bytes old → r ≤ length l
   placed-within e =
       omega (arith, ap length (placed-buffer e), length-append bytes (drop r old), placed-count e)
 
-  pub placed-start : after r l ≡ placed bytes old → take r l ≡ bytes
+  pub placed-start : after r l ≡ filled bytes old → take r l ≡ bytes
   placed-start e = ap (take r) (placed-buffer e) ∙ take-at bytes (drop r old) r (sym (placed-count e))
 
 -- Bytes at the start, and more at the start of the rest that is lent.
-pub placed-then : (p q old : List ℕ) {m r : ℕ} {l ys : List ℕ} → after m l ≡ placed p old → m ≤ length l → after r ys ≡ placed q (midOf m (length l - m) l) → after (m + r) (putMid m (length l - m) l ys) ≡ placed (p ++ q) old
+pub placed-then : (p q old : List ℕ) {m r : ℕ} {l ys : List ℕ} → after m l ≡ filled p old → m ≤ length l → after r ys ≡ filled q (midOf m (length l - m) l) → after (m + r) (putMid m (length l - m) l ys) ≡ filled (p ++ q) old
 placed-then p q old {m} {r} {l} e h f =
     let rest = midOf m (length l - m) l in
     placed-by (p ++ q) old (omega (arith, length-append p q, placed-count p old e, placed-count q rest f))
@@ -59,7 +60,7 @@ module _ (old : List ℕ) (space end : ℕ) (apart : space < end) (room : end < 
       ∙ rw (getD-set-same (set old space 32) end 10 0 (omega (arith, long)), drop-set-lt (suc end) (set old space 32) end 10 (omega arith), drop-set-lt (suc end) old space 32 (omega arith))
 
 -- A line is written in four parts: its space and its end, the first word before the one, the second word before the other.
-pub line-written : (a b old : List ℕ) {w l ys : List ℕ} → length a + length b + 2 ≤ length old → w ≡ set (set old (length a) 32) (length a + 1 + length b) 10 → l ≡ take (length a) a ++ drop (length a) w → length a + 1 ≤ length l → ys ≡ take (length b) b ++ drop (length b) (midOf (length a + 1) (length l - (length a + 1)) l) → after (length a + 1 + length b + 1) (putMid (length a + 1) (length l - (length a + 1)) l ys) ≡ placed (line a b) old
+pub line-written : (a b old : List ℕ) {w l ys : List ℕ} → length a + length b + 2 ≤ length old → w ≡ set (set old (length a) 32) (length a + 1 + length b) 10 → l ≡ take (length a) a ++ drop (length a) w → length a + 1 ≤ length l → ys ≡ take (length b) b ++ drop (length b) (midOf (length a + 1) (length l - (length a + 1)) l) → after (length a + 1 + length b + 1) (putMid (length a + 1) (length l - (length a + 1)) l ys) ≡ filled (line a b) old
 unfolding line
 line-written a b old {l = l} room ends e h f =
     let p : List ℕ = a ++ (32 ∷ []) in

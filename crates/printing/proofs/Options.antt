@@ -13,9 +13,9 @@ use lib.ListN.{length, take, drop, getD, length-take}
 use lib.Seq.{slice, slice-cons, slice-empty, take-suc, length-take-le}
 use Rattle.model.specs.Base.{pick}
 use Rattle.model.specs.Book.{characters, pieces}
-use Rattle.model.specs.Desk.{line, mark-word, option-lines}
+use Rattle.calls.specs.Desk.{line, mark-word, option-lines}
 use Rattle.codes.proofs.Pieces.{count-pieces, pieces-more}
-use Rattle.printing.specs.Placed.{after, placed}
+use Rattle.printing.specs.Placed.{after, filled}
 use Rattle.printing.proofs.Laws.{length-line, placed-then}
 
 -- The characters of a code of which k were passed.
@@ -69,7 +69,7 @@ option-short c m =
 
 -- The lines of the options passed, and the next in the rest of the buffer, whose code is read in the rest of the codes.
 module _ (codes marks old : List ℕ) (i : ℕ) (h : i < length marks) where
-  pub options-more : {m r : ℕ} {l ys : List ℕ} → after m l ≡ placed (option-lines (pieces 13 i codes) (take i marks)) old → m ≤ length l → after r ys ≡ placed (line (characters (take 13 (take (length codes - 13 * i) (drop (13 * i) codes)))) (mark-word (getD marks i 0))) (midOf m (length l - m) l) → after (m + r) (putMid m (length l - m) l ys) ≡ placed (option-lines (pieces 13 (i + 1) codes) (take (i + 1) marks)) old
+  pub options-more : {m r : ℕ} {l ys : List ℕ} → after m l ≡ filled (option-lines (pieces 13 i codes) (take i marks)) old → m ≤ length l → after r ys ≡ filled (line (characters (take 13 (take (length codes - 13 * i) (drop (13 * i) codes)))) (mark-word (getD marks i 0))) (midOf m (length l - m) l) → after (m + r) (putMid m (length l - m) l ys) ≡ filled (option-lines (pieces 13 (i + 1) codes) (take (i + 1) marks)) old
   options-more e room f =
       let c = take 13 (drop (13 * i) codes) in
       let many : length (pieces 13 i codes) ≡ length (take i marks) = omega (arith, count-pieces 13 i codes, length-take-le i marks (omega arith)) in

@@ -3,10 +3,10 @@ ghost use mathlib.Core.Path.{_≡_};
 ghost use Prim.Native.Nat.{_+_, _*_, _≤_, _<_};
 ghost use lib.ListN.{length, take, set};
 ghost use Rattle.model.specs.Book.{characters, pieces};
-ghost use Rattle.model.specs.Calls.{«refusal-number»};
-ghost use Rattle.model.specs.Desk.{decimal, line, «mark-word», «refused-word», «first-line», «option-lines»};
+ghost use Rattle.calls.specs.Refusals.{«refusal-number»};
+ghost use Rattle.calls.specs.Desk.{decimal, line, «mark-word», «refused-word», «first-line», «option-lines»};
 ghost use Rattle.answers.specs.Meaning.{refusalOf};
-ghost use Rattle.printing.specs.Placed.{after, placed};
+ghost use Rattle.printing.specs.Placed.{after, filled};
 use answers::Refusal;
 
 // A space and a line end at their places.
@@ -21,7 +21,7 @@ fn put_ends(out: &mut [u8], space: usize, end: usize)
 // Two words with a space between, as a line.
 fn put_line(a: &[u8], b: &[u8], out: &mut [u8]) -> usize
     requires { ⌜ length (now a) + length (now b) + 2 ≤ length (now out) ⌝ }
-    ensures { λ r. ⌜ after r (now (out .exit)) ≡ placed (line (now (a .entry)) (now (b .entry))) (now (out .entry)) ⌝ }
+    ensures { λ r. ⌜ after r (now (out .exit)) ≡ filled (line (now (a .entry)) (now (b .entry))) (now (out .entry)) ⌝ }
 {
     let space = a.len();
     let next = space + 1;
@@ -35,7 +35,7 @@ fn put_line(a: &[u8], b: &[u8], out: &mut [u8]) -> usize
 // A number in decimal digits, the last digit after those of a tenth of it.
 fn put_decimal(n: u64, out: &mut [u8]) -> usize
     requires { ⌜ length (decimal n) ≤ length (now out) ⌝ }
-    ensures { λ r. ⌜ after r (now (out .exit)) ≡ placed (decimal n) (now (out .entry)) ⌝ }
+    ensures { λ r. ⌜ after r (now (out .exit)) ≡ filled (decimal n) (now (out .entry)) ⌝ }
 {
     if n < 10 {
         out[0] = (48 + n) as u8;
@@ -49,7 +49,7 @@ fn put_decimal(n: u64, out: &mut [u8]) -> usize
 // A word and a number, as a line.
 fn put_counted(word: &[u8], n: u64, out: &mut [u8]) -> usize
     requires { ⌜ length (now word) + 22 ≤ length (now out) ⌝ }
-    ensures { λ r. ⌜ after r (now (out .exit)) ≡ placed (line (now (word .entry)) (decimal n)) (now (out .entry)) ⌝ }
+    ensures { λ r. ⌜ after r (now (out .exit)) ≡ filled (line (now (word .entry)) (decimal n)) (now (out .entry)) ⌝ }
 {
     let mut digits = [0u8; 20];
     let k = put_decimal(n, &mut digits);
@@ -59,7 +59,7 @@ fn put_counted(word: &[u8], n: u64, out: &mut [u8]) -> usize
 // The line of a refusal.
 pub fn put_refusal(r: Refusal, out: &mut [u8]) -> usize
     requires { ⌜ 35 ≤ length (now out) ⌝ }
-    ensures { λ n. ⌜ after n (now (out .exit)) ≡ placed (line «refused-word» (decimal («refusal-number» (refusalOf r)))) (now (out .entry)) ⌝ }
+    ensures { λ n. ⌜ after n (now (out .exit)) ≡ filled (line «refused-word» (decimal («refusal-number» (refusalOf r)))) (now (out .entry)) ⌝ }
 {
     put_counted(b"refused", answers::number(r) as u64, out)
 }
@@ -67,7 +67,7 @@ pub fn put_refusal(r: Refusal, out: &mut [u8]) -> usize
 // The first line: what a report and a run said, and the steps.
 pub fn put_first(contradictory: bool, settled: bool, count: u64, out: &mut [u8]) -> usize
     requires { ⌜ 35 ≤ length (now out) ⌝ }
-    ensures { λ r. ⌜ after r (now (out .exit)) ≡ placed («first-line» contradictory (record { settled = settled; count = count })) (now (out .entry)) ⌝ }
+    ensures { λ r. ⌜ after r (now (out .exit)) ≡ filled («first-line» contradictory (record { settled = settled; count = count })) (now (out .entry)) ⌝ }
 {
     if contradictory {
         return put_counted(b"contradiction", count, out);
@@ -96,7 +96,7 @@ fn count_characters(code: &[u8]) -> usize
 // The line of an option, by its code and its mark.
 fn put_option(code: &[u8], mark: u8, out: &mut [u8]) -> usize
     requires { ⌜ (13 ≤ length (now code)) × (19 ≤ length (now out)) ⌝ }
-    ensures { λ r. ⌜ after r (now (out .exit)) ≡ placed (line (characters (take 13 (now (code .entry)))) («mark-word» mark)) (now (out .entry)) ⌝ }
+    ensures { λ r. ⌜ after r (now (out .exit)) ≡ filled (line (characters (take 13 (now (code .entry)))) («mark-word» mark)) (now (out .entry)) ⌝ }
 {
     let end = count_characters(code);
     let name = &code[..end];
@@ -112,7 +112,7 @@ fn put_option(code: &[u8], mark: u8, out: &mut [u8]) -> usize
 // The lines of all options, by their codes and their marks.
 pub fn put_options(codes: &[u8], marks: &[u8], out: &mut [u8]) -> usize
     requires { ⌜ (13 * length (now marks) ≤ length (now codes)) × (19 * length (now marks) ≤ length (now out)) ⌝ }
-    ensures { λ r. ⌜ after r (now (out .exit)) ≡ placed («option-lines» (pieces 13 (length (now (marks .entry))) (now (codes .entry))) (now (marks .entry))) (now (out .entry)) ⌝ }
+    ensures { λ r. ⌜ after r (now (out .exit)) ≡ filled («option-lines» (pieces 13 (length (now (marks .entry))) (now (codes .entry))) (now (marks .entry))) (now (out .entry)) ⌝ }
 {
     let mut at = 0;
     let mut i = 0;

@@ -2,7 +2,8 @@
 use mathlib.Core.Bool.{Bool}
 use Prim.Native.Nat.{ℕ, _+_, _*_}
 use Rattle.model.specs.Base.{pick}
-use Rattle.model.specs.Calls.{Answer, Ran}
+use Rattle.calls.specs.Outcomes.{Answer}
+use Rattle.calls.specs.Calls.{Ran}
 use Rattle.c_calls.specs.Packed.{packed}
 
 -- A call that says yes or no: 1 where it says yes.

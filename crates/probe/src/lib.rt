@@ -1,18 +1,23 @@
 // For tests and benchmarks only: every call on sheets, for C. Each answers one number, as the calls of `c_calls` do: the low 8 bits are
 // the refusal (0: accepted), the rest is the value.
 ghost use mathlib.Core.Path.{_≡_};
-ghost use Rattle.model.specs.Calls.{loadOf, writeOf, reportOf, completeOf, chooseOf, stepOf, runOf};
+ghost use Rattle.calls.specs.Calls.{loadOf, writeOf, reportOf, completeOf, chooseOf, stepOf, runOf};
 ghost use Rattle.c_calls.specs.Packed.{packedDone, packedValue};
 ghost use Rattle.probe.specs.Values.{packedBool, packedRan};
 use reports::Completed;
 use reports::Reported;
 use runs::Ran;
 
+// A value begins above the refusal's 8 bits. Of a run's value the lowest bit says whether it is settled, and the count stands above it.
+const VALUE: u64 = 256;
+
+const COUNT: u64 = 2 * VALUE;
+
 // The loader.
 #[no_mangle]
 pub extern "C" fn nd_load(book: &[u8], sheet: &mut [u16]) -> u64
     ensures { λ r. ⌜ r ≡ packedDone (loadOf (now (book .entry)) (now (sheet .entry)) .answer) ⌝ }
-    ensures { λ r. ⌜ now (sheet .exit) ≡ loadOf (now (book .entry)) (now (sheet .entry)) .buffer ⌝ }
+    ensures { λ r. ⌜ now (sheet .exit) ≡ loadOf (now (book .entry)) (now (sheet .entry)) .lent ⌝ }
 {
     c_calls::done(transfer::load(book, sheet))
 }
@@ -21,7 +26,7 @@ pub extern "C" fn nd_load(book: &[u8], sheet: &mut [u16]) -> u64
 #[no_mangle]
 pub extern "C" fn nd_write(sheet: &[u16], book: &[u8], out: &mut [u8]) -> u64
     ensures { λ r. ⌜ r ≡ packedValue (writeOf (now (sheet .entry)) (now (book .entry)) (now (out .entry)) .answer) ⌝ }
-    ensures { λ r. ⌜ now (out .exit) ≡ writeOf (now (sheet .entry)) (now (book .entry)) (now (out .entry)) .buffer ⌝ }
+    ensures { λ r. ⌜ now (out .exit) ≡ writeOf (now (sheet .entry)) (now (book .entry)) (now (out .entry)) .lent ⌝ }
 {
     c_calls::found(transfer::write(sheet, book, out))
 }
@@ -30,12 +35,12 @@ pub extern "C" fn nd_write(sheet: &[u16], book: &[u8], out: &mut [u8]) -> u64
 #[no_mangle]
 pub extern "C" fn nd_report(sheet: &[u16], out: &mut [u8]) -> u64
     ensures { λ r. ⌜ r ≡ packedBool (reportOf (now (sheet .entry)) (now (out .entry)) .answer) ⌝ }
-    ensures { λ r. ⌜ now (out .exit) ≡ reportOf (now (sheet .entry)) (now (out .entry)) .buffer ⌝ }
+    ensures { λ r. ⌜ now (out .exit) ≡ reportOf (now (sheet .entry)) (now (out .entry)) .lent ⌝ }
 {
     let answer = reports::report(sheet, out);
     match answer {
         Reported::Consistent => 0,
-        Reported::Contradictory => 256,
+        Reported::Contradictory => VALUE,
         Reported::Refused(r) => c_calls::refused(r),
     }
 }
@@ -47,7 +52,7 @@ pub extern "C" fn nd_complete(sheet: &[u16]) -> u64
 {
     let answer = reports::complete(sheet);
     match answer {
-        Completed::Complete => 256,
+        Completed::Complete => VALUE,
         Completed::Incomplete => 0,
         Completed::Refused(r) => c_calls::refused(r),
     }
@@ -57,7 +62,7 @@ pub extern "C" fn nd_complete(sheet: &[u16]) -> u64
 #[no_mangle]
 pub extern "C" fn nd_choose(sheet: &mut [u16], option: u16, negative: bool) -> u64
     ensures { λ r. ⌜ r ≡ packedDone (chooseOf (now (sheet .entry)) option negative .answer) ⌝ }
-    ensures { λ r. ⌜ now (sheet .exit) ≡ chooseOf (now (sheet .entry)) option negative .buffer ⌝ }
+    ensures { λ r. ⌜ now (sheet .exit) ≡ chooseOf (now (sheet .entry)) option negative .lent ⌝ }
 {
     c_calls::done(choices::choose(sheet, option, negative))
 }
@@ -66,7 +71,7 @@ pub extern "C" fn nd_choose(sheet: &mut [u16], option: u16, negative: bool) -> u
 #[no_mangle]
 pub extern "C" fn nd_step(sheet: &mut [u16], rule: u64, place: u64, i: u64, j: u64) -> u64
     ensures { λ r. ⌜ r ≡ packedDone (stepOf (now (sheet .entry)) rule place i j .answer) ⌝ }
-    ensures { λ r. ⌜ now (sheet .exit) ≡ stepOf (now (sheet .entry)) rule place i j .buffer ⌝ }
+    ensures { λ r. ⌜ now (sheet .exit) ≡ stepOf (now (sheet .entry)) rule place i j .lent ⌝ }
 {
     c_calls::done(steps::step(sheet, rule, place, i, j))
 }
@@ -75,12 +80,12 @@ pub extern "C" fn nd_step(sheet: &mut [u16], rule: u64, place: u64, i: u64, j: u
 #[no_mangle]
 pub extern "C" fn nd_run(sheet: &mut [u16], budget: u64) -> u64
     ensures { λ r. ⌜ r ≡ packedRan (runOf (now (sheet .entry)) budget .answer) ⌝ }
-    ensures { λ r. ⌜ now (sheet .exit) ≡ runOf (now (sheet .entry)) budget .buffer ⌝ }
+    ensures { λ r. ⌜ now (sheet .exit) ≡ runOf (now (sheet .entry)) budget .lent ⌝ }
 {
     let answer = runs::run(sheet, budget);
     match answer {
-        Ran::Settled(n) => 512 * n + 256,
-        Ran::Stopped(n) => 512 * n,
+        Ran::Settled(n) => COUNT * n + VALUE,
+        Ran::Stopped(n) => COUNT * n,
         Ran::Refused(r) => c_calls::refused(r),
     }
 }

@@ -1,107 +1,125 @@
 -- Demand 3: one theorem about every list of choices, single steps and runs, refused ones included, from a freshly loaded sheet.
 use mathlib.Core.Bool.{Bool, true, false}
-use mathlib.Core.List.{List, [], _∷_, _++_}
+use mathlib.Core.List.{List, _++_, append-nil}
 use mathlib.Core.Logic.{_↔_, Iff·trans, Iff·symm}
 use mathlib.Core.Path.{_≡_, refl, sym, ap, _∙_}
-use Prim.Native.Nat.{ℕ, _+_, _*_, _≤_}
+use Prim.Native.Nat.{ℕ, _≤_}
 use lib.ListN.{length}
 use Rattle.model.specs.Literal.{Literal}
-use Rattle.model.specs.Code.{literals}
 use Rattle.model.specs.Clauses.{Derived, Contradictory}
 use Rattle.model.specs.Propagation.{report}
 use Rattle.model.specs.Rules.{NoRule}
+use Rattle.model.specs.Strategy.{most-steps}
 use Rattle.model.specs.Limits.{sheet-length}
 use Rattle.model.specs.Sheet.{options-in, nodes-in, is-sheet, sheet-of, clauses-in, is-unit, Falsum}
 use Rattle.model.specs.Book.{options-of, book-nodes, clauses-of-book}
-use Rattle.model.specs.Calls.{accepted, checkOf, loadOf, reportOf}
-use Rattle.model.specs.History.{Call, after-calls, choices-of, steps-of, cube, ends-settled, choice-clauses, meaning}
+use Rattle.calls.specs.Outcomes.{accepted}
+use Rattle.calls.specs.Calls.{checkOf, loadOf, reportOf}
+use Rattle.calls.specs.History.{Call, State, after-calls, Account, loaded, account-calls, choice-clauses, meaning, is-stretch, steps-of, ends-settled}
 use Rattle.theory.specs.Steps.{steps-bound}
-use Rattle.theory.specs.Valuations.{SameModels, same-of, same-trans, same-report, same-contradictory, same-derived}
-use Rattle.theory.specs.Loading.{accepted-book, loaded-sheet, loaded-meaning}
-use Rattle.theory.specs.RoundTrips.{load-accepted}
+use Rattle.call_laws.specs.Valuations.{SameModels, same-of, same-trans, same-report, same-contradictory, same-derived}
+use Rattle.theory.specs.Loading.{Accepted, loaded-sheet, loaded-meaning}
+use Rattle.call_laws.specs.Books.{accepted-book}
+use Rattle.call_laws.specs.RoundTrips.{load-accepted}
 use Rattle.theory.specs.Sheets.{sheet-shaped, options-made}
-use Rattle.theory.specs.Effects.{Effect, calls-effect}
-use Rattle.theory.specs.Settled.{ends-no-rule, sheet-normal}
+use Rattle.call_laws.specs.Effects.{Keeps, Effect, calls-effect}
+use Rattle.call_laws.specs.Settled.{ends-no-rule, sheet-normal}
 use Rattle.promise.specs.Refusals.{check-none}
 use Rattle.promise.specs.Reports.{reported, Reported, report-given, propagation-exact}
 
 -- "After the list the sheet reports what the loaded rules with all accepted choices mean, those keyed after a settled run too."
 -- It is a sheet of the book's N, and a report on it is, byte for byte and in its result, the propagation on the clauses of every
--- body together with one clause for each accepted choice.
-pub record Means (book : List ℕ) (choices : List Literal) (sheet : List ℕ) : Type 0 where
+-- body together with one clause for each accepted choice: the account that the list gives.
+pub record Means (account : Account) (sheet : List ℕ) : Type 0 where
   pub is-a-sheet : is-sheet sheet ≡ true
-  pub options : options-in sheet ≡ options-of book
-  pub report-is : (out : List ℕ) → length out ≡ options-of book → reportOf sheet out ≡ reported (report (options-of book) (meaning book choices))
-  pub report-says : (out : List ℕ) → length out ≡ options-of book → Reported (options-of book) (meaning book choices) (reportOf sheet out)
+  pub options : options-in sheet ≡ options-of (account .book)
+  pub report-is :
+      (out : List ℕ) → length out ≡ options-of (account .book) →
+      reportOf sheet out ≡ reported (report (options-of (account .book)) (meaning account))
+  pub report-says :
+      (out : List ℕ) → length out ≡ options-of (account .book) →
+      Reported (options-of (account .book)) (meaning account) (reportOf sheet out)
 
 -- "No rule applies to the sheet; it holds the lone contradiction exactly when those rules and choices are contradictory, and
 -- otherwise its bare marks are exactly the forced ones."
-pub record Normal (book : List ℕ) (choices : List Literal) (sheet : List ℕ) : Type 0 where
+pub record Normal (account : Account) (sheet : List ℕ) : Type 0 where
   pub no-rule : NoRule (nodes-in sheet)
-  pub falsum : Falsum sheet ↔ Contradictory (meaning book choices)
-  pub units : (Contradictory (meaning book choices) → ⊥) → (l : Literal) → (is-unit l sheet ≡ true) ↔ Derived (meaning book choices) l
+  pub falsum : Falsum sheet ↔ Contradictory (meaning account)
+  pub units :
+      (Contradictory (meaning account) → ⊥) →
+      (l : Literal) → (is-unit l sheet ≡ true) ↔ Derived (meaning account) l
 
 -- "No stretch of the list without an accepted choice does more steps than the cube of n + 2l, for n nodes and l option marks at its
 -- start." Every way to cut the list into what is before, the stretch and the rest.
-abbrev pub Bounded : List Call → List ℕ → Type 0
+abbrev pub Bounded : List Call → State → Type 0
 Bounded calls start =
     (before stretch rest : List Call) → calls ≡ before ++ (stretch ++ rest) →
-    choices-of stretch (after-calls before start) ≡ [] →
-    steps-of stretch (after-calls before start)
-    ≤ cube (length (nodes-in (after-calls before start)) + 2 * literals (nodes-in (after-calls before start)))
+    is-stretch stretch (after-calls before start) ≡ true →
+    steps-of stretch (after-calls before start) ≤ most-steps (nodes-in (after-calls before start .sheet))
 
-pub record Demand-3 (book start : List ℕ) (calls : List Call) : Type 0 where
-  pub means : Means book (choices-of calls start) (after-calls calls start)
-  pub settled : ends-settled calls start ≡ true → Normal book (choices-of calls start) (after-calls calls start)
+-- A list of calls on a state that begins with a freshly loaded book.
+pub record Demand-3 (book : List ℕ) (start : State) (calls : List Call) : Type 0 where
+  pub means : Means (account-calls calls start (loaded book)) (after-calls calls start .sheet)
+  pub settled :
+      ends-settled calls start ≡ true →
+      Normal (account-calls calls start (loaded book)) (after-calls calls start .sheet)
   pub bounded : Bounded calls start
 
--- The theorem from any sheet that holds the book's rules.
-from-rules : (book start : List ℕ) → is-sheet start ≡ true → options-in start ≡ options-of book → clauses-in start ≡ clauses-of-book book → (calls : List Call) → Demand-3 book start calls
-unfolding meaning
-from-rules book start h n rules calls =
+-- The theorem from any state whose sheet keeps a book's rules.
+from-rules : (book : List ℕ) (start : State) → Keeps (loaded book) (start .sheet) → (calls : List Call) → Demand-3 book start calls
+from-rules book start h calls =
     record {
       means =
           record {
-            is-a-sheet = e .sheet;
-            options = e .options ∙ n;
+            is-a-sheet = k .sheet;
+            options = k .options;
             report-is = given;
-            report-says = λ out long. rw (given out long) (propagation-exact (options-of book) (meaning book choices));
+            report-says = λ out long. rw (given out long) (propagation-exact (options-of (account .book)) (meaning account));
           };
       settled = λ q.
-          let calm = ends-no-rule calls start h q in
-          let normal = sheet-normal left (e .sheet) calm in
+          let calm = ends-no-rule calls start (loaded book) h q in
+          let normal = sheet-normal left (k .sheet) calm in
           record {
             no-rule = calm;
-            falsum = Iff·trans (normal .0) (same-contradictory same);
-            units = λ fine l. let fine-here : Contradictory (clauses-in left) → ⊥ = λ c. fine (same-contradictory same .0 c) in Iff·trans (normal .1 fine-here l) (same-derived same fine-here l);
+            falsum = Iff·trans (normal .0) (same-contradictory (k .models));
+            units = λ fine l.
+                let fine-here : Contradictory (clauses-in left) → ⊥ = λ c. fine (same-contradictory (k .models) .0 c) in
+                Iff·trans (normal .1 fine-here l) (same-derived (k .models) fine-here l);
           };
-      bounded = λ before stretch rest parts none.
-          let b = calls-effect before start h in
-          steps-bound (sheet-shaped (after-calls before start) (b .sheet)) (calls-effect stretch (after-calls before start) (b .sheet) .steps none);
+      bounded = λ before stretch rest parts quiet.
+          let b = calls-effect before start (loaded book) h .keeps in
+          let there = after-calls before start in
+          steps-bound (sheet-shaped (there .sheet) (b .sheet)) (calls-effect stretch there (account-calls before start (loaded book)) b .steps quiet);
     }
   where
     left : List ℕ
-    left = after-calls calls start
+    left = after-calls calls start .sheet
 
-    choices : List Literal
-    choices = choices-of calls start
+    account : Account
+    account = account-calls calls start (loaded book)
 
-    e : Effect start left choices (steps-of calls start)
-    e = calls-effect calls start h
+    k : Keeps account left
+    k = calls-effect calls start (loaded book) h .keeps
 
-    same : SameModels (clauses-in left) (meaning book choices)
-    same = same-trans (e .models) (same-of (ap (λ cs. cs ++ choice-clauses choices) rules))
-
-    given : (out : List ℕ) → length out ≡ options-of book → reportOf left out ≡ reported (report (options-of book) (meaning book choices))
+    given : (out : List ℕ) → length out ≡ options-of (account .book) → reportOf left out ≡ reported (report (options-of (account .book)) (meaning account))
     given out long =
-        report-given left out (e .sheet) (long ∙ sym (e .options ∙ n))
-        ∙ ap reported (rw (e .options ∙ n) (same-report same (options-of book)))
+        report-given left out (k .sheet) (long ∙ sym (k .options))
+        ∙ ap reported (rw (k .options) (same-report (k .models) (options-of (account .book))))
+
+-- What a book loads keeps its rules.
+loaded-keeps : (book : List ℕ) → Accepted book → Keeps (loaded book) (sheet-of (options-of book) (book-nodes book))
+unfolding meaning choice-clauses
+loaded-keeps book good =
+    record {
+      sheet = loaded-sheet book good;
+      options = options-made (options-of book) (book-nodes book);
+      models = same-of (loaded-meaning book good ∙ sym (append-nil (clauses-of-book book)));
+    }
 
 -- "For every list of choices, single steps and runs, refused ones included, from a freshly loaded sheet, each on the sheet that the
 -- one before left": every accepted book, every target that a load fills, every list of calls with any arguments.
-pub demand-3 : (book target : List ℕ) → checkOf book ≡ accepted tt → length target ≡ sheet-length → (calls : List Call) → Demand-3 book (loadOf book target .buffer) calls
+pub demand-3 : (book target : List ℕ) → checkOf book ≡ accepted tt → length target ≡ sheet-length → (calls : List Call) → Demand-3 book (record { sheet = loadOf book target .lent }) calls
 demand-3 book target ok long calls =
     let fine = check-none book .0 ok in
-    let good = accepted-book book fine in
     rw (load-accepted book target fine long)
-    (from-rules book (sheet-of (options-of book) (book-nodes book)) (loaded-sheet book good) (options-made (options-of book) (book-nodes book)) (loaded-meaning book good) calls)
+    (from-rules book (record { sheet = sheet-of (options-of book) (book-nodes book) }) (loaded-keeps book (accepted-book book fine)) calls)

@@ -8,22 +8,42 @@ use lib.ListN.{length}
 use Rattle.model.specs.Limits.{sheet-length}
 use Rattle.model.specs.Book.{options-of, bodies-of, clauses-of-body, clauses-of-book}
 use Rattle.model.specs.Propagation.{report}
-use Rattle.model.specs.Calls.{accepted, checkOf, loadOf, reportOf}
-use Rattle.model.specs.History.{Call, after-calls, choices-of, choice-clauses, meaning}
-use Rattle.theory.specs.Valuations.{same-append, same-report}
-use Rattle.theory.specs.Reordered.{reordered-models}
+use Rattle.calls.specs.Outcomes.{accepted}
+use Rattle.calls.specs.Calls.{checkOf, loadOf, reportOf}
+use Rattle.calls.specs.History.{Call, State, after-calls, loaded, account-calls, choice-clauses, meaning}
+use Rattle.call_laws.specs.Valuations.{same-append, same-report}
+use Rattle.call_laws.specs.Effects.{kept-book}
+use Rattle.call_laws.specs.Reordered.{reordered-models}
 use Rattle.promise.specs.Reports.{reported}
 use Rattle.promise.specs.Lists.{demand-3}
 
 -- Two accepted books of one N whose bodies are the same in another order (`List·Permᴰ`: the library's permutations) report the
 -- same, byte for byte and in the result: as loaded, and after any two lists of calls that accept the same choices.
-pub order-does-not-matter : (book other target target′ : List ℕ) → checkOf book ≡ accepted tt → checkOf other ≡ accepted tt → length target ≡ sheet-length → length target′ ≡ sheet-length → options-of book ≡ options-of other → List·Permᴰ (bodies-of book) (bodies-of other) → (calls calls′ : List Call) → choices-of calls (loadOf book target .buffer) ≡ choices-of calls′ (loadOf other target′ .buffer) → (out : List ℕ) → length out ≡ options-of book → reportOf (after-calls calls (loadOf book target .buffer)) out ≡ reportOf (after-calls calls′ (loadOf other target′ .buffer)) out
-unfolding meaning clauses-of-book
-order-does-not-matter book other target target′ ok ok′ long long′ n p calls calls′ same out wide =
-    let d = demand-3 book target ok long calls .means in
-    let d′ = demand-3 other target′ ok′ long′ calls′ .means in
-    let choices = choices-of calls (loadOf book target .buffer) in
-    let models = same-append (choice-clauses choices) (reordered-models clauses-of-body p) in
-    d .report-is out wide
-    ∙ ap reported (same-report models (options-of book))
-    ∙ rw (same, n) (sym (d′ .report-is out (wide ∙ n)))
+module _ (book other target target′ : List ℕ) (calls calls′ : List Call) where
+  abbrev start : State
+  start = record { sheet = loadOf book target .lent }
+
+  abbrev start′ : State
+  start′ = record { sheet = loadOf other target′ .lent }
+
+  pub order-does-not-matter :
+      checkOf book ≡ accepted tt →
+      checkOf other ≡ accepted tt →
+      length target ≡ sheet-length →
+      length target′ ≡ sheet-length →
+      options-of book ≡ options-of other →
+      List·Permᴰ (bodies-of book) (bodies-of other) →
+      account-calls calls start (loaded book) .choices ≡ account-calls calls′ start′ (loaded other) .choices →
+      (out : List ℕ) → length out ≡ options-of book →
+      reportOf (after-calls calls start .sheet) out ≡ reportOf (after-calls calls′ start′ .sheet) out
+  unfolding meaning clauses-of-book
+  order-does-not-matter ok ok′ long long′ n p same out wide =
+      let d = demand-3 book target ok long calls .means in
+      let d′ = demand-3 other target′ ok′ long′ calls′ .means in
+      let b = kept-book calls start (loaded book) in
+      let b′ = kept-book calls′ start′ (loaded other) in
+      let choices = account-calls calls start (loaded book) .choices in
+      let models = same-append (choice-clauses choices) (reordered-models clauses-of-body p) in
+      let here = d .report-is out (wide ∙ ap options-of (sym b)) in
+      let there = d′ .report-is out (wide ∙ n ∙ ap options-of (sym b′)) in
+      (rw b at here) ∙ ap reported (same-report models (options-of book)) ∙ sym (rw (b′, ← same, ← n) at there)

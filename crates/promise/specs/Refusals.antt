@@ -8,8 +8,12 @@ use mathlib.Core.Option.{Option, none, some}
 use mathlib.Core.Path.{_≡_, refl}
 use Prim.Native.Nat.{ℕ, _≤_}
 use native.Mathlib.Omega.{arith}
-use Rattle.model.specs.Calls.{Refusal, length-refused, head-refused, code-refused, contents-refused, body-refused, weight-refused, option-refused, full-refused, rule-refused, step-refused, sheet-refused, output-refused, refusal-number, Answer, refused, accepted, answer, Outcome, outcome, book-refusal, checkOf, loadOf, writeOf, reportOf, chooseOf, stepOf, runOf}
-use Rattle.theory.specs.Loading.{Accepted, accepted-book, book-accepted}
+use Rattle.calls.specs.Refusals.{Refusal, length-refused, head-refused, code-refused, contents-refused, body-refused, weight-refused, option-refused, full-refused, rule-refused, step-refused, sheet-refused, output-refused, refusal-number}
+use Rattle.calls.specs.Outcomes.{Answer, refused, accepted, answer, Outcome, outcome}
+use Rattle.calls.specs.Chains.{book-refusal}
+use Rattle.calls.specs.Calls.{checkOf, loadOf, writeOf, reportOf, chooseOf, stepOf, runOf}
+use Rattle.theory.specs.Loading.{Accepted}
+use Rattle.call_laws.specs.Books.{accepted-book, book-accepted}
 
 -- "A result or one refusal numbered 1 to 12."
 pub numbered : (r : Refusal) → (1 ≤ refusal-number r) × (refusal-number r ≤ 12)
@@ -27,11 +31,11 @@ numbered step-refused = omega arith
 numbered sheet-refused = omega arith
 numbered output-refused = omega arith
 
--- An outcome whose answer is a refusal has left the buffer as it was.
-abbrev pub Keeps : {A : Type 0} → Outcome A → List ℕ → Type 0
-Keeps o kept = (r : Refusal) → o .answer ≡ refused r → o .buffer ≡ kept
+-- An outcome whose answer is a refusal has left what was lent as it was.
+abbrev pub Keeps : {L A : Type 0} → Outcome L A → L → Type 0
+Keeps o kept = (r : Refusal) → o .answer ≡ refused r → o .lent ≡ kept
 
-outcome-keeps : {A : Type 0} (due : Option Refusal) (a : A) (kept filled : List ℕ) → Keeps (outcome due a kept filled) kept
+outcome-keeps : {L A : Type 0} (due : Option Refusal) (a : A) (kept filled : L) → Keeps (outcome due a kept filled) kept
 unfolding outcome
 outcome-keeps none a kept filled r e = let z : _≡_ {A = ℕ} 0 1 = cc in absurd (omega arith)
 outcome-keeps (some x) a kept filled r e = refl

@@ -11,26 +11,28 @@ use Rattle.model.specs.Base.{only-if, first-of}
 use Rattle.model.specs.Literal.{pos, neg}
 use Rattle.model.specs.Clauses.{Clause, Derived, Contradictory}
 use Rattle.model.specs.Propagation.{Report, report}
-use Rattle.model.specs.Sheet.{is-sheet, options-in, clauses-in}
-use Rattle.model.specs.Calls.{Answer, accepted, Outcome, outcome, report-in, reportOf}
+use Rattle.model.specs.Sheet.{is-sheet, options-in, clauses-in, report-in}
+use Rattle.calls.specs.Outcomes.{Answer, accepted, Outcome, outcome}
+use Rattle.calls.specs.Chains.{report-refusal}
+use Rattle.calls.specs.Calls.{reportOf}
 use Rattle.theory.specs.ExactReports.{Tells, report-tells}
 
 -- The outcome of an accepted report that gives these bytes and this result.
-abbrev pub reported : Report → Outcome Bool
-reported r = record { answer = accepted (r .contradictory); buffer = r .marks }
+abbrev pub reported : Report → Outcome (List ℕ) Bool
+reported r = record { answer = accepted (r .contradictory); lent = r .marks }
 
 -- What a report's outcome says of the clauses of n options.
-pub record Reported (n : ℕ) (cs : List Clause) (o : Outcome Bool) : Type 0 where
+pub record Reported (n : ℕ) (cs : List Clause) (o : Outcome (List ℕ) Bool) : Type 0 where
   -- It is accepted, and its result says contradiction exactly where the clauses are contradictory.
   pub result : (o .answer ≡ accepted true) ⊎ (o .answer ≡ accepted false)
   pub says-contradiction : (o .answer ≡ accepted true) ↔ Contradictory cs
   -- "A report writes N bytes: all 3 when contradictory,"
-  pub bytes : length (o .buffer) ≡ n
-  pub all-three : Contradictory cs → o .buffer ≡ replicate n 3
+  pub bytes : length (o .lent) ≡ n
+  pub all-three : Contradictory cs → o .lent ≡ replicate n 3
   -- "1 in, 2 out, 0 open."
-  pub is-in : (Contradictory cs → ⊥) → (v : ℕ) → v < n → (getD (o .buffer) v 0 ≡ 1) ↔ Derived cs (pos v)
-  pub is-out : (Contradictory cs → ⊥) → (v : ℕ) → v < n → (getD (o .buffer) v 0 ≡ 2) ↔ Derived cs (neg v)
-  pub is-open : (Contradictory cs → ⊥) → (v : ℕ) → v < n → (getD (o .buffer) v 0 ≡ 0) ↔ ((Derived cs (pos v) → ⊥) × (Derived cs (neg v) → ⊥))
+  pub is-in : (Contradictory cs → ⊥) → (v : ℕ) → v < n → (getD (o .lent) v 0 ≡ 1) ↔ Derived cs (pos v)
+  pub is-out : (Contradictory cs → ⊥) → (v : ℕ) → v < n → (getD (o .lent) v 0 ≡ 2) ↔ Derived cs (neg v)
+  pub is-open : (Contradictory cs → ⊥) → (v : ℕ) → v < n → (getD (o .lent) v 0 ≡ 0) ↔ ((Derived cs (pos v) → ⊥) × (Derived cs (neg v) → ⊥))
 
 -- The literal propagation on the clauses says exactly what they mean.
 pub propagation-exact : (n : ℕ) (cs : List Clause) → Reported n cs (reported (report n cs))
@@ -52,7 +54,7 @@ propagation-exact n cs =
 
 -- A report on a sheet, into an output of its N bytes, gives what propagation on the multiplied-out rules gives.
 pub report-given : (sheet out : List ℕ) → is-sheet sheet ≡ true → length out ≡ options-in sheet → reportOf sheet out ≡ reported (report (options-in sheet) (clauses-in sheet))
-unfolding reportOf report-in outcome only-if first-of
+unfolding reportOf report-refusal report-in outcome only-if first-of
 report-given sheet out h e = rw (h, eq-eqb (length out) (options-in sheet) e)
 
 -- So it says exactly what the sheet's rules mean.

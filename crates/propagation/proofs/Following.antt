@@ -10,14 +10,14 @@ use borrow.Author.Tests.{ltb-true, ltb-false, eq-eqb}
 use lib.Dec.{eqb, ltb}
 use lib.ListN.{length, getD, set}
 use lib.Seq.{getD-set-other}
+use Rattle.model.specs.Limits.{sheet-length, most-literals}
 use Rattle.model.specs.Literal.{Literal, complement, option}
 use Rattle.model.specs.Forest.{root}
 use Rattle.model.specs.Code.{decode}
-use Rattle.model.specs.Sheet.{is-sheet, options-in, nodes-in, numbers-in}
-use Rattle.model.specs.Calls.{report-in}
+use Rattle.model.specs.Sheet.{options-in, nodes-in, numbers-in, report-in}
 use Rattle.theory.specs.Logic.{true-false, either, fails-if}
 use Rattle.theory.specs.Scan.{is-literal}
-use Rattle.theory.specs.Sheets.{sheet-facts}
+use Rattle.theory.specs.Sheets.{Formed}
 use Rattle.theory.specs.Evaluation.{fails}
 use Rattle.theory.specs.Tables.{place-of, set-of, forced-by, place-below, Has-report, report-conflict, sheet-report, sheet-failed}
 use Rattle.evaluation.specs.Reading.{place-at, tree-fails}
@@ -32,13 +32,13 @@ use Rattle.propagation.proofs.Looking.{part-inside}
 
 -- The literals of the trail before one were visited for the parts of fewer than 16 numbers, those before another for the others.
 pub record Following (s ends seen t trail : List ℕ) (n small large : ℕ) : Type 0 where
-  pub watching : Watching s ends 4098 seen t trail n
+  pub watching : Watching s ends sheet-length seen t trail n
   pub order : large ≤ small
   pub ahead : small ≤ n
   pub few : (h : ℕ) → h < small → Reached s ends (getD trail h 0) h 1 16 seen
-  pub many : (h : ℕ) → h < large → Reached s ends (getD trail h 0) h 16 4098 seen
+  pub many : (h : ℕ) → h < large → Reached s ends (getD trail h 0) h 16 sheet-length seen
 
-pub following-none : {s ends seen t trail : List ℕ} {n : ℕ} → Watching s ends 4098 seen t trail n → Following s ends seen t trail n 0 0
+pub following-none : {s ends seen t trail : List ℕ} {n : ℕ} → Watching s ends sheet-length seen t trail n → Following s ends seen t trail n 0 0
 following-none w =
     record {
       watching = w;
@@ -67,10 +67,10 @@ module _ {s ends seen t trail : List ℕ} {n : ℕ} {seen′ t′ trail′ : Lis
           order = omega arith;
           ahead = omega arith;
           few = λ h b. ⊎-elim (λ g. reached-still (omega arith) 1 16 (v .few h g)) (λ (e : h ≡ small). rw (same-entry small l e, e) r) (below-next h small b);
-          many = λ h b. reached-still (omega arith) 16 4098 (v .many h b);
+          many = λ h b. reached-still (omega arith) 16 sheet-length (v .many h b);
         }
 
-    pub following-large : large < n → (small < n → ⊥) → Reached s ends (getD trail large 0) large 16 4098 seen′ → Following s ends seen′ t′ trail′ n′ small (large + 1)
+    pub following-large : large < n → (small < n → ⊥) → Reached s ends (getD trail large 0) large 16 sheet-length seen′ → Following s ends seen′ t′ trail′ n′ small (large + 1)
     following-large l d r =
         let more = w .grown .more in
         let ahead = v .ahead in
@@ -79,7 +79,7 @@ module _ {s ends seen t trail : List ℕ} {n : ℕ} {seen′ t′ trail′ : Lis
           order = omega arith;
           ahead = omega arith;
           few = λ h b. reached-still (omega arith) 1 16 (v .few h b);
-          many = λ h b. ⊎-elim (λ g. reached-still (omega arith) 16 4098 (v .many h g)) (λ (e : h ≡ large). rw (same-entry large l e, e) r) (below-next h large b);
+          many = λ h b. ⊎-elim (λ g. reached-still (omega arith) 16 sheet-length (v .many h g)) (λ (e : h ≡ large). rw (same-entry large l e, e) r) (below-next h large b);
         }
 
 known-complement : (t : List ℕ) (l : Literal) → getD t (opposite (place-of l)) 0 ≡ 1 → set-of t (complement l) ≡ true
@@ -98,11 +98,11 @@ reported : (s t : List ℕ) {b : Bool} → tree-fails t (numbers-in s) ≡ b →
 reported s t e has = (has, sym (report-conflict s t has ∙ as-tree s t ∙ e))
 
 -- A contradictory sheet's report needs no more.
-pub fallen-report : {s t : List ℕ} {n : ℕ} → is-sheet s ≡ true → Fallen s t n → Reported s t true
+pub fallen-report : {s t : List ℕ} → Formed s → Fallen s t → Reported s t true
 fallen-report {s} {t} sheet w = reported s t (w .falls) (sheet-failed s sheet t (as-tree s t ∙ w .falls) (w .right))
 
 -- At the end of the trail every part is quiet.
-module _ {s ends homes : List ℕ} (sheet : is-sheet s ≡ true) (table : Parted s ends homes) {seen t trail : List ℕ} {n small large : ℕ} (v : Following s ends seen t trail n small large) (end : n ≤ large) where
+module _ {s ends homes : List ℕ} (sheet : Formed s) (table : Parted s ends homes) {seen t trail : List ℕ} {n small large : ℕ} (v : Following s ends seen t trail n small large) (end : n ≤ large) where
   quiet : (i : ℕ) → (getD ends i 0 ≡ 0 → ⊥) → Quiet s i (getD ends i 0) t
   quiet i d =
       let p = table .part i d in
@@ -118,7 +118,7 @@ module _ {s ends homes : List ℕ} (sheet : is-sheet s ≡ true) (table : Parted
   standing-yet : tree-fails t (numbers-in s) ≡ false
   standing-yet = fails-if (tree-fails t (numbers-in s)) (λ fall. let found = table .whole t fall in true-false (sym (found .2) ∙ quiet (found .0) (found .1) .stands))
 
-  module _ (l : Literal) (near : place-of l < 1024) (new : set-of t (complement l) ≡ false) where
+  module _ (l : Literal) (near : place-of l < most-literals) (new : set-of t (complement l) ≡ false) where
     unforced : tree-fails (set t (place-of l) 1) (numbers-in s) ≡ true → ⊥
     unforced fall = true-false (sym (sym same ∙ found .2) ∙ quiet i d .stands)
       where
@@ -153,8 +153,8 @@ module _ {s ends homes : List ℕ} (sheet : is-sheet s ≡ true) (table : Parted
   unfolding forced-by
   unforced-all l few = go (set-of t (complement l)) refl
     where
-      small-place : place-of l < 1024
-      small-place = omega (arith, place-below (options-in s) l few, sheet-facts s sheet .options)
+      small-place : place-of l < most-literals
+      small-place = omega (arith, place-below (options-in s) l few, sheet .options)
 
       go : (b : Bool) → set-of t (complement l) ≡ b → (not b && fails (set-of (set t (place-of l) 1)) root (decode (nodes-in s))) ≡ false
       go true e = refl
@@ -163,4 +163,4 @@ module _ {s ends homes : List ℕ} (sheet : is-sheet s ≡ true) (table : Parted
   pub followed : Reported s t false
   followed =
       let facts = v .watching .facts in
-      reported s t standing-yet (sheet-report s sheet t (omega (arith, facts .long, sheet-facts s sheet .options)) (facts .right) unforced-all)
+      reported s t standing-yet (sheet-report s sheet t (omega (arith, facts .long, sheet .options)) (facts .right) unforced-all)

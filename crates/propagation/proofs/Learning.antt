@@ -10,6 +10,7 @@ use lib.Dec.{eqb}
 use lib.ListN.{length, getD, set, length-set}
 use lib.Seq.{getD-set-same, getD-set-other, set-out}
 use Rattle.model.specs.Base.{pick}
+use Rattle.model.specs.Limits.{most-literals}
 use Rattle.model.specs.Literal.{Literal, pos, neg, complement}
 use Rattle.model.specs.Forest.{root}
 use Rattle.model.specs.Clauses.{clauses, Contradictory, Derived}
@@ -83,11 +84,11 @@ grown-one t trail n o a b =
     }
 
 -- A literal that a sheet's failing forces on an earlier table becomes a fact.
-module _ {s t trail : List ℕ} {n : ℕ} (w : Facts s t trail n) {k : ℕ} (small : k < 1024) (new : eqb (getD t (opposite k) 0) 1 ≡ false) where
-  far : opposite k < 1024
+module _ {s t trail : List ℕ} {n : ℕ} (w : Facts s t trail n) {k : ℕ} (small : k < most-literals) (new : eqb (getD t (opposite k) 0) 1 ≡ false) where
+  far : opposite k < most-literals
   far = opposite-below k small
 
-  pub still-room : n < 1024
+  pub still-room : n < most-literals
   still-room = omega (arith, w .room, unset-fewer t (opposite k) (rw (w .long) far) new)
 
   facts-more : ((Contradictory (clauses root (decode (nodes-in s))) → ⊥) → (l : Literal) → place-of l ≡ k → Derived (clauses root (decode (nodes-in s))) l) → Facts s (set t (opposite k) 1) (set trail n (opposite k)) (n + 1)
@@ -113,7 +114,7 @@ module _ {s t trail : List ℕ} {n : ℕ} (w : Facts s t trail n) {k : ℕ} (sma
       below d m = omega arith
 
 -- What is known after a literal was learned that an earlier table forces.
-module _ {s t₀ trail₀ : List ℕ} {n₀ : ℕ} {t trail : List ℕ} {n : ℕ} (v : Facts s t₀ trail₀ n₀) (w : Facts s t trail n) {k : ℕ} (small : k < 1024) (forced : tree-fails (set t₀ k 1) (numbers-in s) ≡ true) where
+module _ {s t₀ trail₀ : List ℕ} {n₀ : ℕ} {t trail : List ℕ} {n : ℕ} (v : Facts s t₀ trail₀ n₀) (w : Facts s t trail n) {k : ℕ} (small : k < most-literals) (forced : tree-fails (set t₀ k 1) (numbers-in s) ≡ true) where
   Known : List ℕ → List ℕ → ℕ → Type 0
   Known t′ trail′ n′ = Facts s t′ trail′ n′ × Grown t trail n t′ trail′ n′ × (getD t′ (opposite k) 0 ≡ 1)
 
@@ -134,18 +135,18 @@ module _ {s t₀ trail₀ : List ℕ} {n₀ : ℕ} {t trail : List ℕ} {n : ℕ
       go false e p q r = rw (p, q, r) (learned-new e)
 
 -- A table has no place 1,024.
-pub as-it-is : (t : List ℕ) → length t ≡ 1024 → set t 1024 1 ≡ t
-as-it-is t long = set-out t 1024 1 (omega arith)
+pub as-it-is : (t : List ℕ) → length t ≡ most-literals → set t most-literals 1 ≡ t
+as-it-is t long = set-out t most-literals 1 (omega arith)
 
 -- A part that was not touched has its values on the grown table.
-module _ {s t trail : List ℕ} {n : ℕ} {t′ trail′ : List ℕ} {n′ : ℕ} (g : Grown t trail n t′ trail′ n′) (long : length t ≡ 1024) (long′ : length t′ ≡ 1024) {i e : ℕ} (part : Part s i e) (within : e ≤ length s) where
+module _ {s t trail : List ℕ} {n : ℕ} {t′ trail′ : List ℕ} {n′ : ℕ} (g : Grown t trail n t′ trail′ n′) (long : length t ≡ most-literals) (long′ : length t′ ≡ most-literals) {i e : ℕ} (part : Part s i e) (within : e ≤ length s) where
   pub untouched-same : Untouched s i e n trail′ n′ → (q : ℕ) → tree-fails (set t′ q 1) (stretch i e s) ≡ tree-fails (set t q 1) (stretch i e s)
   untouched-same calm q = same-fails (set t′ q 1) (set t q 1) (stretch i e s) agree
     where
       agree : (j : ℕ) → j < length (stretch i e s) → is-literal (getD (stretch i e s) j 0) ≡ true → eqb (getD (set t′ q 1) (place-at (getD (stretch i e s) j 0)) 0) 1 ≡ eqb (getD (set t q 1) (place-at (getD (stretch i e s) j 0)) 0) 1
       agree j l lit =
           let p = place-at (getD (stretch i e s) j 0) in
-          let near : p < 1024 = part .tree .inside j l lit in
+          let near : p < most-literals = part .tree .inside j l lit in
           let short : j < e - i = rw (stretch-long i e s within) at l in
           let here : getD (stretch i e s) j 0 ≡ getD s (i + j) 0 = stretch-number i e j s short in
           let occurs : Occurs s p (i + j) = record {
@@ -168,7 +169,7 @@ module _ {s t trail : List ℕ} {n : ℕ} {t′ trail′ : List ℕ} {n′ : ℕ
 
   untouched-as-it-is : Untouched s i e n trail′ n′ → tree-fails t′ (stretch i e s) ≡ tree-fails t (stretch i e s)
   untouched-as-it-is calm =
-      sym (ap (λ u. tree-fails u (stretch i e s)) (as-it-is t′ long′)) ∙ untouched-same calm 1024 ∙ ap (λ u. tree-fails u (stretch i e s)) (as-it-is t long)
+      sym (ap (λ u. tree-fails u (stretch i e s)) (as-it-is t′ long′)) ∙ untouched-same calm most-literals ∙ ap (λ u. tree-fails u (stretch i e s)) (as-it-is t long)
 
   -- So a part that was quiet is, and one that was calm.
   pub settled-quiet : Untouched s i e n trail′ n′ → Settled s i e t t′ → Quiet s i e t′

@@ -1,8 +1,8 @@
 -- Parts that are a literal, or a disjunction of literals alone: they fail where all their literals do.
 use mathlib.Core.Bool.{true, false, and-false, and-true}
 use mathlib.Core.List.{List, [], _∷_}
-use mathlib.Core.Logic.{_⊎_, inl, inr, ⊎-elim}
-use mathlib.Core.Path.{_≡_, refl, sym, ap, _∙_}
+use mathlib.Core.Logic.{⊎-elim}
+use mathlib.Core.Path.{_≡_, refl, sym, ap, subst, _∙_}
 use Prim.Native.Nat.{ℕ, zero, suc, _+_, _-_, _≤_, _<_}
 use native.Mathlib.Omega.{arith}
 use borrow.Author.Tests.{eq-eqb, ne-eqb}
@@ -10,20 +10,23 @@ use lib.Dec.{eqb}
 use lib.ListN.{length, getD, set, take, drop, length-drop}
 use lib.Seq.{take-all, getD-set-same, getD-set-other}
 use Rattle.model.specs.Base.{pick}
+use Rattle.model.specs.Limits.{most-literals}
 use Rattle.model.specs.Forest.{or}
-use Rattle.model.specs.Code.{kind, value}
-use Rattle.model.specs.Sheet.{is-sheet}
+use Rattle.model.specs.Code.{kind, children}
 use Rattle.theory.specs.Logic.{true-false, fails-if}
 use Rattle.theory.specs.Scan.{is-literal}
-use Rattle.theory.specs.Evaluation.{fails-both, fails-empty}
-use Rattle.theory.specs.Values.{fails-all}
+use Rattle.theory.specs.Evaluation.{fails-all}
+use Rattle.theory.specs.Values.{or-none, or-more}
+use Rattle.theory.specs.Sheets.{Formed}
 use Rattle.evaluation.specs.Reading.{place-at, tree-fails, Spells-tree}
 use Rattle.evaluation.proofs.Nodes.{values-of, values-none, values-more, with-literal, with-inner, tree-value}
 use Rattle.breaking.specs.Breaking.{opposite}
 use Rattle.parts.specs.Parts.{stretch, Part}
 use Rattle.parts.proofs.Tables.{same-or-not, below-next, literal-place}
 use Rattle.parts.proofs.Finding.{stretch-first, stretch-number, stretch-long}
-use Rattle.propagation.specs.Trails.{fresh, Facts, Lone, Unforced, Looked}
+use Rattle.propagation.specs.Trails.{fresh, Facts, Forces, Lone, Unforced, Looked}
+use Rattle.propagation.specs.declared.Forced.{Forced}
+use Rattle.propagation.specs.declared.Forced.the-variants.{Only, Nothing, Fails, Untold}
 use Rattle.propagation.proofs.Learning.{grown-none, learned, as-it-is}
 use Rattle.propagation.proofs.Looking.{part-inside, looked}
 
@@ -32,24 +35,21 @@ abbrev Literals : List ℕ → ℕ → Type 0
 Literals xs n = (j : ℕ) → j < n → is-literal (getD xs j 0) ≡ true
 
 one-stands : (t xs : List ℕ) (j : ℕ) → j < length xs → Literals xs (suc j) → eqb (getD t (place-at (getD xs j 0)) 0) 1 ≡ false → fails-all or (values-of t xs) ≡ false
-unfolding fails-all fails-both
 one-stands t [] j l lits h = absurd (omega arith)
-one-stands t (x ∷ xs) zero l lits h = rw (values-more t x xs, with-literal t x (values-of t xs) (lits 0 (omega arith)), h)
+one-stands t (x ∷ xs) zero l lits h = rw (values-more t x xs, with-literal t x (values-of t xs) (lits 0 (omega arith)), or-more, h)
 one-stands t (x ∷ xs) (suc j) l lits h =
-    rw (values-more t x xs, with-literal t x (values-of t xs) (lits 0 (omega arith)), one-stands t xs j (omega arith) (λ i m. lits (suc i) (omega arith)) h)
+    rw (values-more t x xs, with-literal t x (values-of t xs) (lits 0 (omega arith)), or-more, one-stands t xs j (omega arith) (λ i m. lits (suc i) (omega arith)) h)
     (and-false (eqb (getD t (place-at x) 0) 1))
 
 all-fail : (t xs : List ℕ) → Literals xs (length xs) → ((j : ℕ) → j < length xs → eqb (getD t (place-at (getD xs j 0)) 0) 1 ≡ true) → fails-all or (values-of t xs) ≡ true
-unfolding fails-all fails-both fails-empty
-all-fail t [] lits h = rw (values-none t)
+all-fail t [] lits h = rw (values-none t, or-none)
 all-fail t (x ∷ xs) lits h =
-    rw (values-more t x xs, with-literal t x (values-of t xs) (lits 0 (omega arith)), h 0 (omega arith))
+    rw (values-more t x xs, with-literal t x (values-of t xs) (lits 0 (omega arith)), or-more, h 0 (omega arith))
     (all-fail t xs (λ j l. lits (suc j) (omega arith)) (λ j l. h (suc j) (omega arith)))
 
 -- A tree has the value of itself alone, and a disjunction that of its children together.
 alone : (t xs : List ℕ) → Spells-tree xs → tree-fails t xs ≡ fails-all or (values-of t xs)
-unfolding fails-all fails-both fails-empty
-alone t xs h = sym (ap (fails-all or) (tree-value xs h t) ∙ and-true (tree-fails t xs))
+alone t xs h = sym (rw (tree-value xs h t, or-more, or-none) (and-true (tree-fails t xs)))
 
 inner : (x : ℕ) → kind x ≡ 4 → is-literal x ≡ false
 unfolding is-literal
@@ -59,10 +59,10 @@ disjunction : (t : List ℕ) (x : ℕ) (xs : List ℕ) → Spells-tree (x ∷ xs
 unfolding pick
 disjunction t x xs h four =
     let bs = values-of t xs in
-    let whole : fails-all or (take (value x) bs) ∷ drop (value x) bs ≡ tree-fails t (x ∷ xs) ∷ [] = rw four at (sym (with-inner t x bs (inner x four))) ∙ sym (values-more t x xs) ∙ tree-value (x ∷ xs) h t in
-    let first : fails-all or (take (value x) bs) ≡ tree-fails t (x ∷ xs) = cc in
-    let none : drop (value x) bs ≡ [] = cc in
-    sym first ∙ ap (fails-all or) (take-all (value x) bs (omega (arith, length-drop (value x) bs, ap length none)))
+    let whole : fails-all or (take (children x) bs) ∷ drop (children x) bs ≡ tree-fails t (x ∷ xs) ∷ [] = rw four at (sym (with-inner t x bs (inner x four))) ∙ sym (values-more t x xs) ∙ tree-value (x ∷ xs) h t in
+    let first : fails-all or (take (children x) bs) ≡ tree-fails t (x ∷ xs) = cc in
+    let none : drop (children x) bs ≡ [] = cc in
+    sym first ∙ ap (fails-all or) (take-all (children x) bs (omega (arith, length-drop (children x) bs, ap length none)))
 
 -- A part fails where the trees from one of its places on fail all.
 abbrev pub Together : List ℕ → ℕ → ℕ → ℕ → Type 0
@@ -71,7 +71,7 @@ Together s i e j = (u : List ℕ) → tree-fails u (stretch i e s) ≡ fails-all
 pub together-alone : {s : List ℕ} {i e : ℕ} → Part s i e → Together s i e i
 together-alone {s} {i} {e} part u = alone u (stretch i e s) (part .tree)
 
-pub together-below : {s : List ℕ} {i e : ℕ} → is-sheet s ≡ true → Part s i e → kind (getD s i 0) ≡ 4 → Together s i e (i + 1)
+pub together-below : {s : List ℕ} {i e : ℕ} → Formed s → Part s i e → kind (getD s i 0) ≡ 4 → Together s i e (i + 1)
 together-below {s} {i} {e} sheet part four u =
     let far = part-inside sheet part .0 in
     let cut = stretch-first i e s (part .goes-on) (omega (arith, part .goes-on)) in
@@ -103,23 +103,28 @@ pub record Free (s t : List ℕ) (j k p : ℕ) : Type 0 where
   pub same : place-at (getD s place 0) ≡ p
   pub stands : getD t p 0 ≡ 1 → ⊥
 
--- All that do not fail have one place in the table.
-pub record Scanned (s t : List ℕ) (i e j free k : ℕ) : Type 0 where
-  pub plain : Plain s i e j k
-  pub failing : (m : ℕ) → j ≤ m → m < k → (place-at (getD s m 0) ≡ free → ⊥) → getD t (place-at (getD s m 0)) 0 ≡ 1
-  pub found : (free ≡ 1024) ⊎ Free s t j k free
+-- All that do not fail have one place in the table, or all fail.
+abbrev Found : List ℕ → List ℕ → ℕ → ℕ → Forced → Type 0
+Found s t j k (Only p) =
+    Free s t j k p × ((m : ℕ) → j ≤ m → m < k → (place-at (getD s m 0) ≡ p → ⊥) → getD t (place-at (getD s m 0)) 0 ≡ 1)
+Found s t j k Nothing = ⊥
+Found s t j k Fails = (m : ℕ) → j ≤ m → m < k → getD t (place-at (getD s m 0)) 0 ≡ 1
+Found s t j k Untold = ⊥
 
-pub scanned-none : {s t : List ℕ} {i e j : ℕ} → i ≤ j → j ≤ e → Together s i e j → Scanned s t i e j 1024 j
+pub record Scanned (s t : List ℕ) (i e j : ℕ) (forced : Forced) (k : ℕ) : Type 0 where
+  pub plain : Plain s i e j k
+  pub found : Found s t j k forced
+
+pub scanned-none : {s t : List ℕ} {i e j : ℕ} → i ≤ j → j ≤ e → Together s i e j → Scanned s t i e j Fails j
 scanned-none a b together =
     record {
       plain = record { from = a; past = omega arith; within = b; together = together; literals = λ m c d. absurd (omega arith) };
-      failing = λ m c d. absurd (omega arith);
-      found = inl refl;
+      found = λ m c d. absurd (omega arith);
     }
 
-module _ {s : List ℕ} {i e : ℕ} (sheet : is-sheet s ≡ true) (part : Part s i e) {j k : ℕ} (w : Plain s i e j k) where
+module _ {s : List ℕ} {i e : ℕ} (sheet : Formed s) (part : Part s i e) {j k : ℕ} (w : Plain s i e j k) where
   -- The literals have places in the table.
-  near : (m : ℕ) → j ≤ m → m < k → place-at (getD s m 0) < 1024
+  near : (m : ℕ) → j ≤ m → m < k → place-at (getD s m 0) < most-literals
   near m a b =
       literal-place s sheet m (omega (arith, part .begins, w .from)) (omega (arith, part .ends, w .within)) (w .literals m a b)
 
@@ -165,95 +170,110 @@ later : {s t : List ℕ} {j k p : ℕ} → Free s t j k p → Free s t j (k + 1)
 later f =
     record { place = f .place; from = f .from; before = omega (arith, f .before); same = f .same; stands = f .stands }
 
-module _ {s t : List ℕ} {i e : ℕ} (sheet : is-sheet s ≡ true) (part : Part s i e) (long : length t ≡ 1024) {j free k : ℕ} (w : Scanned s t i e j free k) where
-  pub scanned-all : e ≤ k → Lone s i e t free
-  scanned-all end =
-      record {
-        one = λ l. all-under sheet part (w .plain) end (set t free 1) (λ m a b. ⊎-elim
-            (λ same. ap (λ n. getD (set t free 1) n 0) same ∙ getD-set-same t free 1 0 (omega arith))
-            (λ other. getD-set-other t free (place-at (getD s m 0)) 1 0 other ∙ w .failing m a b other)
-            (same-or-not (place-at (getD s m 0)) free));
-        only = λ l q fall. ⊎-elim
-            (λ z. absurd (omega arith))
-            (λ (f : Free s t j k free). ⊎-elim
-            (λ same. sym same)
-            (λ (other : free ≡ q → ⊥). true-false (sym fall ∙ stands-yet sheet part (w .plain) f q other))
-            (same-or-not free q))
-            (w .found);
-        all = λ z. all-under sheet part (w .plain) end t (λ m a b. w .failing m a b (λ same. let small = near sheet part (w .plain) m a b in absurd (omega arith)));
-        none = λ z. ⊎-elim
-            (λ y. absurd (omega arith))
-            (λ (f : Free s t j k free). let small = near sheet part (w .plain) (f .place) (f .from) (f .before) in absurd (omega (arith, f .same)))
-            (w .found);
-      }
+-- Where none was found that does not fail, all fail.
+all-failed : (s t : List ℕ) (j k : ℕ) (forced : Forced) → Found s t j k forced → ((q : ℕ) → forced ≡ Only q → ⊥) → forced ≡ Fails
+all-failed s t j k (Only p) f unfound = absurd (unfound p refl)
+all-failed s t j k Nothing f unfound = absurd f
+all-failed s t j k Fails f unfound = refl
+all-failed s t j k Untold f unfound = absurd f
+
+-- One literal more that fails.
+found-failed : (s t : List ℕ) (j k : ℕ) (forced : Forced) → Found s t j k forced → getD t (place-at (getD s k 0)) 0 ≡ 1 → Found s t j (k + 1) forced
+found-failed s t j k (Only p) f fails = (
+  later (f .0),
+  λ m a b d. ⊎-elim (λ g. f .1 m a g d) (λ g. ap (λ n. getD t (place-at (getD s n 0)) 0) g ∙ fails) (below-next m k b),
+)
+found-failed s t j k Nothing f fails = f
+found-failed s t j k Fails f fails =
+    λ m a b. ⊎-elim (λ g. f m a g) (λ g. ap (λ n. getD t (place-at (getD s n 0)) 0) g ∙ fails) (below-next m k b)
+found-failed s t j k Untold f fails = f
+
+-- All numbers of the part are seen.
+found-all : (s t : List ℕ) (i e j k : ℕ) → Formed s → Part s i e → length t ≡ most-literals → (forced : Forced) → Plain s i e j k → e ≤ k → Found s t j k forced → Lone s i e t forced
+found-all s t i e j k sheet part long (Only p) w end f =
+    let small : p < most-literals = rw (f .0 .same) at (near sheet part w (f .0 .place) (f .0 .from) (f .0 .before)) in
+    record {
+      near = small;
+      one = all-under sheet part w end (set t p 1) (λ m a b. ⊎-elim
+          (λ same. ap (λ n. getD (set t p 1) n 0) same ∙ getD-set-same t p 1 0 (omega arith))
+          (λ other. getD-set-other t p (place-at (getD s m 0)) 1 0 other ∙ f .1 m a b other)
+          (same-or-not (place-at (getD s m 0)) p));
+      only = λ q fall. ⊎-elim
+          (λ same. sym same)
+          (λ (other : p ≡ q → ⊥). true-false (sym fall ∙ stands-yet sheet part w (f .0) q other))
+          (same-or-not p q);
+    }
+found-all s t i e j k sheet part long Nothing w end f = absurd f
+found-all s t i e j k sheet part long Fails w end f = all-under sheet part w end t f
+found-all s t i e j k sheet part long Untold w end f = absurd f
+
+module _ {s t : List ℕ} {i e : ℕ} (sheet : Formed s) (part : Part s i e) (long : length t ≡ most-literals) {j k : ℕ} where
+  pub scanned-all : {forced : Forced} → Scanned s t i e j forced k → e ≤ k → Lone s i e t forced
+  scanned-all {forced} w end = found-all s t i e j k sheet part long forced (w .plain) end (w .found)
 
   -- One literal more.
   module _ (l : k < e) (lit : is-literal (getD s k 0) ≡ true) where
-    pub scanned-failed : getD t (place-at (getD s k 0)) 0 ≡ 1 → Scanned s t i e j free (k + 1)
-    scanned-failed fails =
-        record {
-          plain = plain-more (w .plain) l lit;
-          failing = λ m a b d. ⊎-elim (λ g. w .failing m a g d) (λ g. ap (λ n. getD t (place-at (getD s n 0)) 0) g ∙ fails) (below-next m k b);
-          found = ⊎-elim (λ z. inl z) (λ f. inr (later f)) (w .found);
-        }
+    pub scanned-failed : {forced : Forced} → Scanned s t i e j forced k → getD t (place-at (getD s k 0)) 0 ≡ 1 → Scanned s t i e j forced (k + 1)
+    scanned-failed {forced} w fails =
+        record { plain = plain-more (w .plain) l lit; found = found-failed s t j k forced (w .found) fails }
 
     -- It does not fail.
     module _ {p : ℕ} (here : p ≡ place-at (getD s k 0)) (stands : getD t p 0 ≡ 1 → ⊥) where
-      free-here : Free s t j (k + 1) p
-      free-here =
-          record { place = k; from = w .plain .past; before = omega arith; same = sym here; stands = stands }
+      free-here : j ≤ k → Free s t j (k + 1) p
+      free-here past = record { place = k; from = past; before = omega arith; same = sym here; stands = stands }
 
-      pub scanned-free : (free ≡ 1024) ⊎ (free ≡ p) → Scanned s t i e j p (k + 1)
-      scanned-free c =
+      first-here : Scanned s t i e j Fails k → Scanned s t i e j (Only p) (k + 1)
+      first-here w =
           record {
             plain = plain-more (w .plain) l lit;
-            failing = λ m a b d. ⊎-elim
-                (λ g. w .failing m a g (λ same. ⊎-elim
-                (λ z. let small = near sheet part (w .plain) m a g in absurd (omega arith))
-                (λ z. absurd (d (same ∙ z)))
-                c))
-                (λ g. absurd (d (ap (λ n. place-at (getD s n 0)) g ∙ sym here)))
-                (below-next m k b);
-            found = inr free-here;
+            found = (
+              free-here (w .plain .past),
+              λ m a b d. ⊎-elim
+                  (λ g. w .found m a g)
+                  (λ g. absurd (d (ap (λ n. place-at (getD s n 0)) g ∙ sym here)))
+                  (below-next m k b),
+            );
           }
 
-      pub scanned-two : (free ≡ 1024 → ⊥) → (free ≡ p → ⊥) → Lone s i e t 1025
-      scanned-two there other =
+      pub scanned-first : {forced : Forced} → Scanned s t i e j forced k → ((q : ℕ) → forced ≡ Only q → ⊥) → Scanned s t i e j (Only p) (k + 1)
+      scanned-first {forced} w unfound =
+          first-here (subst (λ f. Scanned s t i e j f k) (all-failed s t j k forced (w .found) unfound) w)
+
+      pub scanned-again : {forced : Forced} {other : ℕ} → Scanned s t i e j forced k → forced ≡ Only other → other ≡ p → Scanned s t i e j (Only other) (k + 1)
+      scanned-again {other = other} v found same =
+          let w : Scanned s t i e j (Only other) k = subst (λ f. Scanned s t i e j f k) found v in
           record {
-            one = λ h. absurd (omega arith);
-            only = λ h. absurd (omega arith);
-            all = λ h. absurd (omega arith);
-            none = λ h. ⊎-elim
-                (λ z. absurd (there z))
-                (λ f. two-stand sheet part (plain-more (w .plain) l lit) (later f) free-here other)
-                (w .found);
+            plain = plain-more (w .plain) l lit;
+            found = (
+              later (w .found .0),
+              λ m a b d. ⊎-elim
+                  (λ g. w .found .1 m a g d)
+                  (λ g. absurd (d (ap (λ n. place-at (getD s n 0)) g ∙ sym here ∙ sym same)))
+                  (below-next m k b),
+            );
           }
 
--- Nothing is said of another part.
-pub lone-other : {s : List ℕ} {i e : ℕ} {t : List ℕ} → Lone s i e t 1026
-lone-other =
-    record {
-      one = λ l. absurd (omega arith);
-      only = λ l. absurd (omega arith);
-      all = λ l. absurd (omega arith);
-      none = λ l. absurd (omega arith);
-    }
+      pub scanned-two : {forced : Forced} {other : ℕ} → Scanned s t i e j forced k → forced ≡ Only other → (other ≡ p → ⊥) → Unforced s i e t
+      scanned-two {other = other} v found unlike =
+          let w : Scanned s t i e j (Only other) k = subst (λ f. Scanned s t i e j f k) found v in
+          two-stand sheet part (plain-more (w .plain) l lit) (later (w .found .0)) (free-here (w .plain .past)) unlike
 
 -- A part that forces nothing is calm.
-pub unforced-looked : {s : List ℕ} {i e : ℕ} {t trail : List ℕ} {n : ℕ} → is-sheet s ≡ true → Part s i e → Facts s t trail n → Unforced s i e t → Looked s i e t trail n t trail n
+pub unforced-looked : {s : List ℕ} {i e : ℕ} {t trail : List ℕ} {n : ℕ} → Formed s → Part s i e → Facts s t trail n → Unforced s i e t → Looked s i e t trail n t trail n
 unforced-looked {s} {i} {e} {t} {trail} {n} sheet part facts h =
     looked sheet part facts facts (grown-none t trail n)
     (record {
-      stands = ap (λ u. tree-fails u (stretch i e s)) (sym (as-it-is t (facts .long))) ∙ h 1024;
+      stands = ap (λ u. tree-fails u (stretch i e s)) (sym (as-it-is t (facts .long))) ∙ h most-literals;
       known = λ q m fall. true-false (sym fall ∙ h q);
     })
 
 -- A part that forces one literal alone is calm once that is learned.
-pub lone-looked : {s : List ℕ} {i e : ℕ} {t trail : List ℕ} {n r : ℕ} → is-sheet s ≡ true → Part s i e → Facts s t trail n → Lone s i e t r → r < 1024 → {t′ trail′ : List ℕ} {n′ : ℕ} → n′ ≡ pick (fresh t r) (n + 1) n → t′ ≡ pick (fresh t r) (set t (opposite r) 1) t → trail′ ≡ pick (fresh t r) (set trail n (opposite r)) trail → Looked s i e t trail n t′ trail′ n′
-lone-looked {s} {i} {e} {t} {r = r} sheet part facts lone small {t′} a b c =
-    let known = learned facts facts small (part .counts (set t r 1) (lone .one small)) a b c in
+pub lone-looked : {s : List ℕ} {i e : ℕ} {t trail : List ℕ} {n r : ℕ} → Formed s → Part s i e → Facts s t trail n → Forces s i e t r → {t′ trail′ : List ℕ} {n′ : ℕ} → n′ ≡ pick (fresh t r) (n + 1) n → t′ ≡ pick (fresh t r) (set t (opposite r) 1) t → trail′ ≡ pick (fresh t r) (set trail n (opposite r)) trail → Looked s i e t trail n t′ trail′ n′
+lone-looked {s} {i} {e} {t} {r = r} sheet part facts lone {t′} a b c =
+    let near = lone .near in
+    let known = learned facts facts near (part .counts (set t r 1) (lone .one)) a b c in
     looked sheet part facts (known .0) (known .1)
     (record {
-      stands = fails-if (tree-fails t (stretch i e s)) (λ fall. absurd (omega (arith, lone .only small 1024 (ap (λ u. tree-fails u (stretch i e s)) (as-it-is t (facts .long)) ∙ fall))));
-      known = λ q m fall. ap (λ p. getD t′ (opposite p) 0) (lone .only small q fall) ∙ known .2;
+      stands = fails-if (tree-fails t (stretch i e s)) (λ fall. absurd (omega (arith, lone .only most-literals (ap (λ u. tree-fails u (stretch i e s)) (as-it-is t (facts .long)) ∙ fall))));
+      known = λ q m fall. ap (λ p. getD t′ (opposite p) 0) (lone .only q fall) ∙ known .2;
     })

@@ -1,17 +1,17 @@
 -- Laws of looking at a part: what it forced is known, literal by literal, so that it is calm; or it fails.
 use mathlib.Core.Bool.{true}
 use mathlib.Core.List.{List}
-use mathlib.Core.Logic.{_⊎_, ⊎-elim}
+use mathlib.Core.Logic.{⊎-elim}
 use mathlib.Core.Path.{_≡_, sym, ap, _∙_}
 use Prim.Native.Nat.{ℕ, _+_, _≤_, _<_}
 use native.Mathlib.Omega.{arith}
 use borrow.Author.Count.{below-more}
 use lib.ListN.{length, getD, set}
 use Rattle.model.specs.Base.{pick}
-use Rattle.model.specs.Sheet.{is-sheet}
-use Rattle.theory.specs.Sheets.{sheet-facts}
+use Rattle.model.specs.Limits.{sheet-room, sheet-length}
+use Rattle.theory.specs.Sheets.{Formed}
 use Rattle.evaluation.specs.Reading.{tree-fails}
-use Rattle.breaking.specs.Breaking.{opposite, Broken-by, Breaking}
+use Rattle.breaking.specs.Breaking.{opposite, Broken-by}
 use Rattle.parts.specs.Parts.{stretch, Part}
 use Rattle.parts.proofs.Tables.{same-or-not}
 use Rattle.parts.proofs.Finding.{stretch-long}
@@ -19,28 +19,20 @@ use Rattle.propagation.specs.Trails.{fresh, Facts, Fallen, Grown, Settle
 use Rattle.propagation.proofs.Learning.{grown-none, grown-both, learned, settled-quiet}
 
 -- A part lies within its sheet.
-pub part-inside : {s : List ℕ} → is-sheet s ≡ true → {i e : ℕ} → Part s i e → (e ≤ length s) × (e ≤ 4098) × (length s ≡ 4098)
-part-inside h p = let k = sheet-facts _ h in let l = p .ends in (omega (arith, k .used, k .whole), omega (arith, k .used), k .whole)
+pub part-inside : {s : List ℕ} → Formed s → {i e : ℕ} → Part s i e → (e ≤ length s) × (e ≤ sheet-length) × (length s ≡ sheet-length)
+part-inside h p = let k = h in let l = p .ends in (omega (arith, k .used, k .whole), omega (arith, k .used), k .whole)
 
-pub part-length : {s : List ℕ} → is-sheet s ≡ true → {i e : ℕ} → Part s i e → length (stretch i e s) ≤ 4096
+pub part-length : {s : List ℕ} → Formed s → {i e : ℕ} → Part s i e → length (stretch i e s) ≤ sheet-room
 part-length {s} h {i} {e} p = let l = part-inside h p in omega (arith, l .0, l .1, stretch-long i e s (l .0), p .begins)
 
 -- A part is calm once it does not fail and what it forced under the table before is known.
-pub looked : {s : List ℕ} → is-sheet s ≡ true → {i e : ℕ} → Part s i e → {t trail : List ℕ} {n : ℕ} → Facts s t trail n → {t′ trail′ : List ℕ} {n′ : ℕ} → Facts s t′ trail′ n′ → Grown t trail n t′ trail′ n′ → Settled s i e t t′ → Looked s i e t trail n t′ trail′ n′
+pub looked : {s : List ℕ} → Formed s → {i e : ℕ} → Part s i e → {t trail : List ℕ} {n : ℕ} → Facts s t trail n → {t′ trail′ : List ℕ} {n′ : ℕ} → Facts s t′ trail′ n′ → Grown t trail n t′ trail′ n′ → Settled s i e t t′ → Looked s i e t trail n t′ trail′ n′
 looked sheet part before after grown settled =
     record {
       facts = after;
       grown = grown;
       calm = λ free. settled-quiet grown (before .long) (after .long) part (part-inside sheet part .0) free settled;
     }
-
--- What a pass over a tree told, by its number.
-module _ {t tree places : List ℕ} {n : ℕ} (told : Breaking t tree places n) where
-  pub breaking-short : n ≤ 4096 → Broken-by t tree places n
-  breaking-short l = ⊎-elim (λ b. b) (λ f. absurd (omega (arith, f .0))) told
-
-  pub breaking-long : 4096 < n → tree-fails t tree ≡ true
-  breaking-long l = ⊎-elim (λ b. absurd (omega (arith, b .few))) (λ f. f .1) told
 
 -- Of the literals that break a part, the first k are known.
 pub record Breaks-known (s t₀ trail₀ : List ℕ) (n₀ : ℕ) (places t trail : List ℕ) (n k : ℕ) : Type 0 where
@@ -77,17 +69,5 @@ module _ {s : List ℕ} {i e : ℕ} {t₀ trail₀ : List ℕ} {n₀ : ℕ} {pla
         }
 
 -- A part that fails under facts makes the sheet contradictory.
-pub part-fallen : {s : List ℕ} {i e : ℕ} {t trail : List ℕ} {n : ℕ} → Part s i e → Facts s t trail n → tree-fails t (stretch i e s) ≡ true → Fallen s t 1025
-part-fallen {t = t} part facts fall =
-    record { over = omega arith; falls = part .counts t fall; right = facts .right }
-
--- What an answer says, by its number.
-module _ {A : Type 0} {s t : List ℕ} {n : ℕ} (answer : A ⊎ Fallen s t n) where
-  pub standing : n ≤ 1024 → A
-  standing l = ⊎-elim (λ a. a) (λ f. absurd (omega (arith, f .over))) answer
-
-  pub fallen : (A → n ≤ 1024) → 1024 < n → Fallen s t n
-  fallen short l = ⊎-elim (λ a. absurd (omega (arith, short a))) (λ f. f) answer
-
-pub facts-short : {s t trail : List ℕ} {n : ℕ} → Facts s t trail n → n ≤ 1024
-facts-short w = omega (arith, w .room)
+pub part-fallen : {s : List ℕ} {i e : ℕ} {t trail : List ℕ} {n : ℕ} → Part s i e → Facts s t trail n → tree-fails t (stretch i e s) ≡ true → Fallen s t
+part-fallen {t = t} part facts fall = record { falls = part .counts t fall; right = facts .right }

@@ -1,21 +1,23 @@
 -- Laws of watching parts: one part looked at, and a trail that is followed.
-use mathlib.Core.Bool.{true}
 use mathlib.Core.List.{List}
 use mathlib.Core.Logic.{_⊎_, inl, inr, ⊎-elim}
 use mathlib.Core.Path.{_≡_, refl, ap, _∙_}
-use Prim.Native.Nat.{ℕ, zero, suc, _+_, _-_, _≤_, _<_}
+use Prim.Native.Nat.{ℕ, zero, suc, _+_, _≤_, _<_}
 use native.Mathlib.Omega.{arith}
 use borrow.Author.Tests.{ltb-true, ltb-false}
 use lib.Dec.{ltb}
 use lib.ListN.{length, getD, set, replicate, length-set, length-replicate}
 use lib.Seq.{getD-set-same, getD-set-other}
 use Rattle.model.specs.Base.{pick}
-use Rattle.model.specs.Sheet.{is-sheet}
+use Rattle.model.specs.Limits.{sheet-length, most-literals}
 use Rattle.theory.specs.Logic.{either}
 use Rattle.theory.specs.Tables.{right-none}
+use Rattle.theory.specs.Sheets.{Formed}
 use Rattle.parts.specs.Parts.{Parted, Occurs, Linked}
 use Rattle.parts.proofs.Tables.{same-or-not, zeros, below-next}
-use Rattle.propagation.specs.Trails.{unset, Looked, Ends, Watching, Since, Watched, Reached}
+use Rattle.propagation.specs.declared.Outcome.{Outcome}
+use Rattle.propagation.specs.declared.Outcome.the-variants.{Known, Fallen}
+use Rattle.propagation.specs.Trails.{unset, Unless-fallen, Looked, Ends, Watching, Since, Watched, Reached}
 use Rattle.propagation.proofs.Learning.{grown-none, grown-both, calm-on}
 use Rattle.propagation.proofs.Looking.{part-inside}
 
@@ -25,24 +27,24 @@ unset-zeros zero = refl
 unset-zeros (suc k) = ap suc (unset-zeros k)
 
 -- Before anything is known.
-pub watching-none : (s ends : List ℕ) {seen t trail : List ℕ} → seen ≡ replicate 4098 0 → t ≡ replicate 1024 0 → length trail ≡ 1024 → Watching s ends 0 seen t trail 0
+pub watching-none : (s ends : List ℕ) {seen t trail : List ℕ} → seen ≡ replicate sheet-length 0 → t ≡ replicate most-literals 0 → length trail ≡ most-literals → Watching s ends 0 seen t trail 0
 watching-none s ends {seen} {t} {trail} a b c =
     record {
       facts = record {
-        long = ap length b ∙ length-replicate {A = ℕ} 1024 0;
+        long = ap length b ∙ length-replicate {A = ℕ} most-literals 0;
         wide = c;
-        room = omega (arith, ap unset b ∙ unset-zeros 1024);
+        room = omega (arith, ap unset b ∙ unset-zeros most-literals);
         placed = λ h l. absurd (omega arith);
-        right = rw b (right-none _ 1024);
+        right = rw b (right-none _ most-literals);
       };
-      long = ap length a ∙ length-replicate {A = ℕ} 4098 0;
-      most = λ i. let z : getD seen i 0 ≡ 0 = ap (λ l. getD l i 0) a ∙ zeros 4098 i in omega arith;
+      long = ap length a ∙ length-replicate {A = ℕ} sheet-length 0;
+      most = λ i. let z : getD seen i 0 ≡ 0 = ap (λ l. getD l i 0) a ∙ zeros sheet-length i in omega arith;
       calm = λ i l. absurd (omega arith);
     }
 
 -- One part looked at, and no part at a place.
-module _ {s ends : List ℕ} (sheet : is-sheet s ≡ true) (table : Ends s ends) {to : ℕ} {seen t trail : List ℕ} {n : ℕ} (w : Watching s ends to seen t trail n) where
-  pub watching-looked : {i : ℕ} → i < 4098 → {to′ : ℕ} → ((j : ℕ) → j < to′ → (j ≡ i → ⊥) → j < to) → {t′ trail′ : List ℕ} {n′ : ℕ} → Looked s i (getD ends i 0) t trail n t′ trail′ n′ → Watching s ends to′ (set seen i n) t′ trail′ n′
+module _ {s ends : List ℕ} (sheet : Formed s) (table : Ends s ends) {to : ℕ} {seen t trail : List ℕ} {n : ℕ} (w : Watching s ends to seen t trail n) where
+  pub watching-looked : {i : ℕ} → i < sheet-length → {to′ : ℕ} → ((j : ℕ) → j < to′ → (j ≡ i → ⊥) → j < to) → {t′ trail′ : List ℕ} {n′ : ℕ} → Looked s i (getD ends i 0) t trail n t′ trail′ n′ → Watching s ends to′ (set seen i n) t′ trail′ n′
   watching-looked {i} far near {t′} {trail′} {n′} v =
       let long = w .long in
       let own : (j : ℕ) → j ≡ i → getD (set seen i n) j 0 ≡ n = λ j e. ap (λ m. getD (set seen i n) m 0) e ∙ getD-set-same seen i n 0 (omega arith) in
@@ -59,7 +61,7 @@ module _ {s ends : List ℕ} (sheet : is-sheet s ≡ true) (table : Ends s ends)
             (same-or-not j i);
       }
 
-  pub noted-later : {i : ℕ} → i < 4098 → (j : ℕ) → getD seen j 0 ≤ getD (set seen i n) j 0
+  pub noted-later : {i : ℕ} → i < sheet-length → (j : ℕ) → getD seen j 0 ≤ getD (set seen i n) j 0
   noted-later {i} far j =
       let long = w .long in
       let own : j ≡ i → getD (set seen i n) j 0 ≡ n = λ e. ap (λ m. getD (set seen i n) m 0) e ∙ getD-set-same seen i n 0 (omega arith) in
@@ -77,7 +79,7 @@ module _ {s ends : List ℕ} (sheet : is-sheet s ≡ true) (table : Ends s ends)
         calm = λ j l d. ⊎-elim (λ g. w .calm j (omega arith) d) (λ g. absurd (d (ap (λ m. getD ends m 0) g ∙ z))) (below-next j i l);
       }
 
-pub watched-none : {s ends seen t trail : List ℕ} {n : ℕ} → Watching s ends 4098 seen t trail n → Watched s ends seen t trail n seen t trail n
+pub watched-none : {s ends seen t trail : List ℕ} {n : ℕ} → Watching s ends sheet-length seen t trail n → Watched s ends seen t trail n seen t trail n
 watched-none {t = t} {trail} {n} w =
     record { watching = w; grown = grown-none t trail n; later = λ i. omega arith }
 
@@ -90,7 +92,7 @@ watched-both v w =
     }
 
 -- A part of the range looked at again.
-module _ {s ends : List ℕ} (sheet : is-sheet s ≡ true) (table : Ends s ends) {seen t trail : List ℕ} {n : ℕ} (w : Watching s ends 4098 seen t trail n) {i : ℕ} (far : i < 4098) where
+module _ {s ends : List ℕ} (sheet : Formed s) (table : Ends s ends) {seen t trail : List ℕ} {n : ℕ} (w : Watching s ends sheet-length seen t trail n) {i : ℕ} (far : i < sheet-length) where
   pub watched-looked : {t′ trail′ : List ℕ} {n′ : ℕ} → Looked s i (getD ends i 0) t trail n t′ trail′ n′ → Watched s ends seen t trail n (set seen i n) t′ trail′ n′
   watched-looked v =
       record {
@@ -98,6 +100,10 @@ module _ {s ends : List ℕ} (sheet : is-sheet s ≡ true) (table : Ends s ends)
         grown = v .grown;
         later = noted-later sheet table w far;
       }
+
+  pub looked-unless : (t′ trail′ : List ℕ) (r : Outcome) → Unless-fallen s t′ (Looked s i (getD ends i 0) t trail n t′ trail′) r → Unless-fallen s t′ (Watched s ends seen t trail n (set seen i n) t′ trail′) r
+  looked-unless t′ trail′ (Known n′) v = watched-looked v
+  looked-unless t′ trail′ Fallen v = v
 
   pub since-looked : {h : ℕ} → h < n → (least limit : ℕ) → Since h least limit ends i (set seen i n)
   since-looked l least limit d sized = let long = w .long in rw (getD-set-same seen i n 0 (omega arith)) l
@@ -111,8 +117,8 @@ pub record Visiting (s ends seen₀ t₀ trail₀ : List ℕ) (n₀ q h least li
   pub place : (m ≡ 0) ⊎ Occurs s q m
   pub reached : (i k : ℕ) → m < k → i ≤ k → k < getD ends i 0 → Occurs s q k → Since h least limit ends i seen
 
-module _ {s ends homes last earlier : List ℕ} (table : Parted s ends homes) (links : Linked s last earlier) {q : ℕ} (small : q < 1024) {seen₀ t₀ trail₀ : List ℕ} {n₀ : ℕ} where
-  pub visiting-none : Watching s ends 4098 seen₀ t₀ trail₀ n₀ → (h least limit : ℕ) → Visiting s ends seen₀ t₀ trail₀ n₀ q h least limit seen₀ t₀ trail₀ n₀ (getD last q 0)
+module _ {s ends homes last earlier : List ℕ} (table : Parted s ends homes) (links : Linked s last earlier) {q : ℕ} (small : q < most-literals) {seen₀ t₀ trail₀ : List ℕ} {n₀ : ℕ} where
+  pub visiting-none : Watching s ends sheet-length seen₀ t₀ trail₀ n₀ → (h least limit : ℕ) → Visiting s ends seen₀ t₀ trail₀ n₀ q h least limit seen₀ t₀ trail₀ n₀ (getD last q 0)
   visiting-none w h least limit =
       let latest = links .lasts q small in
       record {

@@ -6,7 +6,7 @@ use Prim.Native.Nat.{ℕ, _+_, _≤_, _<_}
 use native.Mathlib.Omega.{arith}
 use borrow.Author.Count.{below-more}
 use lib.ListN.{length, getD, drop}
-use Rattle.model.specs.Code.{value}
+use Rattle.model.specs.Code.{children}
 use Rattle.theory.specs.Spans.{child-at, span, span-none}
 use Rattle.sizes.proofs.Laws.{span-one, child-next}
 use Rattle.spread.specs.Assigning.{spreads-from}
@@ -14,7 +14,7 @@ use Rattle.recurring.specs.Recurring.{Ends, First-again}
 
 -- The walk stands at child i, and no child before it is a literal whose option occurs again.
 pub record Passed (end i place : ℕ) (l : List ℕ) : Type 0 where
-  pub few : i ≤ value (getD l 0 0)
+  pub few : i ≤ children (getD l 0 0)
   pub here : place ≡ child-at i l
   pub none-yet : (k : ℕ) → k < i → spreads-from (child-at k l) end l ≡ false
 
@@ -24,7 +24,7 @@ passed-first end l =
     record { few = omega arith; here = omega (arith, span-none (drop 1 l)); none-yet = λ k h. absurd (omega arith) }
 
 -- What is known of the present child, and the hop to the next.
-module _ {end i place : ℕ} {l : List ℕ} (e : Ends end l) (w : Passed end i place l) (more : i < value (getD l 0 0)) where
+module _ {end i place : ℕ} {l : List ℕ} (e : Ends end l) (w : Passed end i place l) (more : i < children (getD l 0 0)) where
   pub place-within : (1 ≤ place) × (place < end) × (end ≤ length l)
   place-within = (omega (arith, w .here), omega (arith, w .here, e .children i more), e .within)
 
@@ -45,6 +45,6 @@ module _ {end i place : ℕ} {l : List ℕ} (e : Ends end l) (w : Passed end i p
         }
 
 -- Where the walk is over, no child is one.
-pub none-again : {end i place k : ℕ} {l : List ℕ} → Passed end i place l → k ≡ value (getD l 0 0) → k ≤ i → First-again end k l
+pub none-again : {end i place k : ℕ} {l : List ℕ} → Passed end i place l → k ≡ children (getD l 0 0) → k ≤ i → First-again end k l
 none-again w e h =
     record { few = omega arith; before = λ q m. w .none-yet q (omega arith); there = λ m. absurd (omega arith) }

@@ -4,7 +4,6 @@ use mathlib.Core.List.{List, [], _∷_, _++_}
 use mathlib.Core.Logic.{⊎-elim}
 use mathlib.Core.Path.{_≡_, refl, sym, ap, ap₂, subst, _∙_}
 use Prim.Native.Nat.{ℕ, zero, suc, _+_, _-_, _≤_, _<_}
-use native.Mathlib.Nat.{mod-lt}
 use native.Mathlib.Numerals.{add-one}
 use native.Mathlib.Omega.{arith}
 use borrow.Author.Tests.{eqb-true, eqb-false, eq-eqb}
@@ -12,17 +11,14 @@ use lib.Dec.{eqb}
 use lib.ListN.{length, getD, take, drop, set, replicate, length-replicate, getD-replicate, length-set, take-append-drop}
 use lib.Seq.{slice, slice-empty, slice-cons, take-take, drop-append-le, length-take-le, getD-set-same, getD-set-other}
 use Rattle.model.specs.Base.{pick, any}
+use Rattle.model.specs.Limits.{kind-factor}
 use Rattle.model.specs.Code.{value}
 use Rattle.theory.specs.Lists.{any-append}
 use Rattle.theory.specs.Logic.{either, and-join, or-right, pick-true, pick-keeps}
+use Rattle.theory.specs.Numbers.{value-small}
 use Rattle.theory.specs.Scan.{is-literal}
 use Rattle.spread.specs.Assigning.{names, spreads-from}
 use Rattle.recurring.specs.Recurring.{up, tally, Tallied}
-
--- An option is below 4,096, as all values are.
-pub value-small : (x : ℕ) → value x < 4096
-unfolding value
-value-small x = mod-lt x (omega arith)
 
 -- One more than none or one, and than two.
 up-few : (n : ℕ) → n < 2 → n + 1 ≡ up n
@@ -89,17 +85,17 @@ twice-spreads {a} {b} {l} {t} w one h k = go (is-literal x) refl
     go false e = refl
 
 -- At first nothing is counted.
-pub tallied-none : (to : ℕ) (l : List ℕ) {t : List ℕ} → t ≡ replicate 4096 0 → Tallied to to l t
+pub tallied-none : (to : ℕ) (l : List ℕ) {t : List ℕ} → t ≡ replicate kind-factor 0 → Tallied to to l t
 unfolding tally
 tallied-none to l {t} e =
     record {
-      long = ap length e ∙ length-replicate {A = ℕ} 4096 0;
-      counted = λ v h. rw (e, slice-empty to l) (getD-replicate 4096 v 0 0 h);
+      long = ap length e ∙ length-replicate {A = ℕ} kind-factor 0;
+      counted = λ v h. rw (e, slice-empty to l) (getD-replicate kind-factor v 0 0 h);
     }
 
 -- One number more, before those that are counted.
 module _ {q to x : ℕ} {l t : List ℕ} (some-left : 1 < q) (within : q ≤ to) (long : to ≤ length l) (w : Tallied q to l t) (read : x ≡ getD l (q - 1) 0) where
-  one-before : (v : ℕ) → v < 4096 → pick (names v x) (up (getD t v 0)) (getD t v 0) ≡ tally (names v) (slice (q - 1) to l)
+  one-before : (v : ℕ) → v < kind-factor → pick (names v x) (up (getD t v 0)) (getD t v 0) ≡ tally (names v) (slice (q - 1) to l)
   unfolding tally
   one-before v h =
       let next : suc (q - 1) ≡ q = omega arith in

@@ -5,14 +5,15 @@ use Prim.Native.Nat.{ℕ, _≤_, _<_}
 use native.Mathlib.Omega.{arith}
 use lib.ListN.{length, getD, drop}
 use Rattle.model.specs.Base.{is-some}
-use Rattle.model.specs.Code.{value, number-of}
+use Rattle.model.specs.Code.{children}
 use Rattle.model.specs.Forest.{size}
 use Rattle.model.specs.Rules.{rewrite}
+use Rattle.theory.specs.Numbers.{head-number}
 use Rattle.theory.specs.Flat.{fits-tree}
 use Rattle.theory.specs.Spans.{child-at, span, arity, arity-head}
 use Rattle.theory.specs.Stretches.{Stretch, forest-in}
 use Rattle.theory.specs.Heads.{Headed}
-use Rattle.theory.specs.Children.{Group, headed-group, group-head, group-value, group-long, child-room}
+use Rattle.theory.specs.Children.{Group, headed-group, group-head, group-children, group-long, child-room}
 use Rattle.sizes.proofs.Laws.{span-tree}
 use Rattle.spread.specs.Assigning.{spreads-from}
 use Rattle.spread.proofs.Laws.{child-inside, asks-around}
@@ -20,7 +21,7 @@ use Rattle.firsts.specs.Firsts.{First-child}
 use Rattle.recurring.specs.Recurring.{Ends, First-again}
 
 module _ {r : ℕ} {l : List ℕ} (s : Stretch l) (h : Headed r l) where
-  group : Group l (h .row .conn) (h .children) (h .rest) (h .zeros)
+  group : Group l (h .conn) (h .children) (h .rest) (h .zeros)
   group = headed-group s h
 
   pub first-number : 0 < length l
@@ -28,10 +29,9 @@ module _ {r : ℕ} {l : List ℕ} (s : Stretch l) (h : Headed r l) where
 
   -- A tree is its head and then its children, so it ends where they do.
   head-arity : arity (getD l 0 0) ≡ size (h .children)
-  unfolding number-of
   head-arity =
-      let c = h .row .conn in
-      ap arity (group-head group) ∙ arity-head c (size (h .children)) (fits-tree c (h .children) (h .rest) (group .fitting) .0)
+      let c = h .conn in
+      ap arity (group-head group ∙ sym (head-number c (size (h .children)))) ∙ arity-head c (size (h .children)) (fits-tree c (h .children) (h .rest) (group .fitting) .0)
 
   module _ {end : ℕ} (tree : end ≡ span 1 (drop 0 l)) where
     end-place : end ≡ child-at (size (h .children)) l
@@ -43,13 +43,13 @@ module _ {r : ℕ} {l : List ℕ} (s : Stretch l) (h : Headed r l) where
           some-head = omega (arith, end-place);
           within = omega (arith, end-place, child-room group (size (h .children)) (omega arith));
           short = s .short;
-          children = λ i m. omega (arith, end-place, child-inside group i (omega (arith, group-value group)));
+          children = λ i m. omega (arith, end-place, child-inside group i (omega (arith, group-children group)));
         }
 
     -- The rule applies with the children that are literals whose option occurs again.
     module _ (lo : 9 ≤ r) (hi : r ≤ 10) where
-      applies : (i : ℕ) → i < value (getD l 0 0) → spreads-from (child-at i l) end l ≡ is-some (rewrite r i 0 (forest-in l))
-      applies i m = rw end-place (asks-around s h i 0 lo hi refl (omega (arith, group-value group)))
+      applies : (i : ℕ) → i < children (getD l 0 0) → spreads-from (child-at i l) end l ≡ is-some (rewrite r i 0 (forest-in l))
+      applies i m = rw end-place (asks-around s h i 0 lo hi refl (omega (arith, group-children group)))
 
       pub again-applies : {i : ℕ} → First-again end i l → First-child r i l
       again-applies {i} w =

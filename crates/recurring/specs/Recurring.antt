@@ -6,7 +6,8 @@ use Prim.Native.Nat.{ℕ, zero, suc, _≤_, _<_}
 use lib.ListN.{length, getD}
 use lib.Seq.{slice}
 use Rattle.model.specs.Base.{pick}
-use Rattle.model.specs.Code.{value}
+use Rattle.model.specs.Limits.{kind-factor, sheet-room}
+use Rattle.model.specs.Code.{children}
 use Rattle.theory.specs.Spans.{child-at}
 use Rattle.spread.specs.Assigning.{names, spreads-from}
 
@@ -14,14 +15,14 @@ use Rattle.spread.specs.Assigning.{names, spreads-from}
 pub record Ends (end : ℕ) (l : List ℕ) : Type 0 where
   pub some-head : 1 ≤ end
   pub within : end ≤ length l
-  pub short : length l ≤ 4096
-  pub children : (i : ℕ) → i < value (getD l 0 0) → child-at i l < end
+  pub short : length l ≤ sheet-room
+  pub children : (i : ℕ) → i < children (getD l 0 0) → child-at i l < end
 
 -- The first child that is a literal whose option occurs again before the end; as many as there are children where there is none.
 pub record First-again (end i : ℕ) (l : List ℕ) : Type 0 where
-  pub few : i ≤ value (getD l 0 0)
+  pub few : i ≤ children (getD l 0 0)
   pub before : (k : ℕ) → k < i → spreads-from (child-at k l) end l ≡ false
-  pub there : i < value (getD l 0 0) → spreads-from (child-at i l) end l ≡ true
+  pub there : i < children (getD l 0 0) → spreads-from (child-at i l) end l ≡ true
 
 -- One more, where nothing past two is told apart.
 unfoldable pub up : ℕ → ℕ
@@ -35,8 +36,8 @@ tally p (x ∷ xs) = pick (p x) (up (tally p xs)) (tally p xs)
 
 -- A table of how many literals of each option stand from one place up to another.
 pub record Tallied (from to : ℕ) (l t : List ℕ) : Type 0 where
-  pub long : length t ≡ 4096
-  pub counted : (v : ℕ) → v < 4096 → getD t v 0 ≡ tally (names v) (slice from to l)
+  pub long : length t ≡ kind-factor
+  pub counted : (v : ℕ) → v < kind-factor → getD t v 0 ≡ tally (names v) (slice from to l)
 
 -- The same between the head and an end, where the table is not empty.
 abbrev pub Tallied-if-any : ℕ → List ℕ → List ℕ → Type 0

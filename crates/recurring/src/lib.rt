@@ -2,16 +2,18 @@
 ghost use mathlib.Core.Path.{_≡_};
 ghost use Prim.Native.Nat.{_≤_, _<_};
 ghost use lib.ListN.{length, replicate};
+ghost use Rattle.model.specs.Limits.{«kind-factor», «sheet-room»};
 ghost use Rattle.theory.specs.Stretches.{Stretch};
 ghost use Rattle.theory.specs.Heads.{Headed};
 ghost use Rattle.firsts.specs.Firsts.{«First-child»};
 ghost use Rattle.sizes.specs.Tables.{Sized};
 ghost use Rattle.spread.specs.Assigning.{«spreads-from»};
 ghost use Rattle.recurring.specs.Recurring.{Ends, «First-again», Tallied, «Tallied-if-any»};
+use limits::KIND_FACTOR;
 
 // How many literals of each option stand between the head and an end: none, one, or two for all more.
 fn count(part: &[u16], end: usize, tally: &mut [u8])
-    requires { ⌜ (1 ≤ end) × (end ≤ length (now part)) × (length (now part) ≤ 4096) × (now tally ≡ replicate 4096 0) ⌝ }
+    requires { ⌜ (1 ≤ end) × (end ≤ length (now part)) × (length (now part) ≤ «sheet-room») × (now tally ≡ replicate «kind-factor» 0) ⌝ }
     ensures { λ r. ⌜ Tallied 1 end (now (part .entry)) (now (tally .exit)) ⌝ }
 {
     let mut q = end;
@@ -29,7 +31,7 @@ fn count(part: &[u16], end: usize, tally: &mut [u8])
 
 // The number at a place is a literal whose option occurs again: by the tally where there is one, and else by a look around it.
 fn recurs(part: &[u16], at: usize, end: usize, tally: &[u8]) -> bool
-    requires { ⌜ (1 ≤ at) × (at < end) × (end ≤ length (now part)) × (length (now part) ≤ 4096) ⌝ }
+    requires { ⌜ (1 ≤ at) × (at < end) × (end ≤ length (now part)) × (length (now part) ≤ «sheet-room») ⌝ }
     requires { ⌜ «Tallied-if-any» end (now part) (now tally) ⌝ }
     ensures { λ r. ⌜ r ≡ «spreads-from» at end (now (part .entry)) ⌝ }
 {
@@ -47,7 +49,7 @@ fn first_among(part: &[u16], sizes: &[u16], end: usize, tally: &[u8]) -> usize
     requires { ⌜ «Tallied-if-any» end (now part) (now tally) ⌝ }
     ensures { λ r. ⌜ «First-again» end r (now (part .entry)) ⌝ }
 {
-    let k = nodes::value_of(numbers::wide16(part[0]));
+    let k = nodes::children_of(numbers::wide16(part[0]));
     let mut i = 0;
     let mut at = 1;
     while i < k {
@@ -74,7 +76,7 @@ pub fn first_recurring(part: &[u16], sizes: &[u16], rule: usize) -> usize
     if end < 24 {
         return first_among(part, sizes, end, &[]);
     }
-    let mut tally = [0u8; 4096];
+    let mut tally = [0u8; KIND_FACTOR];
     count(part, end, &mut tally);
     first_among(part, sizes, end, &tally)
 }

@@ -9,11 +9,11 @@ use lib.Seq.{take-at, drop-at}
 use Rattle.model.specs.Base.{pick}
 use Rattle.model.specs.Literal.{Literal}
 use Rattle.model.specs.Forest.{Conn, and, or, root, Forest, nil, lit, node, size, has-unit}
-use Rattle.model.specs.Code.{leaf, head, encode, value, number, conn-kind, number-of}
+use Rattle.model.specs.Code.{leaf, head, encode, children, number, number-of}
 use Rattle.model.specs.Rules.{without-unit, shares, units, groups-without}
 use Rattle.theory.specs.Logic.{true-false, and-split}
 use Rattle.theory.specs.Forests.{size-⊕}
-use Rattle.theory.specs.Numbers.{fits, amount, value-number}
+use Rattle.theory.specs.Numbers.{fits, head-number, head-children}
 use Rattle.theory.specs.Scan.{is-literal}
 use Rattle.theory.specs.Spans.{child-at, span-encode}
 use Rattle.theory.specs.Flat.{Fits, fits-lit}
@@ -25,7 +25,7 @@ use Rattle.factor.proofs.Trees.{walk-lit, walk-node, cut}
 use Rattle.regroup.specs.Kept.{less-unit, kept, gathered}
 
 -- A group without its first child that is the number itself: the parts of its numbers, by where they begin and end.
-pub less-unit-parts : (a : ℕ) (l : List ℕ) {m u e : ℕ} → m ≡ value (getD l 0 0) → u ≡ unit-place a m (drop 1 l) → e ≡ child-at m l → less-unit a l ≡ (getD l 0 0 - 1) ∷ (take (1 + u - 1) (drop 1 l) ++ take (e - (1 + u + 1)) (drop (1 + u + 1) l))
+pub less-unit-parts : (a : ℕ) (l : List ℕ) {m u e : ℕ} → m ≡ children (getD l 0 0) → u ≡ unit-place a m (drop 1 l) → e ≡ child-at m l → less-unit a l ≡ (getD l 0 0 - 1) ∷ (take (1 + u - 1) (drop 1 l) ++ take (e - (1 + u + 1)) (drop (1 + u + 1) l))
 unfolding less-unit
 less-unit-parts a l p q r = rw (r, q, p)
 
@@ -66,7 +66,7 @@ units-trees a (node c k f) r w =
 
 module _ (a : Literal) (fit : fits (leaf a) ≡ true) where
   less-trees : (c : Conn) (k : Forest) (s : List ℕ) → fits (head c (size k)) ≡ true → Fits k → has-unit a k ≡ true → less-unit (number-of (leaf a)) (number-of (head c (size k)) ∷ (code k ++ s)) ≡ number-of (head c (size (without-unit a k))) ∷ code (without-unit a k)
-  unfolding number-of number fits amount size
+  unfolding number size
   less-trees c k s h w e =
       let d = cut a fit k s w e in
       let p = d .before in
@@ -75,7 +75,7 @@ module _ (a : Literal) (fit : fits (leaf a) ≡ true) where
       let y = number-of (head c (size k)) in
       let l = y ∷ (code k ++ s) in
       let u = length (code p) in
-      let parts = less-unit-parts x l {m = size k} {u = u} {e = suc (length (code k))} (sym (value-number (conn-kind c) (size k) h)) (sym (d .place)) (omega (arith, span-encode k s w, length-map (encode k) number-of)) in
+      let parts = less-unit-parts x l {m = size k} {u = u} {e = suc (length (code k))} (sym (head-children c (size k) h)) (sym (d .place)) (omega (arith, span-encode k s w, length-map (encode k) number-of)) in
       let all : code k ≡ code p ++ (x ∷ code q) = ap code (d .whole) ∙ code-⊕ p (lit a q) ∙ ap (λ t. code p ++ t) (code-lit a q) in
       let long : length (code k) ≡ u + (1 + length (code q)) = omega (arith, ap length all, length-append (code p) (x ∷ code q)) in
       let spread : code k ++ s ≡ code p ++ (x ∷ (code q ++ s)) = ap (λ t. t ++ s) all ∙ append-assoc (code p) (x ∷ code q) s in
@@ -84,7 +84,7 @@ module _ (a : Literal) (fit : fits (leaf a) ≡ true) where
       let left : take (1 + u - 1) (code k ++ s) ≡ code p = ap (take (1 + u - 1)) spread ∙ take-at (code p) (x ∷ (code q ++ s)) (1 + u - 1) (omega arith) in
       let rest : drop (1 + u + 1) l ≡ code q ++ s = ap (drop (1 + u + 1)) cut-after ∙ drop-at upto (code q ++ s) (1 + u + 1) (omega (arith, length-append (code p) (x ∷ []))) in
       let right : take (suc (length (code k)) - (1 + u + 1)) (drop (1 + u + 1) l) ≡ code q = ap (take (suc (length (code k)) - (1 + u + 1))) rest ∙ take-at (code q) s (suc (length (code k)) - (1 + u + 1)) (omega arith) in
-      let fewer : y - 1 ≡ number-of (head c (size (without-unit a k))) = omega (arith, ap size (d .whole), size-⊕ p (lit a q), ap size (d .less), size-⊕ p q) in
+      let fewer : y - 1 ≡ number-of (head c (size (without-unit a k))) = omega (arith, head-number c (size k), head-number c (size (without-unit a k)), ap size (d .whole), size-⊕ p (lit a q), ap size (d .less), size-⊕ p q) in
       parts ∙ ap₂ (λ z t. z ∷ t) fewer (ap₂ _++_ left right ∙ sym (ap code (d .less) ∙ code-⊕ p q))
 
   pub groups-kept : (f : Forest) (r : List ℕ) → Fits f → shares a f ≡ true → gathered true (number-of (leaf a)) (size f) (code f ++ r) ≡ code (groups-without a f)

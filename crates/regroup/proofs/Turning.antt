@@ -11,22 +11,23 @@ use lib.Seq.{take-at, drop-at}
 use Rattle.model.specs.Base.{pick, is-some, then, only-if}
 use Rattle.model.specs.Literal.{Literal}
 use Rattle.model.specs.Forest.{Conn, and, or, Forest, nil, lit, node, _⊕_, size}
-use Rattle.model.specs.Code.{leaf, head, encode, weight, value, number, conn-kind, number-of}
+use Rattle.model.specs.Code.{leaf, head, encode, weight, children, number, conn-kind, conn-value, number-of}
 use Rattle.model.specs.Rules.{factor, change, row-of, table, rewrite, shares, units, groups-without, groups}
 use Rattle.theory.specs.Logic.{some-inj, pick-true}
-use Rattle.theory.specs.Forests.{size-⊕, groups-size}
-use Rattle.theory.specs.Numbers.{fits}
+use Rattle.theory.specs.Forests.{conn-of-kind, size-⊕, groups-size}
+use Rattle.theory.specs.Numbers.{fits, head-number}
 use Rattle.theory.specs.Spans.{span, span-encode, child-at}
 use Rattle.theory.specs.Flat.{spell, Fits}
 use Rattle.theory.specs.Stretches.{Stretch, forest-in, live, live-numbers}
 use Rattle.theory.specs.Heads.{Headed, rewritten-to}
-use Rattle.theory.specs.Children.{code, Group, group-head, group-value, group-few, headed-group}
+use Rattle.theory.specs.Children.{code, Group, group-head, group-children, group-few, headed-group}
 use Rattle.theory.specs.Turns.{family-at, family-turn}
 use Rattle.factor.specs.Walks.{unit-of, sharing, all-share}
 use Rattle.factor.proofs.Codes.{code-⊕, code-lit, code-node}
 use Rattle.factor.proofs.Trees.{share-trees}
 use Rattle.factor.proofs.Asking.{group-numbers, group-fits, unit-fits, unit-first, Applied, applied, sharing-trees, kids-numbers, rule-asks, conjunction-group}
 use Rattle.regroup.specs.Kept.{factored, tree-after, step-after}
+use Rattle.model.specs.Limits.{kind-factor}
 use Rattle.regroup.proofs.Kept.{units-trees, groups-kept}
 use Rattle.regroup.proofs.Sizes.{shared-kids, size-units, size-groups, shared-light}
 
@@ -37,7 +38,7 @@ code-one c k = code-node c k nil ∙ ap (λ t. number-of (head c (size k)) ∷ t
 
 -- What a disjunction whose groups share a literal becomes, part by part.
 conjunction-code : (a : Literal) (k : Forest) → code (node and (lit a (node or (groups-without a k) nil)) nil) ≡ 12290 ∷ number-of (leaf a) ∷ (16384 + groups k) ∷ code (groups-without a k)
-unfolding number-of number conn-kind size
+unfolding number-of number conn-kind conn-value size
 conjunction-code a k =
     let g = node or (groups-without a k) nil in
     code-one and (lit a g)
@@ -50,8 +51,8 @@ shared-code a k =
     code-⊕ (units k) (node and (lit a (node or (groups-without a k) nil)) nil) ∙ ap (λ t. code (units k) ++ t) (conjunction-code a k)
 
 shared-head : (a : Literal) (k : Forest) → number-of (head or (size k)) + 1 - groups k ≡ number-of (head or (size (shared-kids a k)))
-unfolding number-of number size
-shared-head a k = omega (arith, size-⊕ (units k) (node and (lit a (node or (groups-without a k) nil)) nil), size-units k)
+unfolding number size
+shared-head a k = omega (arith, head-number or (size k), head-number or (size (shared-kids a k)), size-⊕ (units k) (node and (lit a (node or (groups-without a k) nil)) nil), size-units k)
 
 factored-trees : (a : Literal) → fits (leaf a) ≡ true → (k : Forest) (r : List ℕ) → Fits k → shares a k ≡ true → factored (number-of (leaf a)) (size k) (groups k) (number-of (head or (size k)) ∷ (code k ++ r)) ≡ code (node or (shared-kids a k) nil)
 unfolding factored
@@ -59,24 +60,24 @@ factored-trees a h k r w s =
     rw (code-one or (shared-kids a k), shared-code a k, units-trees (number-of (leaf a)) k r w, groups-kept a h k r w s, shared-head a k)
 
 module _ {l : List ℕ} (s : Stretch l) (h : Headed 14 l) where
-  rule-conn : h .row .conn ≡ or
-  unfolding row-of table
-  rule-conn = ap (λ w. w .conn) (sym (some-inj (h .its-row)))
+  rule-conn : h .conn ≡ or
+  unfolding row-of table conn-kind
+  rule-conn = conn-of-kind (h .conn) or (sym (h .its-kind) ∙ ap (λ w. w .kind) (sym (some-inj (h .its-row))))
 
   rule-group : Group l or (h .children) (h .rest) (h .zeros)
   rule-group = rw rule-conn at (headed-group s h)
 
   pub rule-found : (i j : ℕ) → is-some (rewrite 14 i j (forest-in l)) ≡ true → Applied i j (h .children)
-  rule-found i j t = applied (h .row .conn) i j (h .children) (sym (rule-asks s h i j) ∙ t)
+  rule-found i j t = applied (h .conn) i j (h .children) (sym (rule-asks s h i j) ∙ t)
 
   rule-forest : forest-in l ≡ node or (h .children) (h .rest)
   rule-forest = h .forest ∙ ap (λ c. node c (h .children) (h .rest)) rule-conn
 
   -- Where the tree ends, how many numbers are live, and what stands between.
-  tree-end : child-at (value (getD l 0 0)) l ≡ 1 + length (code (h .children))
+  tree-end : child-at (children (getD l 0 0)) l ≡ 1 + length (code (h .children))
   tree-end =
       let k = h .children in
-      ap (λ n. child-at n l) (group-value rule-group)
+      ap (λ n. child-at n l) (group-children rule-group)
       ∙ ap (λ t. 1 + span (size k) t) (kids-numbers s h)
       ∙ ap (λ n. 1 + n) (span-encode k (spell (h .rest) (h .zeros)) (group-fits rule-group) ∙ sym (length-map (encode k) number-of))
 
@@ -95,14 +96,14 @@ module _ {l : List ℕ} (s : Stretch l) (h : Headed 14 l) where
       let f = node or (h .children) (h .rest) in
       omega (arith, ap (λ t. length (live t)) (rule-group .spelled), ap length (live-numbers (encode f) (h .zeros)), ap length (rule-group .spelled), length-append (code f) (replicate (h .zeros) 0))
 
-  pub ends-live : child-at (value (getD l 0 0)) l ≤ length (live l)
+  pub ends-live : child-at (children (getD l 0 0)) l ≤ length (live l)
   ends-live = omega (arith, tree-end, live-long)
 
-  rest-there : take (length (live l) - child-at (value (getD l 0 0)) l) (drop (child-at (value (getD l 0 0)) l) l) ≡ code (h .rest)
+  rest-there : take (length (live l) - child-at (children (getD l 0 0)) l) (drop (child-at (children (getD l 0 0)) l) l) ≡ code (h .rest)
   unfolding spell
   rest-there =
       let k = h .children in
-      let e = child-at (value (getD l 0 0)) l in
+      let e = child-at (children (getD l 0 0)) l in
       let rest : drop e l ≡ code (h .rest) ++ replicate (h .zeros) 0 =
       ap (drop e) (group-numbers rule-group) ∙ drop-at (number-of (head or (size k)) ∷ code k) (spell (h .rest) (h .zeros)) e (omega (arith, tree-end)) in
       ap (take (length (live l) - e)) rest ∙ take-at (code (h .rest)) (replicate (h .zeros) 0) (length (live l) - e) (omega (arith, tree-end, live-long))
@@ -128,13 +129,13 @@ module _ {l : List ℕ} (s : Stretch l) (h : Headed 14 l) where
         ∙ p .shared
 
     -- The same, read from the numbers.
-    pub all-shared : all-share (unit-of j (drop (child-at i l) l)) (value (getD l 0 0)) (drop 1 l) ≡ true
-    all-shared = ap₂ (λ x m. all-share x m (drop 1 l)) unit-number (group-value rule-group) ∙ kids-share
+    pub all-shared : all-share (unit-of j (drop (child-at i l) l)) (children (getD l 0 0)) (drop 1 l) ≡ true
+    all-shared = ap₂ (λ x m. all-share x m (drop 1 l)) unit-number (group-children rule-group) ∙ kids-share
 
-    groups-is : sharing (unit-of j (drop (child-at i l) l)) (value (getD l 0 0)) (drop 1 l) ≡ groups (h .children)
-    groups-is = ap₂ (λ x m. sharing x m (drop 1 l)) unit-number (group-value rule-group) ∙ groups-number
+    groups-is : sharing (unit-of j (drop (child-at i l) l)) (children (getD l 0 0)) (drop 1 l) ≡ groups (h .children)
+    groups-is = ap₂ (λ x m. sharing x m (drop 1 l)) unit-number (group-children rule-group) ∙ groups-number
 
-    pub groups-few : let g = sharing (unit-of j (drop (child-at i l) l)) (value (getD l 0 0)) (drop 1 l) in (g ≤ 4095) × (g ≤ getD l 0 0) × (getD l 0 0 < 20480)
+    pub groups-few : let g = sharing (unit-of j (drop (child-at i l) l)) (children (getD l 0 0)) (drop 1 l) in (g < kind-factor) × (g ≤ getD l 0 0) × (getD l 0 0 < 20480)
     unfolding number conn-kind
     groups-few =
         let few = group-few rule-group in
@@ -147,7 +148,7 @@ module _ {l : List ℕ} (s : Stretch l) (h : Headed 14 l) where
     tree-is =
         let k = h .children in
         let a = number-of (leaf (p .literal)) in
-        ap₂ (λ x m. factored x m (sharing x m (drop 1 l)) l) unit-number (group-value rule-group)
+        ap₂ (λ x m. factored x m (sharing x m (drop 1 l)) l) unit-number (group-children rule-group)
         ∙ ap₂ (factored a (size k)) groups-number (group-numbers rule-group)
         ∙ factored-trees (p .literal) unit-fitting k (spell (h .rest) (h .zeros)) (group-fits rule-group) (p .shared)
 
@@ -165,9 +166,9 @@ module _ {l : List ℕ} (s : Stretch l) (h : Headed 14 l) where
 
     pub tree-room : length (tree-after i j l) ≤ length (step-after i j l)
     unfolding step-after
-    tree-room = omega (arith, length-append (tree-after i j l) (take (length (live l) - child-at (value (getD l 0 0)) l) (drop (child-at (value (getD l 0 0)) l) l)))
+    tree-room = omega (arith, length-append (tree-after i j l) (take (length (live l) - child-at (children (getD l 0 0)) l) (drop (child-at (children (getD l 0 0)) l) l)))
 
-    made : factor (h .row .conn) i j (h .children) ≡ some (node (h .row .conn) (shared-kids (p .literal) (h .children)) nil)
+    made : factor (h .conn) i j (h .children) ≡ some (node (h .conn) (shared-kids (p .literal) (h .children)) nil)
     unfolding factor then only-if
     made = rw (p .conjunction, p .there, p .before, p .new, p .shared, le-leb 2 (groups (h .children)) (p .two))
 

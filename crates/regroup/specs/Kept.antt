@@ -5,7 +5,7 @@ use mathlib.Core.Path.{_≡_}
 use Prim.Native.Nat.{ℕ, _+_, _-_}
 use lib.ListN.{length, getD, take, drop}
 use Rattle.model.specs.Base.{pick}
-use Rattle.model.specs.Code.{value}
+use Rattle.model.specs.Code.{children}
 use Rattle.theory.specs.Scan.{is-literal}
 use Rattle.theory.specs.Spans.{child-at}
 use Rattle.theory.specs.Stretches.{live}
@@ -14,7 +14,7 @@ use Rattle.factor.specs.Walks.{walk, unit-place, unit-of, sharing}
 -- A group without the first of its children that is the number itself.
 unfoldable pub less-unit : ℕ → List ℕ → List ℕ
 less-unit a l =
-    let m = value (getD l 0 0) in
+    let m = children (getD l 0 0) in
     let p = 1 + unit-place a m (drop 1 l) in
     (getD l 0 0 - 1) ∷ (take (p - 1) (drop 1 l) ++ take (child-at m l - (p + 1)) (drop (p + 1) l))
 
@@ -34,13 +34,13 @@ factored a n g l =
 -- The tree that a stretch begins with, after the rule at i and j; and with it the trees after that.
 unfoldable pub tree-after : ℕ → ℕ → List ℕ → List ℕ
 tree-after i j l =
-    let n = value (getD l 0 0) in
+    let n = children (getD l 0 0) in
     let a = unit-of j (drop (child-at i l) l) in
     factored a n (sharing a n (drop 1 l)) l
 
 unfoldable pub step-after : ℕ → ℕ → List ℕ → List ℕ
 step-after i j l =
-    let end = child-at (value (getD l 0 0)) l in
+    let end = child-at (children (getD l 0 0)) l in
     tree-after i j l ++ take (length (live l) - end) (drop end l)
 
 -- Numbers that were written into a list from a place on, up to a place.

@@ -4,12 +4,14 @@ ghost use mathlib.Core.Bool.{true};
 ghost use Prim.Native.Nat.{_+_, _≤_, _<_};
 ghost use lib.ListN.{length, getD, drop};
 ghost use Rattle.model.specs.Base.{«is-some»};
-ghost use Rattle.model.specs.Code.{kind, value};
+ghost use Rattle.model.specs.Limits.{«kind-factor», «sheet-room»};
+ghost use Rattle.model.specs.Code.{kind, children};
 ghost use Rattle.model.specs.Rules.{rewrite};
 ghost use Rattle.theory.specs.Stretches.{Stretch, «forest-in»};
 ghost use Rattle.theory.specs.Heads.{Headed, «rewritten-to»};
 ghost use Rattle.factor.specs.Walks.{among, «all-share», «shares-here»};
 ghost use Rattle.regroup.specs.Kept.{Appended, factored, gathered, kept, «less-unit», «step-after», «tree-after»};
+use limits::SHEET_ROOM;
 
 // Numbers are written into a list from a place on; the place after them.
 fn copy(out: &mut [u16], at: usize, from: &[u16]) -> usize
@@ -26,13 +28,13 @@ fn copy(out: &mut [u16], at: usize, from: &[u16]) -> usize
 
 // The conjunction without its first child that is the literal.
 fn copy_group(out: &mut [u16], at: usize, part: &[u16], literal: u16) -> usize
-    requires { ⌜ (1 ≤ length (now part)) × (length (now part) ≤ 4096) ⌝ }
+    requires { ⌜ (1 ≤ length (now part)) × (length (now part) ≤ «sheet-room») ⌝ }
     requires { ⌜ kind (getD (now part) 0 0) ≡ 3 ⌝ }
-    requires { ⌜ among literal (value (getD (now part) 0 0)) (drop 1 (now part)) ≡ true ⌝ }
+    requires { ⌜ among literal (children (getD (now part) 0 0)) (drop 1 (now part)) ≡ true ⌝ }
     requires { ⌜ at + length («less-unit» literal (now part)) ≤ length (now out) ⌝ }
     ensures { λ r. ⌜ Appended («less-unit» literal (now (part .entry))) at (now (out .entry)) (now (out .exit)) r ⌝ }
 {
-    let m = nodes::value_of(numbers::wide16(part[0]));
+    let m = nodes::children_of(numbers::wide16(part[0]));
     let p = 1 + factor::unit_place(&part[1..], m, literal);
     let end = spans::child_at(part, m);
     out[at] = part[0] - 1;
@@ -42,7 +44,7 @@ fn copy_group(out: &mut [u16], at: usize, part: &[u16], literal: u16) -> usize
 
 // What is kept of the first tree: of groups the group without the literal, and else the literal that it is.
 fn copy_tree(out: &mut [u16], at: usize, part: &[u16], literal: u16, groups: bool) -> usize
-    requires { ⌜ (1 ≤ length (now part)) × (length (now part) ≤ 4096) ⌝ }
+    requires { ⌜ (1 ≤ length (now part)) × (length (now part) ≤ «sheet-room») ⌝ }
     requires { ⌜ «shares-here» literal (now part) ≡ true ⌝ }
     requires { ⌜ at + length (kept groups literal (now part)) ≤ length (now out) ⌝ }
     ensures { λ r. ⌜ Appended (kept groups literal (now (part .entry))) at (now (out .entry)) (now (out .exit)) r ⌝ }
@@ -70,7 +72,7 @@ fn copy_trees(
     literal: u16,
     groups: bool,
 ) -> usize
-    requires { ⌜ length (now part) ≤ 4096 ⌝ }
+    requires { ⌜ length (now part) ≤ «sheet-room» ⌝ }
     requires { ⌜ «all-share» literal trees (now part) ≡ true ⌝ }
     requires { ⌜ at + length (gathered groups literal trees (now part)) ≤ length (now out) ⌝ }
     ensures { λ r. ⌜ Appended (gathered groups literal trees (now (part .entry))) at (now (out .entry)) (now (out .exit)) r ⌝ }
@@ -87,10 +89,10 @@ fn copy_trees(
 }
 
 // The new tree: the literals, then a conjunction of the literal and the disjunction of what is left of the groups. (12290 is the
-// number of a conjunction of two, 16384 that of a disjunction of none.)
+// number of a conjunction of two, 16384 that of a disjunction of none, and below 20480 no node is the root.)
 fn build(out: &mut [u16], part: &[u16], trees: usize, literal: u16, groups: u16) -> usize
-    requires { ⌜ (1 ≤ length (now part)) × (length (now part) ≤ 4096) ⌝ }
-    requires { ⌜ (groups ≤ 4095) × (groups ≤ getD (now part) 0 0) × (getD (now part) 0 0 < 20480) ⌝ }
+    requires { ⌜ (1 ≤ length (now part)) × (length (now part) ≤ «sheet-room») ⌝ }
+    requires { ⌜ (groups < «kind-factor») × (groups ≤ getD (now part) 0 0) × (getD (now part) 0 0 < 20480) ⌝ }
     requires { ⌜ «all-share» literal trees (drop 1 (now part)) ≡ true ⌝ }
     requires { ⌜ length (factored literal trees groups (now part)) ≤ length (now out) ⌝ }
     ensures { λ r. ⌜ Appended (factored literal trees groups (now (part .entry))) 0 (now (out .entry)) (now (out .exit)) r ⌝ }
@@ -111,7 +113,7 @@ fn write_tree(out: &mut [u16], part: &[u16], i: usize, j: usize) -> usize
     requires { ⌜ length (now part) ≤ length (now out) ⌝ }
     ensures { λ r. ⌜ Appended («tree-after» i j (now (part .entry))) 0 (now (out .entry)) (now (out .exit)) r ⌝ }
 {
-    let k = nodes::value_of(numbers::wide16(part[0]));
+    let k = nodes::children_of(numbers::wide16(part[0]));
     let at = spans::child_at(part, i);
     let literal = factor::unit_of(&part[at..], j);
     let groups = factor::sharing_groups(&part[1..], k, literal);
@@ -127,7 +129,7 @@ fn write_step(out: &mut [u16], part: &[u16], i: usize, j: usize) -> usize
     ensures { λ r. ⌜ Appended («step-after» i j (now (part .entry))) 0 (now (out .entry)) (now (out .exit)) r ⌝ }
 {
     let to = write_tree(out, part, i, j);
-    let k = nodes::value_of(numbers::wide16(part[0]));
+    let k = nodes::children_of(numbers::wide16(part[0]));
     let end = spans::child_at(part, k);
     let used = shifts::live_count(part);
     copy(out, to, &part[end..used])
@@ -140,7 +142,7 @@ pub fn turn(part: &mut [u16], i: usize, j: usize)
     requires { ⌜ «is-some» (rewrite 14 i j («forest-in» (now part))) ≡ true ⌝ }
     ensures { λ r. ⌜ now (part .exit) ≡ «rewritten-to» 14 i j (now (part .entry)) ⌝ }
 {
-    let mut out = [0u16; 4096];
+    let mut out = [0u16; SHEET_ROOM];
     let total = write_step(&mut out, part, i, j);
     copy(part, 0, &out[..total]);
     shifts::clear_from(part, total);

@@ -9,6 +9,7 @@ use borrow.Author.Tests.{eqb-true, eqb-false}
 use lib.Dec.{eqb}
 use lib.ListN.{length, getD, take, drop, set, replicate, length-drop, length-set, take-append-drop, List·getD-append}
 use lib.Seq.{getD-set-same, getD-set-other, getD-take, getD-drop, getD-append-add, length-take-le}
+use Rattle.model.specs.Limits.{sheet-room}
 use Rattle.theory.specs.Logic.{either}
 use Rattle.renewal.specs.Renewed.{Renewed}
 
@@ -68,7 +69,7 @@ keeps-one t a q l e =
     (either (eqb q a))
 
 -- The whole renewal.
-pub renewed : (t o : List ℕ) (from old new place inner outer : ℕ) → length t ≡ 4096 → length o ≡ 4096 → from ≤ new → new ≤ old → old ≤ 4096 → place < 4096 → inner ≤ place → outer ≤ inner → Ones from new (gone t new (old - new)) o → Renewed from old new place inner outer t (set (set (set o place 1) inner 1) outer 1)
+pub renewed : (t o : List ℕ) (from old new place inner outer : ℕ) → length t ≡ sheet-room → length o ≡ sheet-room → from ≤ new → new ≤ old → old ≤ sheet-room → place < sheet-room → inner ≤ place → outer ≤ inner → Ones from new (gone t new (old - new)) o → Renewed from old new place inner outer t (set (set (set o place 1) inner 1) outer 1)
 renewed t o from old new place inner outer lt lo a b c lp li lu ones =
     record {
       at-place = keeps-one o2 outer place l2 (keeps-one o1 inner place l1 (getD-set-same o place 1 0 l0));

@@ -3,6 +3,7 @@ use mathlib.Core.List.{List, _++_}
 use mathlib.Core.Path.{_≡_}
 use Prim.Native.Nat.{ℕ, _+_, _-_, _≤_, _<_}
 use lib.ListN.{getD, take, drop, replicate}
+use Rattle.model.specs.Limits.{sheet-room}
 
 -- The entries from `old` on stand from `new` on, those between are gone, and zeros follow.
 abbrev pub close-up : ℕ → ℕ → List ℕ → List ℕ
@@ -15,4 +16,4 @@ pub record Renewed (from old new place inner outer : ℕ) (t u : List ℕ) : Typ
   pub at-outer : getD u outer 0 ≡ 1
   pub zone : (q : ℕ) → from ≤ q → q < new → getD u q 0 ≡ 1
   pub before : (q : ℕ) → q < from → (q ≡ place → ⊥) → (q ≡ inner → ⊥) → (q ≡ outer → ⊥) → getD u q 0 ≡ getD t q 0
-  pub after : (q : ℕ) → new ≤ q → q + (old - new) < 4096 → (q ≡ place → ⊥) → (q ≡ inner → ⊥) → (q ≡ outer → ⊥) → getD u q 0 ≡ getD t (q + (old - new)) 0
+  pub after : (q : ℕ) → new ≤ q → q + (old - new) < sheet-room → (q ≡ place → ⊥) → (q ≡ inner → ⊥) → (q ≡ outer → ⊥) → getD u q 0 ≡ getD t (q + (old - new)) 0

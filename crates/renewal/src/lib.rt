@@ -2,11 +2,12 @@
 ghost use mathlib.Core.Path.{_≡_};
 ghost use Prim.Native.Nat.{ℕ, _+_, _-_, _≤_, _<_};
 ghost use lib.ListN.{length, getD};
+ghost use Rattle.model.specs.Limits.{«sheet-room»};
 ghost use Rattle.renewal.specs.Renewed.{«close-up», Renewed};
 
 // The entries from one place up to another become 1.
 fn put_ones(low: &mut [u16], from: usize, to: usize)
-    requires { ⌜ (from ≤ to) × (to ≤ length (now low)) × (to ≤ 4096) ⌝ }
+    requires { ⌜ (from ≤ to) × (to ≤ length (now low)) × (to ≤ «sheet-room») ⌝ }
     ensures { λ r. ⌜ ((q : ℕ) → from ≤ q → q < to → getD (now (low .exit)) q 0 ≡ 1) ⌝ }
     ensures { λ r. ⌜ ((q : ℕ) → q < from → getD (now (low .exit)) q 0 ≡ getD (now (low .entry)) q 0) × ((q : ℕ) → to ≤ q → getD (now (low .exit)) q 0 ≡ getD (now (low .entry)) q 0) ⌝ }
 {
@@ -37,8 +38,8 @@ pub fn renew(
     inner: usize,
     outer: usize,
 )
-    requires { ⌜ (length (now low) ≡ 4096) × (from ≤ new) × (new ≤ old) × (old ≤ 4096) ⌝ }
-    requires { ⌜ (place < 4096) × (inner ≤ place) × (outer ≤ inner) ⌝ }
+    requires { ⌜ (length (now low) ≡ «sheet-room») × (from ≤ new) × (new ≤ old) × (old ≤ «sheet-room») ⌝ }
+    requires { ⌜ (place < «sheet-room») × (inner ≤ place) × (outer ≤ inner) ⌝ }
     ensures { λ r. ⌜ Renewed from old new place inner outer (now (low .entry)) (now (low .exit)) ⌝ }
 {
     close_up(low, new, old);

@@ -1,6 +1,6 @@
 -- What each case of a report's answer, and of the answer to the "complete" question, is in the definitions.
 use mathlib.Core.Bool.{Bool, true, false}
-use Rattle.model.specs.Calls.{Answer, refused, accepted}
+use Rattle.calls.specs.Outcomes.{Answer, refused, accepted}
 use Rattle.answers.specs.Meaning.{refusalOf}
 use Rattle.reports.specs.declared.Reported as R
 use Rattle.reports.specs.declared.Reported.the-variants as V₁

@@ -1,13 +1,6 @@
 // The report, and the "complete" question.
 ghost use mathlib.Core.Path.{_≡_};
-ghost use mathlib.Core.Bool.{true};
-ghost use Prim.Native.Nat.{_+_, _*_, _≤_, _<_};
-ghost use lib.ListN.{length, replicate};
-ghost use Rattle.model.specs.Base.{all};
-ghost use Rattle.model.specs.Propagation.{«count-from», complete};
-ghost use Rattle.model.specs.Sheet.{«is-sheet», «options-in»};
-ghost use Rattle.model.specs.Calls.{«report-in», reportOf, completeOf};
-ghost use Rattle.theory.specs.Tables.{«Has-report», «mark-in», «marks-in», «is-marked»};
+ghost use Rattle.calls.specs.Calls.{reportOf, completeOf};
 ghost use Rattle.answers.specs.Meaning.{afterCall};
 ghost use Rattle.reports.specs.Meaning.{reportedOf, completedOf};
 use answers::Refusal;
@@ -26,108 +19,6 @@ pub enum Completed {
     Refused(Refusal),
 }
 
-// All that is forced becomes known: each part is looked at, and again where the trail of what became known touches it. Whether the
-// sheet is contradictory.
-fn propagate(sheet: &[u16], failed: &mut [u8]) -> bool
-    requires { ⌜ («is-sheet» (now sheet) ≡ true) × (now failed ≡ replicate 1024 0) ⌝ }
-    ensures { λ r. ⌜ «Has-report» (now (sheet .entry)) (now (failed .exit)) × (r ≡ «report-in» (now (sheet .entry)) .contradictory) ⌝ }
-{
-    let mut ends = [0u16; 4098];
-    let mut homes = [0u16; 4098];
-    let mut last = [0u16; 1024];
-    let mut earlier = [0u16; 4098];
-    let mut seen = [0u16; 4098];
-    let mut trail = [0u16; 1024];
-    let mut places = [0u16; 4096];
-    let mut firsts = [0u16; 4096];
-    parts::find(sheet, &mut ends, &mut homes);
-    parts::link(sheet, &mut last, &mut earlier);
-    let known = propagation::look_at(
-        sheet,
-        &ends,
-        4098,
-        &mut seen,
-        failed,
-        &mut trail,
-        &mut places,
-        &mut firsts,
-    );
-    propagation::follow(
-        sheet,
-        &ends,
-        &homes,
-        &last,
-        &earlier,
-        &mut seen,
-        failed,
-        &mut trail,
-        known,
-        &mut places,
-        &mut firsts,
-    )
-}
-
-// The mark of an option.
-fn mark_of(failed: &[u8], v: usize) -> u8
-    requires { ⌜ 2 * v + 1 < length (now failed) ⌝ }
-    ensures { λ r. ⌜ r ≡ «mark-in» (now (failed .entry)) v ⌝ }
-{
-    if failed[2 * v + 1] == 1 {
-        return 1;
-    }
-    if failed[2 * v] == 1 {
-        return 2;
-    }
-    0
-}
-
-// The mark of each option, or all 3.
-fn put_marks(failed: &[u8], contradictory: bool, out: &mut [u8])
-    requires { ⌜ 2 * length (now out) ≤ length (now failed) ⌝ }
-    ensures { λ r. ⌜ now (out .exit) ≡ «marks-in» contradictory (now (failed .entry)) (length (now (out .entry))) ⌝ }
-{
-    let mut v = 0;
-    while v < out.len() {
-        out[v] = if contradictory { 3 } else { mark_of(failed, v) };
-        v += 1;
-    }
-}
-
-// Each of the first n options is in or out.
-fn all_marked(failed: &[u8], n: usize) -> bool
-    requires { ⌜ 2 * n ≤ length (now failed) ⌝ }
-    ensures { λ r. ⌜ r ≡ all («is-marked» (now (failed .entry))) («count-from» 0 n) ⌝ }
-{
-    let mut v = 0;
-    while v < n {
-        if mark_of(failed, v) == 0 {
-            return false;
-        }
-        v += 1;
-    }
-    true
-}
-
-// What a report of a sheet says, whether it is contradictory, and what it writes.
-fn put_report(sheet: &[u16], out: &mut [u8]) -> bool
-    requires { ⌜ («is-sheet» (now sheet) ≡ true) × (length (now out) ≡ «options-in» (now sheet)) ⌝ }
-    ensures { λ r. ⌜ (r ≡ «report-in» (now (sheet .entry)) .contradictory) × (now (out .exit) ≡ «report-in» (now (sheet .entry)) .marks) ⌝ }
-{
-    let mut failed = [0u8; 1024];
-    let contradictory = propagate(sheet, &mut failed);
-    put_marks(&failed, contradictory, out);
-    contradictory
-}
-
-// Whether a sheet is not contradictory and each of its options is in or out.
-fn is_complete(sheet: &[u16]) -> bool
-    requires { ⌜ «is-sheet» (now sheet) ≡ true ⌝ }
-    ensures { λ r. ⌜ r ≡ complete («report-in» (now (sheet .entry))) ⌝ }
-{
-    let mut failed = [0u8; 1024];
-    !propagate(sheet, &mut failed) && all_marked(&failed, numbers::wide16(sheet[0]))
-}
-
 // The report: a byte for each option.
 pub fn report(sheet: &[u16], out: &mut [u8]) -> Reported
     ensures { λ r. ⌜ afterCall (reportedOf r) (now (out .exit)) ≡ reportOf (now (sheet .entry)) (now (out .entry)) ⌝ }
@@ -138,7 +29,7 @@ pub fn report(sheet: &[u16], out: &mut [u8]) -> Reported
     if out.len() != numbers::wide16(sheet[0]) {
         return Reported::Refused(Refusal::Output);
     }
-    if put_report(sheet, out) {
+    if reporting::put_report(sheet, out) {
         Reported::Contradictory
     } else {
         Reported::Consistent
@@ -152,7 +43,7 @@ pub fn complete(sheet: &[u16]) -> Completed
     if !sheets::is_sheet(sheet) {
         return Completed::Refused(Refusal::Sheet);
     }
-    if is_complete(sheet) {
+    if reporting::is_complete(sheet) {
         Completed::Complete
     } else {
         Completed::Incomplete

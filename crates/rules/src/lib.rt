@@ -2,15 +2,19 @@
 ghost use mathlib.Core.Path.{_≡_};
 ghost use mathlib.Core.Option.{some};
 ghost use Prim.Native.Nat.{_≤_};
+ghost use Rattle.model.specs.Limits.{«last-rule»};
+ghost use Rattle.model.specs.Rules.{«is-rule»};
 ghost use Rattle.rules.specs.Columns.{kindFor, fewestFor};
+use limits::KIND_FACTOR;
+use limits::LAST_RULE;
 
-const KINDS: [usize; 14] = [3, 4, 5, 3, 4, 5, 3, 4, 4, 5, 3, 5, 3, 4];
+const KINDS: [usize; LAST_RULE] = [3, 4, 5, 3, 4, 5, 3, 4, 4, 5, 3, 5, 3, 4];
 
-const FEWEST: [usize; 14] = [2, 2, 2, 1, 1, 1, 1, 1, 2, 2, 1, 1, 1, 2];
+const FEWEST: [usize; LAST_RULE] = [2, 2, 2, 1, 1, 1, 1, 1, 2, 2, 1, 1, 1, 2];
 
 // The kind of node that a rule is for.
 pub fn kind_for(rule: usize) -> usize
-    requires { ⌜ (1 ≤ rule) × (rule ≤ 14) ⌝ }
+    requires { ⌜ (1 ≤ rule) × (rule ≤ «last-rule») ⌝ }
     ensures { λ r. ⌜ r ≡ kindFor rule ⌝ }
 {
     let row = rule - 1;
@@ -19,9 +23,22 @@ pub fn kind_for(rule: usize) -> usize
 
 // The fewest children that it wants.
 pub fn fewest_for(rule: usize) -> usize
-    requires { ⌜ (1 ≤ rule) × (rule ≤ 14) ⌝ }
+    requires { ⌜ (1 ≤ rule) × (rule ≤ «last-rule») ⌝ }
     ensures { λ r. ⌜ r ≡ fewestFor rule ⌝ }
 {
     let row = rule - 1;
     FEWEST[row]
+}
+
+// The number is a rule's: it has a row in the table.
+pub fn is_rule(rule: u64) -> bool
+    ensures { λ r. ⌜ r ≡ «is-rule» rule ⌝ }
+{
+    if rule < 1 {
+        return false;
+    }
+    if (LAST_RULE as u64) < rule {
+        return false;
+    }
+    fewest_for(rule as usize) < KIND_FACTOR
 }

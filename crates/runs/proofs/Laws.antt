@@ -1,28 +1,22 @@
--- A run whose budget is spent.
-use mathlib.Core.Bool.{true, false}
+-- The answers of a run, by its test.
+use mathlib.Core.Bool.{Bool, true, false}
 use mathlib.Core.List.{List}
-use mathlib.Core.Option.{Option, none, some}
-use mathlib.Core.Path.{_≡_, sym}
-use Prim.Native.Nat.{ℕ, _≤_}
-use native.Mathlib.Omega.{arith}
-use lib.ListN.{length, replicate, getD-replicate}
-use Rattle.model.specs.Base.{maybe}
-use Rattle.model.specs.Code.{Node}
-use Rattle.model.specs.Strategy.{Redex, next}
-use Rattle.model.specs.Sheet.{nodes-in, is-sheet}
-use Rattle.model.specs.Calls.{accepted, runOf}
+use mathlib.Core.Path.{_≡_}
+use Prim.Native.Nat.{ℕ}
+use Rattle.model.specs.Base.{only-if}
+use Rattle.model.specs.Sheet.{is-sheet}
+use Rattle.calls.specs.Refusals.{sheet-refused}
+use Rattle.calls.specs.Outcomes.{refused, accepted, outcome}
+use Rattle.calls.specs.Chains.{run-refusal}
+use Rattle.calls.specs.Calls.{runOf}
 use Rattle.answers.specs.Meaning.{afterCall}
-use Rattle.bounds.specs.Tables.{Bounds, High}
-use Rattle.theory.specs.Reached.{Reached, run-done, run-over}
+use Rattle.theory.specs.Reached.{Ends}
 
-pub run-ended : {start s : List ℕ} {count : ℕ} → is-sheet start ≡ true → Reached start count s → (budget : ℕ) → count ≡ budget → (o : Option Redex) → o ≡ next (nodes-in s) → afterCall (accepted (record { settled = maybe true (λ x. false) o; count = count })) s ≡ runOf start budget
-unfolding maybe
-run-ended h r budget same none e = run-done h r budget (omega arith) (sym e)
-run-ended h r budget same (some x) e = run-over h r budget same (sym e)
+module _ (s : List ℕ) (budget : ℕ) where
+  pub no-sheet : is-sheet s ≡ false → afterCall (refused sheet-refused) s ≡ runOf s budget
+  unfolding runOf run-refusal outcome only-if
+  no-sheet h = rw h
 
--- A table of ones: no bound says anything, and all have come to 1.
-pub ones-bounds : (ns : List Node) → length ns ≤ 4096 → Bounds ns (replicate 4096 1)
-ones-bounds ns few q r within low lt = absurd (omega (arith, getD-replicate {A = ℕ} 4096 q 1 0 (omega arith)))
-
-pub ones-high : (used : ℕ) → used ≤ 4096 → High 1 0 used (replicate 4096 1)
-ones-high used few q from to = omega (arith, getD-replicate {A = ℕ} 4096 q 1 0 (omega arith))
+  pub done : is-sheet s ≡ true → {settled said : Bool} {count : ℕ} {t : List ℕ} → settled ≡ said → Ends s budget settled count t → afterCall (accepted (record { settled = said; count = count })) t ≡ runOf s budget
+  unfolding runOf run-refusal outcome only-if
+  done h same e = rw (h, ← same, e .says, e .counts, e .leaves)

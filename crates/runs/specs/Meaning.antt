@@ -1,7 +1,7 @@
 -- What each case of a run's answer is in the definitions.
 use mathlib.Core.Bool.{true, false}
-use Rattle.model.specs.Calls as M
-use Rattle.model.specs.Calls.{Answer, refused, accepted}
+use Rattle.calls.specs.Calls as M
+use Rattle.calls.specs.Outcomes.{Answer, refused, accepted}
 use Rattle.answers.specs.Meaning.{refusalOf}
 use Rattle.runs.specs.declared.Ran as R
 use Rattle.runs.specs.declared.Ran.the-variants as V₁

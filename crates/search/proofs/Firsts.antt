@@ -12,7 +12,7 @@ use lib.Dec.{eqb}
 use lib.ListN.{length, getD, take, drop, length-drop}
 use lib.Seq.{slice}
 use Rattle.model.specs.Base.{all, is-some}
-use Rattle.model.specs.Code.{value}
+use Rattle.model.specs.Code.{children}
 use Rattle.model.specs.Forest.{size}
 use Rattle.model.specs.Rules.{rewrite}
 use Rattle.model.specs.Strategy.{redex, least-j, least-i}
@@ -21,7 +21,7 @@ use Rattle.theory.specs.Scan.{is-literal}
 use Rattle.theory.specs.Spans.{arity, arity-literal, span, span-none, span-more, child-at}
 use Rattle.theory.specs.Stretches.{Stretch, forest-in}
 use Rattle.theory.specs.Heads.{Headed}
-use Rattle.theory.specs.Children.{headed-group, group-value, group-long, child-room, child-later}
+use Rattle.theory.specs.Children.{headed-group, group-children, group-long, child-room, child-later}
 use Rattle.sizes.proofs.Laws.{child-next}
 use Rattle.simplify.specs.Constants.{constantFor}
 use Rattle.simplify.proofs.Laws.{asks-single, asks-constant}
@@ -37,27 +37,27 @@ use Rattle.search.proofs.Inner.{flat-found, flat-none}
 module _ {r : ℕ} {l : List ℕ} (s : Stretch l) (h : Headed r l) where
   -- A rule of 1 to 10, which has no use for inner children.
   module _ (low : r ≤ 10) {i : ℕ} (w : First-child r i l) where
-    pub first-found : i < value (getD l 0 0) → (p : ℕ) → some (redex r p i 0) ≡ least-i r p (forest-in l)
+    pub first-found : i < children (getD l 0 0) → (p : ℕ) → some (redex r p i 0) ≡ least-i r p (forest-in l)
     first-found lt p =
         i-found r p (forest-in l) i (omega (arith, children-counted s h)) (flat-found s h i (inl low) (w .there lt) p) (λ k m. flat-none s h k (inl low) (w .before k m) p)
 
-    pub first-none : value (getD l 0 0) ≤ i → (p : ℕ) → none ≡ least-i r p (forest-in l)
+    pub first-none : children (getD l 0 0) ≤ i → (p : ℕ) → none ≡ least-i r p (forest-in l)
     first-none le p =
         i-none r p (forest-in l) (λ k m. flat-none s h k (inl low) (w .before k (omega (arith, children-counted s h))) p)
 
   -- Rules 7 and 8: a single child.
-  pub single-first : 7 ≤ r → r ≤ 8 → value (getD l 0 0) ≡ 1 → First-child r 0 l
+  pub single-first : 7 ≤ r → r ≤ 8 → children (getD l 0 0) ≡ 1 → First-child r 0 l
   single-first a b e =
-      let count = group-value (headed-group s h) in
+      let count = group-children (headed-group s h) in
       record {
         few = omega arith;
         before = λ k m. absurd (omega arith);
         there = λ m. sym (asks-single s h 0 0 a b refl (omega (arith, count))) ∙ eq-eqb (size (h .children)) 1 (sym count ∙ e);
       }
 
-  pub single-none : 7 ≤ r → r ≤ 8 → (value (getD l 0 0) ≡ 1 → ⊥) → First-child r (value (getD l 0 0)) l
+  pub single-none : 7 ≤ r → r ≤ 8 → (children (getD l 0 0) ≡ 1 → ⊥) → First-child r (children (getD l 0 0)) l
   single-none a b n =
-      let count = group-value (headed-group s h) in
+      let count = group-children (headed-group s h) in
       record {
         few = omega arith;
         before = λ k m. sym (asks-single s h k 0 a b refl (omega (arith, count))) ∙ ne-eqb (size (h .children)) 1 (λ e. n (count ∙ e));
@@ -66,19 +66,19 @@ module _ {r : ℕ} {l : List ℕ} (s : Stretch l) (h : Headed r l) where
 
 -- On the way to the first constant: child i begins at a place, and with none before it the rule applies.
 pub record Passed (r i at : ℕ) (l : List ℕ) : Type 0 where
-  pub few : i ≤ value (getD l 0 0)
+  pub few : i ≤ children (getD l 0 0)
   pub here : at ≡ child-at i l
   pub none-yet : (k : ℕ) → k < i → is-some (rewrite r k 0 (forest-in l)) ≡ false
 
 pub passed-first : (r : ℕ) (l : List ℕ) → Passed r 0 1 l
 passed-first r l = record { few = omega arith; here = sym (child-first l); none-yet = λ k m. absurd (omega arith) }
 
-module _ {r i at : ℕ} {l : List ℕ} (s : Stretch l) (h : Headed r l) (low : r ≤ 6) (w : Passed r i at l) (lt : i < value (getD l 0 0)) {x : ℕ} (looked : x ≡ constantFor r) where
+module _ {r i at : ℕ} {l : List ℕ} (s : Stretch l) (h : Headed r l) (low : r ≤ 6) (w : Passed r i at l) (lt : i < children (getD l 0 0)) {x : ℕ} (looked : x ≡ constantFor r) where
   asked : eqb (getD l at 0) x ≡ is-some (rewrite r i 0 (forest-in l))
   asked =
       ap (λ n. eqb (getD l n 0) x) (w .here)
       ∙ ap (eqb (getD l (child-at i l) 0)) looked
-      ∙ asks-constant s h i 0 low refl (omega (arith, group-value (headed-group s h)))
+      ∙ asks-constant s h i 0 low refl (omega (arith, group-children (headed-group s h)))
 
   pub passed-found : getD l at 0 ≡ x → First-child r i l
   passed-found e =
@@ -92,12 +92,12 @@ module _ {r i at : ℕ} {l : List ℕ} (s : Stretch l) (h : Headed r l) (low : r
         none-yet = below-more i (w .none-yet) (sym asked ∙ ne-eqb (getD l at 0) x n);
       }
 
-pub passed-all : {r i at k : ℕ} {l : List ℕ} → Passed r i at l → k ≡ value (getD l 0 0) → k ≤ i → First-child r k l
+pub passed-all : {r i at k : ℕ} {l : List ℕ} → Passed r i at l → k ≡ children (getD l 0 0) → k ≤ i → First-child r k l
 passed-all w e le =
     record { few = omega (arith, e); before = λ q m. w .none-yet q (omega arith); there = λ m. absurd (omega (arith, e)) }
 
 -- Rule 14: the first inner child as the search's answer, and where child i stands too far on.
-module _ {l : List ℕ} (s : Stretch l) (h : Headed 14 l) (i : ℕ) {at : ℕ} (there : i < value (getD l 0 0)) (e : at ≡ child-at i l) where
+module _ {l : List ℕ} (s : Stretch l) (h : Headed 14 l) (i : ℕ) {at : ℕ} (there : i < children (getD l 0 0)) (e : at ≡ child-at i l) where
   pub late-none : (at ≡ 1 + i → ⊥) → (p : ℕ) → none ≡ least-j 14 p i (forest-in l)
   late-none n p =
       j-none 14 p (forest-in l) i (λ j m. sym (asks-late s h i j there (λ q. n (e ∙ q))))
@@ -124,13 +124,13 @@ after-head : (i : ℕ) (l : List ℕ) → 1 ≤ length l → slice 1 (1 + i) l �
 after-head i [] le = absurd (omega arith)
 after-head i (x ∷ l) le = let one : 1 + i ≡ suc i = omega arith in ap (λ n. drop 1 (take n (x ∷ l))) one
 
-module _ {l : List ℕ} (s : Stretch l) (h : Headed 13 l) (i : ℕ) {at : ℕ} (there : i < value (getD l 0 0)) (e : at ≡ child-at i l) where
+module _ {l : List ℕ} (s : Stretch l) (h : Headed 13 l) (i : ℕ) {at : ℕ} (there : i < children (getD l 0 0)) (e : at ≡ child-at i l) where
   -- Where it applies only literals stand before child i, so that it stands at place 1 + i.
   merged-place : is-some (rewrite 13 i 0 (forest-in l)) ≡ true → child-at i l ≡ 1 + i
   unfolding othersLiteral
   merged-place t =
       let g = headed-group s h in
-      let within : i < size (h .children) = omega (arith, group-value g) in
+      let within : i < size (h .children) = omega (arith, group-children g) in
       let m = conjunction-there s h i 0 t (omega arith) (omega arith) in
       let others = asks-others s h i 0 (m .1) refl refl within ∙ t in
       let room = child-room g i (omega arith) in

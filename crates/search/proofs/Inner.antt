@@ -12,7 +12,7 @@ use lib.ListN.{length, getD, drop, length-drop}
 use lib.Seq.{getD-drop}
 use Rattle.model.specs.Base.{pick, only-if, is-some, then}
 use Rattle.model.specs.Forest.{Conn, and, Forest, size, after, _⊕_, conjunction-at, literal-at}
-use Rattle.model.specs.Code.{kind, value}
+use Rattle.model.specs.Code.{kind, children}
 use Rattle.model.specs.Rules.{Family, absorbs, omits, unwraps, spreads, merges, change, absorb, omit, unwrap, spread, merge, rewrite}
 use Rattle.model.specs.Strategy.{redex, least-j}
 use Rattle.theory.specs.Logic.{is-some-of, pick-keeps, either}
@@ -20,7 +20,7 @@ use Rattle.theory.specs.Scan.{is-literal}
 use Rattle.theory.specs.Spans.{child-at}
 use Rattle.theory.specs.Stretches.{Stretch, forest-in}
 use Rattle.theory.specs.Heads.{Headed}
-use Rattle.theory.specs.Children.{Group, headed-group, group-value, first-left, child-room, child-conjunction}
+use Rattle.theory.specs.Children.{Group, headed-group, group-children, first-left, child-room, child-conjunction}
 use Rattle.theory.specs.Turns.{family-at, family-asks}
 use Rattle.lift.specs.Asked.{literalChild}
 use Rattle.lift.proofs.Laws.{asks-nothing, conjunction-group, asks-literal}
@@ -64,12 +64,12 @@ module _ {r : ℕ} {l : List ℕ} (s : Stretch l) (h : Headed r l) (i : ℕ) whe
     where
       go : (j : ℕ) → is-some (rewrite r i j (forest-in l)) ≡ false
       go zero = t
-      go (suc j) = family-asks h i (suc j) ∙ ap is-some (flat-family r flat (h .row .conn) i (suc j) (h .children) (λ e. omega arith))
+      go (suc j) = family-asks h i (suc j) ∙ ap is-some (flat-family r flat (h .conn) i (suc j) (h .children) (λ e. omega arith))
 
   -- Rules 11 and 12: child i begins at a place.
-  module _ {at : ℕ} (a : 11 ≤ r) (b : r ≤ 12) (there : i < value (getD l 0 0)) (e : at ≡ child-at i l) where
+  module _ {at : ℕ} (a : 11 ≤ r) (b : r ≤ 12) (there : i < children (getD l 0 0)) (e : at ≡ child-at i l) where
     within : i < size (h .children)
-    within = omega (arith, group-value (headed-group s h))
+    within = omega (arith, group-children (headed-group s h))
 
     conjunction-test : eqb (kind (getD l at 0)) 3 ≡ is-some (conjunction-at (after i (h .children)))
     conjunction-test = rw e (child-conjunction (headed-group s h) i within)
@@ -86,27 +86,27 @@ module _ {r : ℕ} {l : List ℕ} (s : Stretch l) (h : Headed r l) (i : ℕ) whe
       inner =
           subst (λ n. Group (drop n l) and (found .0) (after (suc i) (h .children) ⊕ h .rest) (h .zeros)) (sym e) (conjunction-group s h i 0 (found .1))
 
-      count : value (getD (drop at l) 0 0) ≡ value (getD l at 0)
-      count = ap value (first-left at l)
+      count : children (getD (drop at l) 0 0) ≡ children (getD l at 0)
+      count = ap children (first-left at l)
 
-      asked : (j : ℕ) → (ltb j (value (getD l at 0)) && is-literal (getD l (at + child-at j (drop at l)) 0)) ≡ is-some (rewrite r i j (forest-in l))
+      asked : (j : ℕ) → (ltb j (children (getD l at 0)) && is-literal (getD l (at + child-at j (drop at l)) 0)) ≡ is-some (rewrite r i j (forest-in l))
       unfolding literalChild
       asked j =
           let here : literalChild j (drop at l) ≡ is-some (rewrite r i j (forest-in l)) = rw e (asks-literal s h i j (found .1) a b) in
           rw (sym count, sym (getD-drop at l (child-at j (drop at l)) 0)) here
 
       -- Where inner child j stands, and what the rule asks of it.
-      pub inner-room : (j : ℕ) → j < value (getD l at 0) → at + child-at j (drop at l) < length l
+      pub inner-room : (j : ℕ) → j < children (getD l at 0) → at + child-at j (drop at l) < length l
       inner-room j lt =
-          let some-left : j < size (found .0) = omega (arith, count, group-value inner) in
+          let some-left : j < size (found .0) = omega (arith, count, group-children inner) in
           omega (arith, child-room inner j (omega arith), length-drop at l)
 
-      pub inner-test : (j : ℕ) → j < value (getD l at 0) → is-literal (getD l (at + child-at j (drop at l)) 0) ≡ is-some (rewrite r i j (forest-in l))
-      inner-test j lt = rw (lt-ltb j (value (getD l at 0)) lt) at (asked j)
+      pub inner-test : (j : ℕ) → j < children (getD l at 0) → is-literal (getD l (at + child-at j (drop at l)) 0) ≡ is-some (rewrite r i j (forest-in l))
+      inner-test j lt = rw (lt-ltb j (children (getD l at 0)) lt) at (asked j)
 
-      pub inner-none : ((j : ℕ) → j < value (getD l at 0) → is-some (rewrite r i j (forest-in l)) ≡ false) → (p : ℕ) → none ≡ least-j r p i (forest-in l)
-      inner-none h-below p = j-none r p (forest-in l) i (λ j m. go j (either (ltb j (value (getD l at 0)))))
+      pub inner-none : ((j : ℕ) → j < children (getD l at 0) → is-some (rewrite r i j (forest-in l)) ≡ false) → (p : ℕ) → none ≡ least-j r p i (forest-in l)
+      inner-none h-below p = j-none r p (forest-in l) i (λ j m. go j (either (ltb j (children (getD l at 0)))))
         where
-          go : (j : ℕ) → (ltb j (value (getD l at 0)) ≡ true) ⊎ (ltb j (value (getD l at 0)) ≡ false) → is-some (rewrite r i j (forest-in l)) ≡ false
-          go j (inl t) = h-below j (ltb-true j (value (getD l at 0)) t)
+          go : (j : ℕ) → (ltb j (children (getD l at 0)) ≡ true) ⊎ (ltb j (children (getD l at 0)) ≡ false) → is-some (rewrite r i j (forest-in l)) ≡ false
+          go j (inl t) = h-below j (ltb-true j (children (getD l at 0)) t)
           go j (inr t) = sym (asked j) ∙ ap (λ t. t && is-literal (getD l (at + child-at j (drop at l)) 0)) t

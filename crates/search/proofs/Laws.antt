@@ -1,19 +1,23 @@
 -- The levels of the search, each by what the one below it found.
 use mathlib.Core.Bool.{true, false}
 use mathlib.Core.List.{List}
+use mathlib.Core.Logic.{_⊎_, inl, inr}
 use mathlib.Core.Option.{none, some}
-use mathlib.Core.Path.{_≡_, sym}
+use mathlib.Core.Path.{_≡_, sym, ap}
 use Prim.Native.Nat.{ℕ, zero, suc, _-_, _≤_, _<_}
 use native.Mathlib.Omega.{arith}
+use borrow.Author.Tests.{ltb-true, ltb-false}
+use lib.Dec.{ltb}
 use lib.ListN.{length, drop}
 use Rattle.model.specs.Base.{only-if, is-some}
+use Rattle.model.specs.Limits.{last-rule}
 use Rattle.model.specs.Forest.{Forest, size, after, kids}
 use Rattle.model.specs.Code.{Node, decode}
 use Rattle.model.specs.Rules.{rewrite}
 use Rattle.model.specs.Strategy.{Redex, redex, least-j, least-i, least-place, next}
-use Rattle.theory.specs.Logic.{is-some-of, only-true}
+use Rattle.theory.specs.Logic.{either, is-some-of, only-true}
 use Rattle.theory.specs.Least.{least-is, least-none}
-use Rattle.theory.specs.Bounds.{rewrite-within}
+use Rattle.theory.specs.Bounds.{rewrite-within, past-last}
 pub use Rattle.commons.proofs.Inner.{below-more}
 
 only-false : {A : Type 0} {b : _} (a : A) → b ≡ false → only-if b a ≡ none
@@ -40,13 +44,17 @@ module _ (r p : ℕ) (f : Forest) where
   j-none i h = sym (least-none _ _ .1 (λ j l. only-false (redex r p i j) (h j l)))
 
   -- Children.
-  pub i-found : (i : ℕ) {x : Redex} → i < size (kids f) → some x ≡ least-j r p i f → ((k : ℕ) → k < i → none ≡ least-j r p k f) → some x ≡ least-i r p f
+  pub i-found : (i : ℕ) {x : Redex} → i < suc (size (kids f)) → some x ≡ least-j r p i f → ((k : ℕ) → k < i → none ≡ least-j r p k f) → some x ≡ least-i r p f
   unfolding least-i
   i-found i l e h = sym (least-is (record { number = i; below = l; answer = sym e; smaller = λ k m. sym (h k m) }))
 
   pub i-none : ((i : ℕ) → i < size (kids f) → none ≡ least-j r p i f) → none ≡ least-i r p f
-  unfolding least-i
-  i-none h = sym (least-none _ _ .1 (λ i l. sym (h i l)))
+  unfolding least-i is-some
+  i-none h = sym (least-none _ _ .1 (λ i l. sym (go i (either (ltb i (size (kids f)))))))
+    where
+      go : (i : ℕ) → (ltb i (size (kids f)) ≡ true) ⊎ (ltb i (size (kids f)) ≡ false) → none ≡ least-j r p i f
+      go i (inl t) = h i (ltb-true i (size (kids f)) t)
+      go i (inr t) = j-none i (λ j m. ap is-some (past-last r i j f (ltb-false i (size (kids f)) t)))
 
   pub i-never : ((i j : ℕ) → false ≡ is-some (rewrite r i j f)) → none ≡ least-i r p f
   i-never h = i-none (λ i l. j-none i (λ j m. sym (h i j)))
@@ -63,12 +71,12 @@ module _ (r : ℕ) (ns : List Node) where
 
 -- Rules, which count from 1.
 module _ (ns : List Node) where
-  pub r-found : (r : ℕ) {x : Redex} → 1 ≤ r → r ≤ 14 → some x ≡ least-place r ns → ((q : ℕ) → 1 ≤ q → q < r → none ≡ least-place q ns) → some x ≡ next ns
+  pub r-found : (r : ℕ) {x : Redex} → 1 ≤ r → r ≤ last-rule → some x ≡ least-place r ns → ((q : ℕ) → 1 ≤ q → q < r → none ≡ least-place q ns) → some x ≡ next ns
   unfolding next
   r-found zero low high e h = absurd (omega arith)
   r-found (suc r) low high e h =
       sym (least-is (record { number = r; below = omega arith; answer = sym e; smaller = λ q m. sym (h (suc q) (omega arith) (omega arith)) }))
 
-  pub r-none : ((r : ℕ) → 1 ≤ r → r ≤ 14 → none ≡ least-place r ns) → none ≡ next ns
+  pub r-none : ((r : ℕ) → 1 ≤ r → r ≤ last-rule → none ≡ least-place r ns) → none ≡ next ns
   unfolding next
-  r-none h = sym (least-none 14 _ .1 (λ r l. sym (h (suc r) (omega arith) (omega arith))))
+  r-none h = sym (least-none last-rule _ .1 (λ r l. sym (h (suc r) (omega arith) (omega arith))))

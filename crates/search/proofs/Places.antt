@@ -1,5 +1,4 @@
 -- The stretch and the table from a place of a sheet on.
-use mathlib.Core.Bool.{true}
 use mathlib.Core.List.{List}
 use mathlib.Core.Path.{_≡_, subst}
 use Prim.Native.Nat.{ℕ, _+_, _-_, _≤_, _<_}
@@ -8,9 +7,10 @@ use lib.ListN.{length, drop, length-drop}
 use lib.Seq.{drop-drop}
 use Rattle.lists.proofs.Lent.{lent-part}
 use borrow.Rule.Slice.PartMut.{midOf}
+use Rattle.model.specs.Limits.{sheet-room, sheet-length}
 use Rattle.model.specs.Code.{decode}
-use Rattle.model.specs.Sheet.{is-sheet, used-in, nodes-in}
-use Rattle.theory.specs.Sheets.{sheet-facts}
+use Rattle.model.specs.Sheet.{used-in, nodes-in}
+use Rattle.theory.specs.Sheets.{Formed}
 use Rattle.theory.specs.Stretches.{Stretch, forest-in, sheet-stretch}
 use Rattle.theory.specs.Places.{lend}
 use Rattle.sizes.specs.Tables.{Sized}
@@ -18,8 +18,8 @@ use Rattle.sizes.proofs.Laws.{sized-part}
 
 -- What is lent at a place: a stretch that spells the trees from there on, and the sizes of its trees.
 pub record Lent-at (s t : List ℕ) (p : ℕ) : Type 0 where
-  pub whole : length s ≡ 4098
-  pub within : p < 4096
+  pub whole : length s ≡ sheet-length
+  pub within : p < sheet-room
   pub part : List ℕ
   pub table : List ℕ
   pub lent : midOf (2 + p) (length s - (2 + p)) s ≡ part
@@ -30,7 +30,7 @@ pub record Lent-at (s t : List ℕ) (p : ℕ) : Type 0 where
   pub sized : Sized 0 part table
   pub trees : forest-in part ≡ decode (drop p (nodes-in s))
 
-pub lent-at : (s t : List ℕ) (p : ℕ) → is-sheet s ≡ true → p < used-in s → length t ≡ 4096 → Sized 0 (drop 2 s) t → Lent-at s t p
+pub lent-at : (s t : List ℕ) (p : ℕ) → Formed s → p < used-in s → length t ≡ sheet-room → Sized 0 (drop 2 s) t → Lent-at s t p
 lent-at s t p h lt n sized =
     let l = lend s h p lt in
     record {
@@ -48,8 +48,8 @@ lent-at s t p h lt n sized =
     }
 
 -- The number of nodes is the used count.
-pub nodes-counted : (s : List ℕ) → is-sheet s ≡ true → length (nodes-in s) ≡ used-in s
-nodes-counted s h = sheet-facts s h .count
+pub nodes-counted : (s : List ℕ) → Formed s → length (nodes-in s) ≡ used-in s
+nodes-counted s h = h .count
 
-pub used-few : (s : List ℕ) → is-sheet s ≡ true → used-in s ≤ 4096
-used-few s h = sheet-facts s h .used
+pub used-few : (s : List ℕ) → Formed s → used-in s ≤ sheet-room
+used-few s h = h .used

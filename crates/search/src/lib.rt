@@ -1,17 +1,18 @@
 // The search at one place: the least child and inner child at which a rule applies.
 ghost use mathlib.Core.Path.{_≡_};
-ghost use mathlib.Core.Bool.{true};
 ghost use Prim.Native.Nat.{ℕ, _≤_, _<_};
 ghost use lib.ListN.{length, getD, drop};
-ghost use Rattle.model.specs.Code.{value, decode};
+ghost use Rattle.model.specs.Limits.{«sheet-room», «last-rule»};
+ghost use Rattle.model.specs.Code.{decode, children};
 ghost use Rattle.model.specs.Strategy.{«least-j», «least-i»};
-ghost use Rattle.model.specs.Sheet.{«is-sheet», «used-in», «nodes-in»};
+ghost use Rattle.model.specs.Sheet.{«used-in», «nodes-in»};
 ghost use Rattle.theory.specs.Spans.{«child-at»};
 ghost use Rattle.theory.specs.Stretches.{Stretch, «forest-in»};
 ghost use Rattle.theory.specs.Heads.{Headed};
+ghost use Rattle.theory.specs.Sheets.{Formed};
 ghost use Rattle.sizes.specs.Tables.{Sized};
 ghost use Rattle.firsts.specs.Firsts.{«First-child»};
-ghost use Rattle.search.specs.Meaning.{spotOf, nextOf};
+ghost use Rattle.search.specs.Meaning.{spotOf};
 
 // Where a rule applies to a node: the child and the inner child.
 pub enum Spot {
@@ -30,7 +31,7 @@ fn least_lifted(part: &[u16], sizes: &[u16], rule: usize, i: usize, at: usize) -
     requires { ⌜ (11 ≤ rule) × (rule ≤ 12) ⌝ }
     requires { ⌜ Stretch (now part) ⌝ }
     requires { ⌜ Headed rule (now part) ⌝ }
-    requires { ⌜ (i < value (getD (now part) 0 0)) × (at ≡ «child-at» i (now part)) ⌝ }
+    requires { ⌜ (i < children (getD (now part) 0 0)) × (at ≡ «child-at» i (now part)) ⌝ }
     requires { ⌜ (length (now sizes) ≡ length (now part)) × Sized 0 (now part) (now sizes) ⌝ }
     ensures { λ r. ⌜ ((p : ℕ) → spotOf rule p r ≡ «least-j» rule p i («forest-in» (now (part .entry)))) ⌝ }
 {
@@ -38,7 +39,7 @@ fn least_lifted(part: &[u16], sizes: &[u16], rule: usize, i: usize, at: usize) -
     if nodes::kind_of(head) != 3 {
         return Spot::Nowhere;
     }
-    let m = nodes::value_of(head);
+    let m = nodes::children_of(head);
     let mut j = 0;
     let mut from = at + 1;
     while j < m {
@@ -55,7 +56,7 @@ fn least_lifted(part: &[u16], sizes: &[u16], rule: usize, i: usize, at: usize) -
 fn least_merged(part: &[u16], i: usize, at: usize) -> Spot
     requires { ⌜ Stretch (now part) ⌝ }
     requires { ⌜ Headed 13 (now part) ⌝ }
-    requires { ⌜ (i < value (getD (now part) 0 0)) × (at ≡ «child-at» i (now part)) ⌝ }
+    requires { ⌜ (i < children (getD (now part) 0 0)) × (at ≡ «child-at» i (now part)) ⌝ }
     ensures { λ r. ⌜ ((p : ℕ) → spotOf 13 p r ≡ «least-j» 13 p i («forest-in» (now (part .entry)))) ⌝ }
 {
     if at != 1 + i {
@@ -71,7 +72,7 @@ fn least_merged(part: &[u16], i: usize, at: usize) -> Spot
 fn least_factored(part: &[u16], sizes: &[u16], i: usize, at: usize) -> Spot
     requires { ⌜ Stretch (now part) ⌝ }
     requires { ⌜ Headed 14 (now part) ⌝ }
-    requires { ⌜ (i < value (getD (now part) 0 0)) × (at ≡ «child-at» i (now part)) ⌝ }
+    requires { ⌜ (i < children (getD (now part) 0 0)) × (at ≡ «child-at» i (now part)) ⌝ }
     requires { ⌜ (length (now sizes) ≡ length (now part)) × Sized 0 (now part) (now sizes) ⌝ }
     ensures { λ r. ⌜ ((p : ℕ) → spotOf 14 p r ≡ «least-j» 14 p i («forest-in» (now (part .entry)))) ⌝ }
 {
@@ -87,10 +88,10 @@ fn least_factored(part: &[u16], sizes: &[u16], i: usize, at: usize) -> Spot
 
 // The least inner child for child i and a rule that looks into it.
 fn least_inner(part: &[u16], sizes: &[u16], rule: usize, i: usize, at: usize) -> Spot
-    requires { ⌜ (11 ≤ rule) × (rule ≤ 14) ⌝ }
+    requires { ⌜ (11 ≤ rule) × (rule ≤ «last-rule») ⌝ }
     requires { ⌜ Stretch (now part) ⌝ }
     requires { ⌜ Headed rule (now part) ⌝ }
-    requires { ⌜ (i < value (getD (now part) 0 0)) × (at ≡ «child-at» i (now part)) ⌝ }
+    requires { ⌜ (i < children (getD (now part) 0 0)) × (at ≡ «child-at» i (now part)) ⌝ }
     requires { ⌜ (length (now sizes) ≡ length (now part)) × Sized 0 (now part) (now sizes) ⌝ }
     ensures { λ r. ⌜ ((p : ℕ) → spotOf rule p r ≡ «least-j» rule p i («forest-in» (now (part .entry)))) ⌝ }
 {
@@ -105,13 +106,13 @@ fn least_inner(part: &[u16], sizes: &[u16], rule: usize, i: usize, at: usize) ->
 
 // The least child and inner child for such a rule.
 fn least_inside(part: &[u16], sizes: &[u16], rule: usize) -> Spot
-    requires { ⌜ (11 ≤ rule) × (rule ≤ 14) ⌝ }
+    requires { ⌜ (11 ≤ rule) × (rule ≤ «last-rule») ⌝ }
     requires { ⌜ Stretch (now part) ⌝ }
     requires { ⌜ Headed rule (now part) ⌝ }
     requires { ⌜ (length (now sizes) ≡ length (now part)) × Sized 0 (now part) (now sizes) ⌝ }
     ensures { λ r. ⌜ ((p : ℕ) → spotOf rule p r ≡ «least-i» rule p («forest-in» (now (part .entry)))) ⌝ }
 {
-    let k = nodes::value_of(numbers::wide16(part[0]));
+    let k = nodes::children_of(numbers::wide16(part[0]));
     let mut i = 0;
     let mut at = 1;
     while i < k {
@@ -134,7 +135,7 @@ fn first_constant(part: &[u16], sizes: &[u16], rule: usize) -> usize
     ensures { λ r. ⌜ «First-child» rule r (now (part .entry)) ⌝ }
 {
     let constant = simplify::constant_for(rule);
-    let k = nodes::value_of(numbers::wide16(part[0]));
+    let k = nodes::children_of(numbers::wide16(part[0]));
     let mut i = 0;
     let mut at = 1;
     while i < k {
@@ -162,7 +163,7 @@ fn first_beside(part: &[u16], sizes: &[u16], rule: usize) -> usize
     if 9 <= rule {
         return recurring::first_recurring(part, sizes, rule);
     }
-    let k = nodes::value_of(numbers::wide16(part[0]));
+    let k = nodes::children_of(numbers::wide16(part[0]));
     if k == 1 {
         return 0;
     }
@@ -171,7 +172,7 @@ fn first_beside(part: &[u16], sizes: &[u16], rule: usize) -> usize
 
 // The least child and inner child for a rule at the first tree of a stretch.
 pub fn least_child(part: &[u16], sizes: &[u16], rule: usize) -> Spot
-    requires { ⌜ (1 ≤ rule) × (rule ≤ 14) × (1 ≤ length (now part)) ⌝ }
+    requires { ⌜ (1 ≤ rule) × (rule ≤ «last-rule») × (1 ≤ length (now part)) ⌝ }
     requires { ⌜ Stretch (now part) ⌝ }
     requires { ⌜ (length (now sizes) ≡ length (now part)) × Sized 0 (now part) (now sizes) ⌝ }
     ensures { λ r. ⌜ ((p : ℕ) → spotOf rule p r ≡ «least-i» rule p («forest-in» (now (part .entry)))) ⌝ }
@@ -183,7 +184,7 @@ pub fn least_child(part: &[u16], sizes: &[u16], rule: usize) -> Spot
         return least_inside(part, sizes, rule);
     }
     let i = first_beside(part, sizes, rule);
-    if i < nodes::value_of(numbers::wide16(part[0])) {
+    if i < nodes::children_of(numbers::wide16(part[0])) {
         return Spot::At(i, 0);
     }
     Spot::Nowhere
@@ -191,9 +192,9 @@ pub fn least_child(part: &[u16], sizes: &[u16], rule: usize) -> Spot
 
 // The same at a place of a sheet.
 pub fn least_at(sheet: &[u16], sizes: &[u16], rule: usize, place: usize) -> Spot
-    requires { ⌜ (1 ≤ rule) × (rule ≤ 14) ⌝ }
-    requires { ⌜ («is-sheet» (now sheet) ≡ true) × (place < «used-in» (now sheet)) ⌝ }
-    requires { ⌜ (length (now sizes) ≡ 4096) × Sized 0 (drop 2 (now sheet)) (now sizes) ⌝ }
+    requires { ⌜ (1 ≤ rule) × (rule ≤ «last-rule») ⌝ }
+    requires { ⌜ Formed (now sheet) × (place < «used-in» (now sheet)) ⌝ }
+    requires { ⌜ (length (now sizes) ≡ «sheet-room») × Sized 0 (drop 2 (now sheet)) (now sizes) ⌝ }
     ensures { λ r. ⌜ spotOf rule place r ≡ «least-i» rule place (decode (drop place («nodes-in» (now (sheet .entry))))) ⌝ }
 {
     let from = 2 + place;

@@ -6,18 +6,24 @@ use mathlib.Core.Option.{Option, none, some}
 use mathlib.Core.Path.{_≡_, refl, sym, ap, _∙_}
 use Prim.Native.Nat.{ℕ, zero, suc, _+_, _-_, _*_, _≤_, _<_}
 use native.Mathlib.Omega.{arith}
-use borrow.Author.Tests.{le-ltb, ne-eqb, ltb-true, ltb-false, not-false}
+use borrow.Author.Tests.{le-ltb, ne-eqb, ltb-true, ltb-false}
 use lib.Dec.{eqb, ltb}
 use lib.ListN.{length, take, drop, getD, replicate, length-take, length-replicate}
 use lib.Seq.{take-all, take-nil, take-take, getD-take, length-take-le}
 use Rattle.model.specs.Base.{pick, same-list, first-of, only-if, is-some, maybe}
-use Rattle.model.specs.Literal.{option}
+use Rattle.model.specs.Literal.{Literal, option, literal}
 use Rattle.model.specs.Code.{weight}
-use Rattle.model.specs.Sheet.{options-in, nodes-in, is-sheet, sheet-of, chosen}
+use Rattle.model.specs.Sheet.{options-in, nodes-in, sheet-of, chosen}
 use Rattle.model.specs.Book.{word, options-of, rules-of, size-of, head-in-limits, length-due, same-code, characters, pieces, codes-of, option-of-code}
-use Rattle.model.specs.Calls.{Refusal, length-refused, head-refused, sheet-refused, option-refused, full-refused, Answer, refused, accepted, answer, Outcome, outcome, literal, book-refusal, lookupOf, loadOf, chooseOf}
-use Rattle.model.specs.Desk.{lines, choose-found, keyed, go-on, all-keyed, printed, deskOf}
-use Rattle.theory.specs.Logic.{either, only-none, none-due}
+use Rattle.model.specs.Limits.{most-weight, literal-weight, sheet-length}
+use Rattle.model.specs.Results.{appended}
+use Rattle.calls.specs.Refusals.{Refusal, length-refused, head-refused, option-refused}
+use Rattle.calls.specs.Outcomes.{Answer, refused, accepted, answer, Outcome, outcome}
+use Rattle.calls.specs.Chains.{book-refusal, lookup-refusal, choose-refusal}
+use Rattle.calls.specs.Calls.{lookupOf, loadOf, chooseOf}
+use Rattle.calls.specs.Desk.{lines, choose-found, keyed, go-on, all-keyed, printed, deskOf}
+use Rattle.call_laws.specs.Accepted.{choose-accepted}
+use Rattle.theory.specs.Logic.{either}
 use Rattle.theory.specs.Sheets.{sheet-shaped, sheet-options, nodes-made}
 use Rattle.theory.specs.Choice.{chosen-shaped, chosen-weight}
 use Rattle.answers.specs.Meaning.{afterCall}
@@ -54,7 +60,7 @@ unfoldable long-due : List ℕ → ℕ → Refusal
 long-due book x = pick (eqb x 43) (unknown-due book) (pick (eqb x 45) (unknown-due book) option-refused)
 
 lookup-long : (book code : List ℕ) → 13 < length code → lookupOf book code ≡ refused (unknown-due book)
-unfolding lookupOf unknown-due codes-of is-some only-if maybe answer first-of
+unfolding lookupOf lookup-refusal unknown-due codes-of is-some only-if maybe answer first-of
 lookup-long book code h = rw (none-spelled code (options-of book) 0 (drop 8 book) h) (go (book-refusal book))
   where
     go : (o : Option Refusal) → answer {A = ℕ} (first-of o (some option-refused)) 0 ≡ refused (maybe option-refused (λ r. r) o)
@@ -77,52 +83,43 @@ literal-below v false h = h
 
 -- A choice that is accepted adds two to a weight that has room for it.
 pub record Adds (s t : List ℕ) : Type 0 where
-  pub more : weight (nodes-in t) ≡ weight (nodes-in s) + 2
-  pub room : weight (nodes-in s) + 2 ≤ 4096
+  pub more : weight (nodes-in t) ≡ weight (nodes-in s) + literal-weight
+  pub room : weight (nodes-in s) + literal-weight ≤ most-weight
 
-choose-adds : (s : List ℕ) (v : ℕ) (negative : Bool) → chooseOf s v negative .answer ≡ accepted tt → Adds s (chooseOf s v negative .buffer)
-unfolding chooseOf outcome
-choose-adds s v negative = go _ refl
+choose-adds : (s : List ℕ) (v : ℕ) (negative : Bool) → chooseOf s v negative .answer ≡ accepted tt → Adds s (chooseOf s v negative .lent)
+unfolding chooseOf appended outcome
+choose-adds s v negative = go (choose-refusal s v) refl
   where
+    l : Literal
+    l = literal v negative
+
     filled : List ℕ
-    filled = sheet-of (options-in s) (chosen (literal v negative) (nodes-in s))
+    filled = sheet-of (options-in s) (chosen l (nodes-in s))
 
-    due-now : Option Refusal
-    due-now =
-        first-of
-        (only-if (not (is-sheet s)) sheet-refused)
-        (first-of
-        (only-if (not (ltb v (options-in s))) option-refused)
-        (only-if (ltb 4096 (weight (nodes-in s) + 2)) full-refused))
-
-    go : (o : Option Refusal) → due-now ≡ o → outcome {A = Unit {0}} o tt s filled .answer ≡ accepted tt → Adds s (outcome {A = Unit {0}} o tt s filled .buffer)
+    go : (o : Option Refusal) → choose-refusal s v ≡ o → outcome {A = Unit {0}} o tt s filled .answer ≡ accepted tt → Adds s (outcome {A = Unit {0}} o tt s filled .lent)
     go (some r) e f = let z : _≡_ {A = ℕ} 0 1 = cc in absurd (omega arith)
     go none e f =
-        let a = none-due (not (is-sheet s)) sheet-refused _ e in
-        let b = none-due (not (ltb v (options-in s))) option-refused _ (a .1) in
-        let sheet = not-false (is-sheet s) (a .0) in
-        let known : v < options-in s = ltb-true v (options-in s) (not-false _ (b .0)) in
-        let room : weight (nodes-in s) + 2 ≤ 4096 = ltb-false 4096 (weight (nodes-in s) + 2) (only-none _ full-refused (b .1)) in
-        let form = sheet-shaped s sheet in
-        let after = chosen-shaped (literal v negative) form (literal-below v negative known) in
-        let heavy = chosen-weight (literal v negative) form in
-        let light : weight (chosen (literal v negative) (nodes-in s)) ≤ 4096 = omega (arith, heavy, room) in
-        record { more = ap weight (nodes-made (sheet-options s sheet) after light) ∙ heavy; room = room }
+        let w = choose-accepted s v e in
+        let form = sheet-shaped s (w .sheet) in
+        let after = chosen-shaped l form (literal-below v negative (w .known)) in
+        let heavy = chosen-weight l form in
+        let light : weight (chosen l (nodes-in s)) ≤ most-weight = omega (arith, heavy, w .room) in
+        record { more = ap weight (nodes-made (sheet-options s (w .sheet)) after light) ∙ heavy; room = w .room }
 
-found-adds : (x : Answer ℕ) (negative : Bool) (s : List ℕ) → choose-found x negative s .answer ≡ accepted tt → Adds s (choose-found x negative s .buffer)
+found-adds : (x : Answer ℕ) (negative : Bool) (s : List ℕ) → choose-found x negative s .answer ≡ accepted tt → Adds s (choose-found x negative s .lent)
 unfolding choose-found
 found-adds (refused r) negative s e = let z : _≡_ {A = ℕ} 0 1 = cc in absurd (omega arith)
 found-adds (accepted v) negative s e = choose-adds s v negative e
 
-keyed-adds : (book l s : List ℕ) → keyed book l s .answer ≡ accepted tt → Adds s (keyed book l s .buffer)
+keyed-adds : (book l s : List ℕ) → keyed book l s .answer ≡ accepted tt → Adds s (keyed book l s .lent)
 unfolding keyed pick
 keyed-adds book [] s e = let z : _≡_ {A = ℕ} 0 1 = cc in absurd (omega arith)
 keyed-adds book (x ∷ code) s e = go (eqb x 43) (eqb x 45) e
   where
-    nothing : Outcome (Unit {0})
-    nothing = record { answer = refused option-refused; buffer = s }
+    nothing : Outcome (List ℕ) (Unit {0})
+    nothing = record { answer = refused option-refused; lent = s }
 
-    go : (t u : Bool) → pick t (choose-found (lookupOf book code) false s) (pick u (choose-found (lookupOf book code) true s) nothing) .answer ≡ accepted tt → Adds s (pick t (choose-found (lookupOf book code) false s) (pick u (choose-found (lookupOf book code) true s) nothing) .buffer)
+    go : (t u : Bool) → pick t (choose-found (lookupOf book code) false s) (pick u (choose-found (lookupOf book code) true s) nothing) .answer ≡ accepted tt → Adds s (pick t (choose-found (lookupOf book code) false s) (pick u (choose-found (lookupOf book code) true s) nothing) .lent)
     go true u f = found-adds (lookupOf book code) false s f
     go false true f = found-adds (lookupOf book code) true s f
     go false false f = let z : _≡_ {A = ℕ} 0 1 = cc in absurd (omega arith)
@@ -170,7 +167,7 @@ long-line : (book s ys : List ℕ) (x : ℕ) → 15 ≤ ending (x ∷ ys) → al
 unfolding all-keyed go-on
 long-line book s ys x h = rw (first-of-lines x ys) (go (ending (x ∷ ys)) h (ending-within (x ∷ ys)))
   where
-    go : (e : ℕ) → 15 ≤ e → e ≤ length (x ∷ ys) → go-on (keyed book (take e (x ∷ ys)) s .answer) (keyed book (take e (x ∷ ys)) s .buffer) (all-keyed book (lines (drop (suc e) (x ∷ ys)))) ≡ afterCall (refused (long-due book x)) s
+    go : (e : ℕ) → 15 ≤ e → e ≤ length (x ∷ ys) → go-on (keyed book (take e (x ∷ ys)) s .answer) (keyed book (take e (x ∷ ys)) s .lent) (all-keyed book (lines (drop (suc e) (x ∷ ys)))) ≡ afterCall (refused (long-due book x)) s
     go zero g w = absurd (omega arith)
     go (suc e) g w = rw (keyed-long book s (take e ys) x (omega (arith, length-take-le e ys (omega arith))))
 
@@ -181,7 +178,7 @@ lines-cut x m ys h =
     first-of-lines x (take m ys)
     ∙ rw (ending-cut (suc m) (x ∷ ys) h, take-take end (suc m) (x ∷ ys) (omega arith), drop-cut (suc end) (suc m) (x ∷ ys))
 
-go-on-same : (a : Answer (Unit {0})) (s : List ℕ) (f g : List ℕ → Outcome (Unit {0})) → (a ≡ accepted tt → f s ≡ g s) → go-on a s f ≡ go-on a s g
+go-on-same : (a : Answer (Unit {0})) (s : List ℕ) (f g : List ℕ → Outcome (List ℕ) (Unit {0})) → (a ≡ accepted tt → f s ≡ g s) → go-on a s f ≡ go-on a s g
 unfolding go-on
 go-on-same (refused r) s f g h = refl
 go-on-same (accepted u) s f g h = h refl
@@ -202,18 +199,18 @@ one-line book s (x ∷ ys) (suc m) h later =
         let end = ending (x ∷ ys) in
         let l = take end (x ∷ ys) in
         rw (lines-cut x m ys (omega arith), first-of-lines x ys)
-        (go-on-same (keyed book l s .answer) (keyed book l s .buffer) _ _ (λ a. later (suc m - suc end) (drop (suc end) (x ∷ ys)) (keyed book l s .buffer) (omega arith) (keyed-adds book l s a)))
+        (go-on-same (keyed book l s .answer) (keyed book l s .lent) _ _ (λ a. later (suc m - suc end) (drop (suc end) (x ∷ ys)) (keyed book l s .lent) (omega arith) (keyed-adds book l s a)))
 
 -- So the first bytes decide, fifteen for each choice that the sheet has room for, and one more.
-keys-cut : (book : List ℕ) (k n : ℕ) (xs s : List ℕ) → 15 * suc k ≤ n → 4096 < weight (nodes-in s) + 2 + 2 * k → all-keyed book (lines (take n xs)) s ≡ all-keyed book (lines xs) s
+keys-cut : (book : List ℕ) (k n : ℕ) (xs s : List ℕ) → 15 * suc k ≤ n → most-weight < weight (nodes-in s) + 2 + 2 * k → all-keyed book (lines (take n xs)) s ≡ all-keyed book (lines xs) s
 keys-cut book zero n xs s h w = one-line book s xs n (omega arith) (λ m ys t a b. absurd (omega (arith, b .room)))
 keys-cut book (suc k) n xs s h w =
     one-line book s xs n (omega arith) (λ m ys t a b. keys-cut book k m ys t (omega arith) (omega (arith, b .more)))
 
-input-cut : (book input : List ℕ) (loaded : Outcome (Unit {0})) → loaded-lines book (take 65536 input) loaded ≡ loaded-lines book input loaded
+input-cut : (book input : List ℕ) (loaded : Outcome (List ℕ) (Unit {0})) → loaded-lines book (take 65536 input) loaded ≡ loaded-lines book input loaded
 unfolding loaded-lines
 input-cut book input loaded =
-    ap (λ c. printed (loaded .answer) (λ u. chosen-lines book c)) (keys-cut book 2048 65536 input (loaded .buffer) (omega arith) (omega arith))
+    ap (λ c. printed (loaded .answer) (λ u. chosen-lines book c)) (keys-cut book 2048 65536 input (loaded .lent) (omega arith) (omega arith))
 
 -- A book that is longer than any due length is refused by its head, or for its length.
 unfoldable too-long-due : List ℕ → Refusal
@@ -247,7 +244,7 @@ book-cut book input =
     (either (ltb 65536 (length book)))
   where
     desk-refused : (b : List ℕ) (r : Refusal) → book-refusal b ≡ some r → printed {A = Unit {0}} (refused r) (λ u. []) ≡ deskOf b input
-    desk-refused b r e = load-refused b input (replicate 4098 0) (refused r) (transfer.load-refused b (replicate 4098 0) (length-replicate {A = ℕ} 4098 0) e) r refl
+    desk-refused b r e = load-refused b input (replicate sheet-length 0) (refused r) (transfer.load-refused b (replicate sheet-length 0) (length-replicate {A = ℕ} sheet-length 0) e) r refl
 
     cut : 65536 < length book → deskOf (take 65536 book) input ≡ deskOf book input
     cut h =
@@ -259,6 +256,6 @@ book-cut book input =
 pub desk-cut : (book input : List ℕ) → deskOf (take 65536 book) (take 65536 input) ≡ deskOf book input
 desk-cut book input =
     sym (desk-is (take 65536 book) (take 65536 input))
-    ∙ input-cut (take 65536 book) input (loadOf (take 65536 book) (replicate 4098 0))
+    ∙ input-cut (take 65536 book) input (loadOf (take 65536 book) (replicate sheet-length 0))
     ∙ desk-is (take 65536 book) input
     ∙ book-cut book input

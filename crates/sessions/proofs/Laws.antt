@@ -10,21 +10,25 @@ use borrow.Rule.Slice.PartAt.{part-to-end}
 use lib.Dec.{ltb}
 use lib.ListN.{length, take, drop, replicate}
 use Rattle.model.specs.Base.{pick, first-of, only-if}
+use Rattle.model.specs.Limits.{sheet-length, most-options}
 use Rattle.model.specs.Book.{options-of, codes-of, pieces, book-nodes}
 use Rattle.model.specs.Sheet.{sheet-of}
-use Rattle.model.specs.Calls.{Refusal, refusal-number, Answer, refused, accepted, Outcome, outcome, Ran, book-refusal, loadOf, runOf, reportOf}
-use Rattle.model.specs.Desk.{lines, all-keyed, decimal, line, printed, refused-word, contradiction-word, settled-word, stopped-word, first-line, option-lines, desk-budget, deskOf}
-use Rattle.theory.specs.Loading.{accepted-book}
+use Rattle.calls.specs.Refusals.{Refusal, refusal-number}
+use Rattle.calls.specs.Outcomes.{Answer, refused, accepted, Outcome, outcome}
+use Rattle.calls.specs.Chains.{book-refusal, load-refusal}
+use Rattle.calls.specs.Calls.{Ran, loadOf, runOf, reportOf}
+use Rattle.calls.specs.Desk.{lines, all-keyed, decimal, line, printed, refused-word, contradiction-word, settled-word, stopped-word, first-line, option-lines, desk-budget, deskOf}
+use Rattle.call_laws.specs.Books.{accepted-book}
 use Rattle.answers.specs.Meaning.{afterCall}
 use Rattle.books.proofs.Laws.{codes-room}
-use Rattle.printing.specs.Placed.{after, placed}
+use Rattle.printing.specs.Placed.{after, filled}
 use Rattle.printing.proofs.Laws.{length-line, placed-within}
 use Rattle.printing.proofs.Decimals.{twenty-digits}
 use Rattle.sessions.specs.Session.{told-lines, ran-lines, sessionOf}
 
 -- The room of an accepted book's codes.
 module _ (book : List ℕ) (good : book-refusal book ≡ none) where
-  pub few-options : options-of book ≤ 512
+  pub few-options : options-of book ≤ most-options
   few-options = accepted-book book good .options
 
   pub codes-fit : 8 + 13 * options-of book ≤ length book
@@ -55,7 +59,7 @@ take-zeros (suc n) zero h = absurd (omega arith)
 take-zeros (suc n) (suc m) h = ap (λ l. 0 ∷ l) (take-zeros n m (omega arith))
 
 -- What is printed of a report, by its answer.
-module _ (book : List ℕ) (ran : Ran) (marks : List ℕ) (told : Outcome Bool) where
+module _ (book : List ℕ) (ran : Ran) (marks : List ℕ) (told : Outcome (List ℕ) Bool) where
   pub told-consistent : afterCall (accepted false) marks ≡ told → first-line false ran ++ option-lines (codes-of book) marks ≡ told-lines book ran told
   unfolding told-lines printed pick
   told-consistent e = rw (← e)
@@ -69,7 +73,7 @@ module _ (book : List ℕ) (ran : Ran) (marks : List ℕ) (told : Outcome Bool) 
   told-refused r e = rw (← e)
 
 -- What is printed of a run, by its answer.
-module _ (book s : List ℕ) (done : Outcome Ran) where
+module _ (book s : List ℕ) (done : Outcome (List ℕ) Ran) where
   pub ran-accepted : (ran : Ran) (n m : ℕ) → n ≡ options-of book → n ≤ m → afterCall (accepted ran) s ≡ done → told-lines book ran (reportOf s (take n (replicate m 0))) ≡ ran-lines book done
   unfolding ran-lines printed
   ran-accepted ran n m e h f = rw (take-zeros n m h, e, ← f)
@@ -79,18 +83,18 @@ module _ (book s : List ℕ) (done : Outcome Ran) where
   ran-refused r e = rw (← e)
 
 -- What is printed of the choices, and of the book.
-unfoldable pub chosen-lines : List ℕ → Outcome (Unit {0}) → List ℕ
-chosen-lines book chosen = printed (chosen .answer) (λ v. ran-lines book (runOf (chosen .buffer) desk-budget))
+unfoldable pub chosen-lines : List ℕ → Outcome (List ℕ) (Unit {0}) → List ℕ
+chosen-lines book chosen = printed (chosen .answer) (λ v. ran-lines book (runOf (chosen .lent) desk-budget))
 
-unfoldable pub loaded-lines : List ℕ → List ℕ → Outcome (Unit {0}) → List ℕ
+unfoldable pub loaded-lines : List ℕ → List ℕ → Outcome (List ℕ) (Unit {0}) → List ℕ
 loaded-lines book input loaded =
-    printed (loaded .answer) (λ u. chosen-lines book (all-keyed book (lines input) (loaded .buffer)))
+    printed (loaded .answer) (λ u. chosen-lines book (all-keyed book (lines input) (loaded .lent)))
 
-pub desk-is : (book input : List ℕ) → loaded-lines book input (loadOf book (replicate 4098 0)) ≡ deskOf book input
+pub desk-is : (book input : List ℕ) → loaded-lines book input (loadOf book (replicate sheet-length 0)) ≡ deskOf book input
 unfolding loaded-lines chosen-lines ran-lines told-lines deskOf
 desk-is book input = refl
 
-module _ (book input s : List ℕ) (loaded : Answer (Unit {0})) (load : afterCall loaded s ≡ loadOf book (replicate 4098 0)) where
+module _ (book input s : List ℕ) (loaded : Answer (Unit {0})) (load : afterCall loaded s ≡ loadOf book (replicate sheet-length 0)) where
   pub load-refused : (r : Refusal) → loaded ≡ refused r → printed loaded (λ u. []) ≡ deskOf book input
   unfolding loaded-lines printed
   load-refused r e = rw (← desk-is book input, ← load, e)
@@ -106,9 +110,9 @@ module _ (book input s : List ℕ) (loaded : Answer (Unit {0})) (load : afterCal
     keys-accepted e = rw (← desk-is book input, ← load, done, ← key, e)
 
 -- A book that was loaded is accepted.
-pub loaded-good : (book target l : List ℕ) → length target ≡ 4098 → afterCall (accepted tt) l ≡ loadOf book target → book-refusal book ≡ none
-unfolding loadOf outcome first-of only-if
-loaded-good book target l h e = go (book-refusal book) (rw (eq-eqb (length target) 4098 h) at e)
+pub loaded-good : (book target l : List ℕ) → length target ≡ sheet-length → afterCall (accepted tt) l ≡ loadOf book target → book-refusal book ≡ none
+unfolding loadOf load-refusal outcome first-of only-if
+loaded-good book target l h e = go (book-refusal book) (rw (eq-eqb (length target) sheet-length h) at e)
   where
     go : (o : Option Refusal) → afterCall (accepted (tt {0})) l ≡ outcome o (tt {0}) target (sheet-of (options-of book) (book-nodes book)) → o ≡ none
     go none f = refl
@@ -122,7 +126,7 @@ module _ (book input out : List ℕ) where
   unfolding sessionOf pick
   session-short h = rw (lt-ltb (length out) 16384 h)
 
-  pub session-printed : {bytes : List ℕ} → 16384 ≤ length out → bytes ≡ deskOf book input → placed bytes out ≡ sessionOf book input out
+  pub session-printed : {bytes : List ℕ} → 16384 ≤ length out → bytes ≡ deskOf book input → filled bytes out ≡ sessionOf book input out
   unfolding sessionOf pick
   session-printed h e = rw (le-ltb (length out) 16384 h, e)
 
@@ -131,6 +135,6 @@ module _ (book input out : List ℕ) where
   unfolding sessionOf pick
   session-within {r} {l} e = go (ltb (length out) 16384) e
     where
-      go : (t : Bool) → after r l ≡ pick t (after 0 out) (placed (deskOf book input) out) → r ≤ length l
+      go : (t : Bool) → after r l ≡ pick t (after 0 out) (filled (deskOf book input) out) → r ≤ length l
       go true f = omega (arith, ap (λ w. w .count) f)
       go false f = placed-within (deskOf book input) out f

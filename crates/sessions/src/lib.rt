@@ -6,19 +6,22 @@ ghost use mathlib.Core.Option.{none};
 ghost use Prim.Native.Nat.{_≤_};
 ghost use lib.ListN.{length};
 ghost use Rattle.model.specs.Book.{«options-of», «codes-of»};
-ghost use Rattle.model.specs.Calls.{«book-refusal», runOf, reportOf};
-ghost use Rattle.model.specs.Desk.{printed, «first-line», «option-lines», «desk-budget»};
+ghost use Rattle.calls.specs.Chains.{«book-refusal»};
+ghost use Rattle.calls.specs.Calls.{runOf, reportOf};
+ghost use Rattle.calls.specs.Desk.{printed, «first-line», «option-lines», «desk-budget»};
 ghost use Rattle.answers.specs.Meaning.{doneOf};
-ghost use Rattle.printing.specs.Placed.{after, placed};
+ghost use Rattle.printing.specs.Placed.{after, filled};
 ghost use Rattle.sessions.specs.Session.{«told-lines», «ran-lines», sessionOf};
 use answers::Done;
+use limits::MOST_OPTIONS;
+use limits::SHEET_LENGTH;
 use reports::Reported;
 use runs::Ran;
 
 // The line of a refusal, of an answer that is one.
 fn put_refused(answer: Done, out: &mut [u8]) -> usize
     requires { ⌜ 16384 ≤ length (now out) ⌝ }
-    ensures { λ r. ⌜ after r (now (out .exit)) ≡ placed (printed (doneOf answer) (λ u. [])) (now (out .entry)) ⌝ }
+    ensures { λ r. ⌜ after r (now (out .exit)) ≡ filled (printed (doneOf answer) (λ u. [])) (now (out .entry)) ⌝ }
 {
     let Done::Refused(r) = answer else {
         return 0;
@@ -29,7 +32,7 @@ fn put_refused(answer: Done, out: &mut [u8]) -> usize
 // The first line, and a line for each option, where there is no contradiction.
 fn put_lines(book: &[u8], marks: &[u8], settled: bool, count: u64, out: &mut [u8]) -> usize
     requires { ⌜ («book-refusal» (now book) ≡ none) × (length (now marks) ≡ «options-of» (now book)) × (16384 ≤ length (now out)) ⌝ }
-    ensures { λ r. ⌜ after r (now (out .exit)) ≡ placed («first-line» false (record { settled = settled; count = count }) ++ «option-lines» («codes-of» (now (book .entry))) (now (marks .entry))) (now (out .entry)) ⌝ }
+    ensures { λ r. ⌜ after r (now (out .exit)) ≡ filled («first-line» false (record { settled = settled; count = count }) ++ «option-lines» («codes-of» (now (book .entry))) (now (marks .entry))) (now (out .entry)) ⌝ }
 {
     let at = printing::put_first(false, settled, count, out);
     at + printing::put_options(&book[8..], marks, &mut out[at..])
@@ -45,7 +48,7 @@ fn put_told(
     out: &mut [u8],
 ) -> usize
     requires { ⌜ («book-refusal» (now book) ≡ none) × (length (now marks) ≡ «options-of» (now book)) × (16384 ≤ length (now out)) ⌝ }
-    ensures { λ r. ⌜ after r (now (out .exit)) ≡ placed («told-lines» (now (book .entry)) (record { settled = settled; count = count }) (reportOf (now (sheet .entry)) (now (marks .entry)))) (now (out .entry)) ⌝ }
+    ensures { λ r. ⌜ after r (now (out .exit)) ≡ filled («told-lines» (now (book .entry)) (record { settled = settled; count = count }) (reportOf (now (sheet .entry)) (now (marks .entry)))) (now (out .entry)) ⌝ }
 {
     let told = reports::report(sheet, marks);
     match told {
@@ -58,10 +61,10 @@ fn put_told(
 // The run and the report.
 fn put_ran(book: &[u8], sheet: &mut [u16], out: &mut [u8]) -> usize
     requires { ⌜ («book-refusal» (now book) ≡ none) × (16384 ≤ length (now out)) ⌝ }
-    ensures { λ r. ⌜ after r (now (out .exit)) ≡ placed («ran-lines» (now (book .entry)) (runOf (now (sheet .entry)) «desk-budget»)) (now (out .entry)) ⌝ }
+    ensures { λ r. ⌜ after r (now (out .exit)) ≡ filled («ran-lines» (now (book .entry)) (runOf (now (sheet .entry)) «desk-budget»)) (now (out .entry)) ⌝ }
 {
     let n = numbers::word_at(book, 0);
-    let mut room = [0u8; 512];
+    let mut room = [0u8; MOST_OPTIONS];
     let marks = &mut room[..n];
     let ran = runs::run(sheet, 100000);
     match ran {
@@ -78,7 +81,7 @@ pub fn session(book: &[u8], input: &[u8], out: &mut [u8]) -> usize
     if out.len() < 16384 {
         return 0;
     }
-    let mut sheet = [0u16; 4098];
+    let mut sheet = [0u16; SHEET_LENGTH];
     let loaded = transfer::load(book, &mut sheet);
     let Done::Accepted = loaded else {
         return put_refused(loaded, out);

@@ -6,13 +6,18 @@ ghost use Prim.Native.Nat.{_≤_};
 ghost use lib.Dec.{eqb};
 ghost use lib.ListN.{length, take};
 ghost use Rattle.model.specs.Base.{all};
+ghost use Rattle.model.specs.Limits.{«sheet-room»};
 ghost use Rattle.model.specs.Code.{literals, «node-of», «one-tree»};
 ghost use Rattle.model.specs.Sheet.{rooted, «is-sheet»};
+use limits::MOST_OPTIONS;
+use limits::MOST_WEIGHT;
+use limits::SHEET_LENGTH;
+use limits::SHEET_ROOM;
 use nodes::Trees;
 
 // The first so many numbers are one tree with the root at its head and nowhere else, for n options.
 fn is_rooted_tree(s: &[u16], used: usize, n: usize) -> bool
-    requires { ⌜ (1 ≤ used) × (used ≤ 4096) × (used ≤ length (now s)) ⌝ }
+    requires { ⌜ (1 ≤ used) × (used ≤ «sheet-room») × (used ≤ length (now s)) ⌝ }
     ensures { λ r. ⌜ r ≡ (rooted n (take used (now (s .entry))) && «one-tree» (map «node-of» (take used (now (s .entry))))) ⌝ }
 {
     let head = numbers::wide16(s[0]);
@@ -26,7 +31,7 @@ fn is_rooted_tree(s: &[u16], used: usize, n: usize) -> bool
         trees = nodes::join(numbers::wide16(s[i]), n, trees);
     }
     if let Trees::Count(t) = trees {
-        t == nodes::value_of(head)
+        t == nodes::children_of(head)
     } else {
         false
     }
@@ -48,7 +53,7 @@ fn is_clear(s: &[u16]) -> bool
 
 // The literals among the first so many numbers.
 pub fn count_literals(s: &[u16], used: usize) -> usize
-    requires { ⌜ (used ≤ 4096) × (used ≤ length (now s)) ⌝ }
+    requires { ⌜ (used ≤ «sheet-room») × (used ≤ length (now s)) ⌝ }
     ensures { λ r. ⌜ r ≡ literals (map «node-of» (take used (now (s .entry)))) ⌝ }
 {
     let mut sum = 0;
@@ -66,18 +71,18 @@ pub fn count_literals(s: &[u16], used: usize) -> usize
 pub fn is_sheet(s: &[u16]) -> bool
     ensures { λ r. ⌜ r ≡ «is-sheet» (now (s .entry)) ⌝ }
 {
-    if s.len() != 4098 {
+    if s.len() != SHEET_LENGTH {
         return false;
     }
     let n = numbers::wide16(s[0]);
     let used = numbers::wide16(s[1]);
-    if 512 < n {
+    if MOST_OPTIONS < n {
         return false;
     }
     if used < 1 {
         return false;
     }
-    if 4096 < used {
+    if SHEET_ROOM < used {
         return false;
     }
     if !is_rooted_tree(&s[2..], used, n) {
@@ -87,5 +92,5 @@ pub fn is_sheet(s: &[u16]) -> bool
     if !is_clear(&s[end..]) {
         return false;
     }
-    used + count_literals(&s[2..], used) <= 4096
+    used + count_literals(&s[2..], used) <= MOST_WEIGHT
 }

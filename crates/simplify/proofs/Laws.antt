@@ -9,22 +9,23 @@ use lib.Dec.{eqb, leb}
 use lib.ListN.{length, getD, take, drop, set, replicate, length-drop}
 use lib.Seq.{drop-cons}
 use Rattle.model.specs.Base.{pick, maybe, is-some, only-if}
-use Rattle.model.specs.Forest.{Conn, Forest, nil, node, constant, _⊕_, size, first, after, constant-at}
+use Rattle.model.specs.Forest.{Conn, and, or, root, Forest, nil, node, constant, _⊕_, size, first, after, constant-at}
 use Rattle.model.specs.Code.{head, value, number, conn-kind, number-of}
 use Rattle.model.specs.Rules.{neutral, deciding, absorb, omit, unwrap, Family, table, change, row-of, rewrite}
 use Rattle.theory.specs.Logic.{and-split, and-join, same-test, fails-if, pick-keeps, is-some-only, only-some}
 use Rattle.theory.specs.Forests.{constant-here, past-end}
+use Rattle.theory.specs.Numbers.{head-number}
 use Rattle.theory.specs.Spans.{child-at}
 use Rattle.theory.specs.Flat.{spell, spell-node}
 use Rattle.theory.specs.Stretches.{Stretch, forest-in}
 use Rattle.theory.specs.Heads.{Headed, rewritten-to}
-use Rattle.theory.specs.Children.{Group, code, headed-group, group-head, group-value, child-place, child-split, child-later, child-constant, child-within, child-opened, spell-zeros, removed-at}
+use Rattle.theory.specs.Children.{Group, code, headed-group, group-head, group-few, child-place, child-split, child-later, child-constant, child-within, child-opened, spell-zeros, removed-at}
 use Rattle.theory.specs.Turns.{family-at, family-of, family-asks, family-turn}
-use Rattle.simplify.specs.Constants.{wanted, constantFor}
+use Rattle.simplify.specs.Constants.{wanted, group-of, constantFor}
 
 -- Rules 2, 4 and 6 look for true.
 pub constant-true : (r : ℕ) → 1 ≤ r → r ≤ 6 → (r ≡ 1 → ⊥) → (r ≡ 3 → ⊥) → (r ≡ 5 → ⊥) → 12288 ≡ constantFor r
-unfolding constantFor row-of table maybe wanted neutral deciding conn-kind number
+unfolding constantFor row-of table maybe group-of pick wanted neutral deciding conn-kind number
 constant-true zero a b x y z = absurd (omega arith)
 constant-true (suc zero) a b x y z = absurd (x refl)
 constant-true (suc (suc zero)) a b x y z = refl
@@ -65,15 +66,21 @@ module _ (r : ℕ) (c : Conn) (i j : ℕ) (k : Forest) where
           let p = and-split (eqb i 0) (eqb j 0) (o .0) in
           (eqb-true j 0 (p .1), omega (arith, eqb-true i 0 (p .0), eqb-true (size k) 1 (o .1)))
 
+group-is : (c : Conn) → group-of (conn-kind c) ≡ c
+unfolding group-of conn-kind pick
+group-is and = refl
+group-is or = refl
+group-is root = refl
+
 -- The number that is looked for.
-constant-number : {r : ℕ} {l : List ℕ} (h : Headed r l) → constantFor r ≡ number (conn-kind (wanted (family-at r) (h .row .conn))) 0
+constant-number : {r : ℕ} {l : List ℕ} (h : Headed r l) → constantFor r ≡ number (conn-kind (wanted (family-at r) (h .conn))) 0
 unfolding constantFor maybe
-constant-number {r} h = rw (h .its-row, family-of r (h .its-row))
+constant-number {r} h = rw (h .its-row, family-of r (h .its-row), h .its-kind, group-is (h .conn))
 
 -- The test, on the numbers.
 module _ {r : ℕ} {l : List ℕ} (s : Stretch l) (h : Headed r l) (i j : ℕ) where
   pub applied-here : r ≤ 8 → is-some (rewrite r i j (forest-in l)) ≡ true → (j ≡ 0) × (i < size (h .children))
-  applied-here b t = asked-here r (h .row .conn) i j (h .children) b (sym (family-asks h i j) ∙ t)
+  applied-here b t = asked-here r (h .conn) i j (h .children) b (sym (family-asks h i j) ∙ t)
 
   pub asks-nothing : r ≤ 8 → (j ≡ 0 → ⊥) → false ≡ is-some (rewrite r i j (forest-in l))
   asks-nothing b n = sym (fails-if (is-some (rewrite r i j (forest-in l))) (λ t. n (applied-here b t .0)))
@@ -84,18 +91,18 @@ module _ {r : ℕ} {l : List ℕ} (s : Stretch l) (h : Headed r l) (i j : ℕ) w
       same-test (eqb (size k) 1) (eqb i 0 && eqb j 0 && eqb (size k) 1)
       (λ q. let one = eqb-true (size k) 1 q in and-join (and-join (eq-eqb i 0 (omega arith)) (eq-eqb j 0 e)) q)
       (λ q. and-split (eqb i 0 && eqb j 0) (eqb (size k) 1) q .1)
-      ∙ sym (family-asks h i j ∙ single-asked r (h .row .conn) i j k a b)
+      ∙ sym (family-asks h i j ∙ single-asked r (h .conn) i j k a b)
 
   pub asks-constant : r ≤ 6 → j ≡ 0 → i < size (h .children) → eqb (getD l (child-at i l) 0) (constantFor r) ≡ is-some (rewrite r i j (forest-in l))
   asks-constant b e n =
-      let c = h .row .conn in
+      let c = h .conn in
       let k = h .children in
       let asked : is-some (rewrite r i j (forest-in l)) ≡ (eqb j 0 && constant-at (wanted (family-at r) c) (after i k)) = family-asks h i j ∙ constant-asked r c i j k b in
       rw (asked, constant-number h, eq-eqb j 0 e) (child-constant (headed-group s h) i n (wanted (family-at r) c))
 
 -- Where a constant is written after the head, and the other numbers of the children go.
 only-child : {l : List ℕ} {c : Conn} {k f : Forest} {z : ℕ} → Group l c k f z → 1 ≤ size k → (d : Conn) → let end = child-at (size k) l in let new = set (set l 0 (getD l 0 0 - value (getD l 0 0) + 1)) 1 (number (conn-kind d) 0) in take 2 new ++ (drop (2 + (end - 2)) new ++ replicate (end - 2) 0) ≡ spell (node c (constant d) f) (z + (end - 2))
-unfolding number-of number size _⊕_
+unfolding number size _⊕_ value
 only-child {l} {c} {k} {f} {z} g n d =
     let x = getD l 0 0 - value (getD l 0 0) + 1 in
     let y = number (conn-kind d) 0 in
@@ -103,12 +110,12 @@ only-child {l} {c} {k} {f} {z} g n d =
     let w = z + (end - 2) in
     let old = code (first (size k) k) in
     let long : length old + 1 ≡ end = omega (arith, child-place g (size k) (omega arith)) in
-    let split : l ≡ number (conn-kind c) (size k) ∷ (getD old 0 0 ∷ (drop 1 old ++ spell f z)) =
-    child-split g (size k) (omega arith) ∙ ap₂ (λ u m. number (conn-kind c) (size k) ∷ (u ++ spell (m ⊕ f) z)) (drop-cons old 0 0 (omega (arith, child-later g (size k) (omega arith)))) (past-end (size k) k (omega arith)) in
-    let one : x ≡ number (conn-kind c) 1 = omega (arith, group-head g, group-value g) in
+    let split : l ≡ number-of (head c (size k)) ∷ (getD old 0 0 ∷ (drop 1 old ++ spell f z)) =
+    child-split g (size k) (omega arith) ∙ ap₂ (λ u m. number-of (head c (size k)) ∷ (u ++ spell (m ⊕ f) z)) (drop-cons old 0 0 (omega (arith, child-later g (size k) (omega arith)))) (past-end (size k) k (omega arith)) in
+    let one : x ≡ number-of (head c 1) = omega (arith, group-head g, group-few g, head-number c 1) in
     removed-at (x ∷ y ∷ []) (drop 1 old) (spell f z) (set (set l 0 x) 1 y) 2 (end - 2) (ap (λ u. set (set u 0 x) 1 y) split) refl (omega (arith, length-drop 1 old))
     ∙ ap₂ (λ u m. u ∷ (y ∷ m)) one (spell-zeros f z (end - 2))
-    ∙ sym (spell-node c (constant d) f w ∙ ap (λ u. number (conn-kind c) 1 ∷ u) (spell-node d nil f w))
+    ∙ sym (spell-node c (constant d) f w ∙ ap (λ u. number-of (head c 1) ∷ u) (spell-node d nil f w ∙ ap (λ u. u ∷ spell f w) (head-number d 0)))
 
 -- The step, on the numbers.
 module _ {r : ℕ} {l out : List ℕ} (s : Stretch l) (h : Headed r l) (i j : ℕ) (t : is-some (rewrite r i j (forest-in l)) ≡ true) (n : length out ≡ length l) where
@@ -119,7 +126,7 @@ module _ {r : ℕ} {l out : List ℕ} (s : Stretch l) (h : Headed r l) (i j : �
       let k = h .children in
       let z = h .zeros in
       let gone : out ≡ spell (k ⊕ h .rest) (z + 1) =
-      e ∙ removed-at [] (number-of (head (h .row .conn) (size k)) ∷ []) (spell (k ⊕ h .rest) z) l 0 1 (h .spelled ∙ spell-node (h .row .conn) k (h .rest) z) refl refl ∙ spell-zeros (k ⊕ h .rest) z 1 in
+      e ∙ removed-at [] (number-of (head (h .conn) (size k)) ∷ []) (spell (k ⊕ h .rest) z) l 0 1 (h .spelled ∙ spell-node (h .conn) k (h .rest) z) refl refl ∙ spell-zeros (k ⊕ h .rest) z 1 in
       family-turn h i j (z + 1) t
       (λ g q. let o = only-some (eqb i 0 && eqb j 0 && eqb (size k) 1) k (rw (lt-leb r 3 (omega arith), lt-leb r 6 a, le-leb r 8 b) at q) in
       rw (o .1) at gone)
@@ -129,7 +136,7 @@ module _ {r : ℕ} {l out : List ℕ} (s : Stretch l) (h : Headed r l) (i j : �
   pub turns-omit : 4 ≤ r → r ≤ 6 → (v : ℕ) → v + 1 ≡ getD l 0 0 → out ≡ take (child-at i l) (set l 0 v) ++ (drop (child-at i l + 1) (set l 0 v) ++ replicate 1 0) → out ≡ rewritten-to r i j l
   unfolding family-at pick change omit size _⊕_
   turns-omit a b v d e =
-      let c = h .row .conn in
+      let c = h .conn in
       let k = h .children in
       family-turn h i j (h .zeros + 1) t
       (λ g w. let o = only-some (eqb j 0 && constant-at (neutral c) (after i k)) (node c (first i k ⊕ after (suc i) k) nil) (rw (lt-leb r 3 a, le-leb r 6 b) at w) in
@@ -141,11 +148,11 @@ module _ {r : ℕ} {l out : List ℕ} (s : Stretch l) (h : Headed r l) (i j : �
   pub turns-absorb : r ≤ 3 → let end = child-at (size (h .children)) l in let new = set (set l 0 (getD l 0 0 - value (getD l 0 0) + 1)) 1 (constantFor r) in out ≡ take 2 new ++ (drop (2 + (end - 2)) new ++ replicate (end - 2) 0) → out ≡ rewritten-to r i j l
   unfolding family-at pick change absorb wanted _⊕_
   turns-absorb b e =
-      let d = deciding (h .row .conn) in
+      let d = deciding (h .conn) in
       let k = h .children in
       let sought : constantFor r ≡ number (conn-kind d) 0 = constant-number h ∙ rw (le-leb r 3 b) in
       let there = applied-here s h i j (omega arith) t .1 in
       family-turn h i j (h .zeros + (child-at (size k) l - 2)) t
-      (λ g w. let o = only-some (eqb j 0 && constant-at d (after i k)) (node (h .row .conn) (constant d) nil) (rw (le-leb r 3 b) at w) in
+      (λ g w. let o = only-some (eqb j 0 && constant-at d (after i k)) (node (h .conn) (constant d) nil) (rw (le-leb r 3 b) at w) in
       rw sought at e ∙ only-child (headed-group s h) (omega arith) d ∙ ap (λ m. spell (m ⊕ h .rest) (h .zeros + (child-at (size k) l - 2))) (o .1))
       n

@@ -4,14 +4,16 @@ ghost use mathlib.Core.Bool.{true};
 ghost use Prim.Native.Nat.{_≤_, _<_};
 ghost use lib.ListN.{getD};
 ghost use Rattle.model.specs.Base.{«is-some»};
-ghost use Rattle.model.specs.Code.{value};
+ghost use Rattle.model.specs.Code.{children};
 ghost use Rattle.model.specs.Rules.{rewrite};
 ghost use Rattle.theory.specs.Spans.{«child-at»};
 ghost use Rattle.theory.specs.Stretches.{Stretch, «forest-in»};
 ghost use Rattle.theory.specs.Heads.{Headed, «rewritten-to»};
 ghost use Rattle.simplify.specs.Constants.{constantFor};
+use limits::KIND_FACTOR_16;
 
-// The constant that a rule of 1 to 6 looks for: false for 1, 3 and 5, true for 2, 4 and 6.
+// The constant that a rule of 1 to 6 looks for: false for 1, 3 and 5, true for 2, 4 and 6. False is the number of an empty
+// disjunction (kind 4), true that of an empty conjunction (kind 3).
 pub fn constant_for(rule: usize) -> u16
     requires { ⌜ (1 ≤ rule) × (rule ≤ 6) ⌝ }
     ensures { λ r. ⌜ r ≡ constantFor rule ⌝ }
@@ -27,14 +29,14 @@ pub fn asks(part: &[u16], rule: usize, i: usize, j: usize, at: usize) -> bool
     requires { ⌜ (1 ≤ rule) × (rule ≤ 8) ⌝ }
     requires { ⌜ Stretch (now part) ⌝ }
     requires { ⌜ Headed rule (now part) ⌝ }
-    requires { ⌜ (i < value (getD (now part) 0 0)) × (at ≡ «child-at» i (now part)) ⌝ }
+    requires { ⌜ (i < children (getD (now part) 0 0)) × (at ≡ «child-at» i (now part)) ⌝ }
     ensures { λ r. ⌜ r ≡ «is-some» (rewrite rule i j («forest-in» (now (part .entry)))) ⌝ }
 {
     if j != 0 {
         return false;
     }
     if 7 <= rule {
-        return nodes::value_of(numbers::wide16(part[0])) == 1;
+        return nodes::children_of(numbers::wide16(part[0])) == 1;
     }
     part[at] == constant_for(rule)
 }
@@ -59,9 +61,9 @@ pub fn turn(part: &mut [u16], rule: usize, i: usize, j: usize)
         return;
     }
     let head = part[0];
-    let k = nodes::value_of(numbers::wide16(head));
+    let k = nodes::children_of(numbers::wide16(head));
     let end = spans::child_at(part, k);
-    part[0] = head - head % 4096 + 1;
+    part[0] = head - head % KIND_FACTOR_16 + 1;
     part[1] = constant_for(rule);
     shifts::remove(part, 2, end - 2);
 }

@@ -1,22 +1,23 @@
 // Trees on a run of numbers, read from the left.
 ghost use mathlib.Core.Path.{_≡_};
-ghost use Prim.Native.Nat.{_≤_};
+ghost use Prim.Native.Nat.{_≤_, _<_};
 ghost use lib.ListN.{length};
+ghost use Rattle.model.specs.Limits.{«kind-factor», «sheet-room»};
 ghost use Rattle.theory.specs.Spans.{arity, span, «child-at»};
 
 // The number of children that a node announces.
 pub fn arity_of(x: usize) -> usize
-    ensures { λ r. ⌜ (r ≡ arity x) × (r ≤ 4095) ⌝ }
+    ensures { λ r. ⌜ (r ≡ arity x) × (r < «kind-factor») ⌝ }
 {
     if nodes::is_literal(x) {
         return 0;
     }
-    nodes::value_of(x)
+    nodes::children_of(x)
 }
 
 // The number of nodes of the first so many trees: each node settles one tree that was pending and announces its children.
 pub fn span_of(s: &[u16], trees: usize) -> usize
-    requires { ⌜ (length (now s) ≤ 4096) × (trees ≤ 4096) ⌝ }
+    requires { ⌜ (length (now s) ≤ «sheet-room») × (trees ≤ «sheet-room») ⌝ }
     ensures { λ r. ⌜ (r ≡ span trees (now (s .entry))) × (r ≤ length (now (s .entry))) ⌝ }
 {
     let mut pending = trees;
@@ -30,7 +31,7 @@ pub fn span_of(s: &[u16], trees: usize) -> usize
 
 // The place of child i of the group that a stretch begins with.
 pub fn child_at(s: &[u16], i: usize) -> usize
-    requires { ⌜ (1 ≤ length (now s)) × (length (now s) ≤ 4096) × (i ≤ 4096) ⌝ }
+    requires { ⌜ (1 ≤ length (now s)) × (length (now s) ≤ «sheet-room») × (i ≤ «sheet-room») ⌝ }
     ensures { λ r. ⌜ (r ≡ «child-at» i (now (s .entry))) × (r ≤ length (now (s .entry))) ⌝ }
 {
     1 + span_of(&s[1..], i)

@@ -13,14 +13,15 @@ use lib.Dec.{eqb}
 use lib.ListN.{length, getD, take, drop, length-append, length-map, take-append-drop}
 use lib.Seq.{slice, take-at, drop-at, getD-at, drop-cons, drop-append-le, length-take-le, length-slice, getD-take}
 use Rattle.model.specs.Base.{pick, any, is-some, then, only-if}
+use Rattle.model.specs.Limits.{kind-factor}
 use Rattle.model.specs.Literal.{Literal, pos, neg, option, complement, same}
-use Rattle.model.specs.Forest.{Conn, Forest, nil, lit, node, _⊕_, size, first, after, literal-at, mentions}
-use Rattle.model.specs.Code.{leaf, head, encode, number, conn-kind, number-of}
+use Rattle.model.specs.Forest.{Conn, or, root, Forest, nil, lit, node, _⊕_, size, first, after, literal-at, mentions}
+use Rattle.model.specs.Code.{leaf, head, encode, number, conn-kind, conn-value, number-of}
 use Rattle.model.specs.Rules.{Row, spreads, table, row-of, neutral, deciding, assigned, spread, change, rewrite}
 use Rattle.theory.specs.Logic.{some-inj, is-some-of, is-some-only, is-some-first, pick-true, pick-false, only-some, then-some}
 use Rattle.theory.specs.Lists.{any-append}
 use Rattle.theory.specs.Literals.{option-complement}
-use Rattle.theory.specs.Forests.{⊕-nil, first-after, first-⊕, size-⊕, literal-here, assigned-lit, size-after}
+use Rattle.theory.specs.Forests.{conn-of-kind, ⊕-nil, first-after, first-⊕, size-⊕, literal-here, assigned-lit, size-after}
 use Rattle.theory.specs.Codes.{encode-⊕, size-length}
 use Rattle.theory.specs.Numbers.{amount, fits}
 use Rattle.theory.specs.Leaves.{leaf-literal, leaf-value, leaf-test, head-inner, head-unlike}
@@ -194,7 +195,7 @@ module _ {l : List ℕ} {c : Conn} {k f : Forest} {z : ℕ} (g : Group l c k f z
   fit-rest : (fits (leaf x) ≡ true) × Fits behind
   fit-rest = fits-lit x behind (rw stands at (fits-⊕ (after i k) f (child-fits g i (omega (arith, literal-within)) .1) .0))
 
-  cut : l ≡ number (conn-kind c) (size k) ∷ (code before ++ number-of (leaf x) ∷ (code behind ++ spell f z))
+  cut : l ≡ number-of (head c (size k)) ∷ (code before ++ number-of (leaf x) ∷ (code behind ++ spell f z))
   unfolding encode
   cut =
       let there : spell (after i k ⊕ f) z ≡ number-of (leaf x) ∷ (code behind ++ spell f z) = ap (λ t. spell (t ⊕ f) z) stands ∙ spell-⊕ (lit x behind) f z in
@@ -214,7 +215,7 @@ module _ {l : List ℕ} {c : Conn} {k f : Forest} {z : ℕ} (g : Group l c k f z
   cut-mentions : spreads-from (child-at i l) (child-at (size k) l) l ≡ (mentions (option x) before || mentions (option x) behind)
   unfolding spreads-from
   cut-mentions =
-      let h = number (conn-kind c) (size k) in
+      let h = number-of (head c (size k)) in
       let n = number-of (leaf x) in
       rw (cut-number, part-left h n (code before) (code behind) (spell f z) cut cut-place cut-end, part-right h n (code before) (code behind) (spell f z) cut cut-place cut-end, leaf-literal x (fit-rest .0), leaf-value x (fit-rest .0), mentions-code (option x) before fit-before, mentions-code (option x) behind (fit-rest .1))
 
@@ -226,8 +227,8 @@ module _ {l : List ℕ} {c : Conn} {k f : Forest} {z : ℕ} (g : Group l c k f z
       let q = assigned c x behind in
       let same-size : size k ≡ size (p ⊕ lit x q) =
       omega (arith, size-⊕ p (lit x q), size-⊕ before (lit x behind), ap size parts, size-assigned c x before, size-assigned c x behind) in
-      part-around (placed c x) (number (conn-kind c) (size k)) n (code before) (code behind) (spell f z) cut cut-place cut-end
-      ∙ rw (assigned-code c x (fit-rest .0) before fit-before, assigned-code c x (fit-rest .0) behind (fit-rest .1), same-size) (ap (λ t. number (conn-kind c) (size (p ⊕ lit x q)) ∷ (code p ++ t)) (sym (spell-⊕ (lit x q) f z)))
+      part-around (placed c x) (number-of (head c (size k))) n (code before) (code behind) (spell f z) cut cut-place cut-end
+      ∙ rw (assigned-code c x (fit-rest .0) before fit-before, assigned-code c x (fit-rest .0) behind (fit-rest .1), same-size) (ap (λ t. number-of (head c (size (p ⊕ lit x q))) ∷ (code p ++ t)) (sym (spell-⊕ (lit x q) f z)))
       ∙ sym (spell-parts c p (lit x q) f z)
 
 -- What rules 9 and 10 ask of a group's children.
@@ -253,12 +254,12 @@ spread-asked {l} {c} {k} g i h = go (literal-at (after i k)) refl
 
 -- The test, on the numbers.
 module _ {r : ℕ} {l : List ℕ} (s : Stretch l) (h : Headed r l) (i j : ℕ) (lo : 9 ≤ r) (hi : r ≤ 10) where
-  asks-spread : is-some (rewrite r i j (forest-in l)) ≡ is-some (spread (h .row .conn) i j (h .children))
+  asks-spread : is-some (rewrite r i j (forest-in l)) ≡ is-some (spread (h .conn) i j (h .children))
   unfolding change
   asks-spread = family-asks h i j ∙ rw (spread-family r lo hi)
 
   pub asks-none : (j ≡ 0 → ⊥) → false ≡ is-some (rewrite r i j (forest-in l))
-  asks-none n = sym (asks-spread ∙ no-second (h .row .conn) i j (h .children) n)
+  asks-none n = sym (asks-spread ∙ no-second (h .conn) i j (h .children) n)
 
   pub asks-around : j ≡ 0 → i < size (h .children) → spreads-from (child-at i l) (child-at (size (h .children)) l) l ≡ is-some (rewrite r i j (forest-in l))
   asks-around e n = sym (asks-spread ∙ rw e (spread-asked (headed-group s h) i n))
@@ -266,18 +267,21 @@ module _ {r : ℕ} {l : List ℕ} (s : Stretch l) (h : Headed r l) (i j : ℕ) (
 -- The numbers that the code puts for a literal and its complement.
 opposite-number : (x : Literal) → fits (leaf x) ≡ true → opposite (number-of (leaf x)) ≡ number-of (leaf (complement x))
 unfolding opposite number-of number complement fits amount option
-opposite-number (pos v) h = let small = ltb-true v 4096 h in pick-true _ _ _ (lt-ltb (4096 + v) 8192 (omega arith)) ∙ omega arith
-opposite-number (neg v) h = pick-false _ _ _ (le-ltb (2 * 4096 + v) 8192 (omega arith)) ∙ omega arith
+opposite-number (pos v) h = let small = ltb-true v kind-factor h in pick-true _ _ _ (lt-ltb (kind-factor + v) (2 * kind-factor) (omega arith)) ∙ omega arith
+opposite-number (neg v) h = pick-false _ _ _ (le-ltb (2 * kind-factor + v) (2 * kind-factor) (omega arith)) ∙ omega arith
 
-abbrev Put : ℕ → Row → Type 0
-Put r w = (empty (eqb r 9) ≡ number-of (head (neutral (w .conn)) 0)) × (empty (not (eqb r 9)) ≡ number-of (head (deciding (w .conn)) 0))
+abbrev Put : ℕ → Conn → Type 0
+Put r c = (empty (eqb r 9) ≡ number-of (head (neutral c) 0)) × (empty (not (eqb r 9)) ≡ number-of (head (deciding c) 0))
 
-empty-groups : (r : ℕ) {w : Row} → 9 ≤ r → r ≤ 10 → row-of r ≡ some w → Put r w
-unfolding row-of table empty pick neutral deciding number-of number conn-kind
-empty-groups r {w} lo hi e =
+empty-groups : (r : ℕ) {w : Row} (c : Conn) → 9 ≤ r → r ≤ 10 → row-of r ≡ some w → w .kind ≡ conn-kind c → Put r c
+unfolding row-of table empty pick neutral deciding number-of number conn-kind conn-value
+empty-groups r {w} c lo hi e k =
     ⊎-elim
-    (λ q. subst (λ n. Put n w) q (subst (Put 9) (some-inj (ap row-of q ∙ e)) (refl, refl)))
-    (λ q. let t : 10 ≡ r = omega arith in subst (λ n. Put n w) t (subst (Put 10) (some-inj (ap row-of t ∙ e)) (refl, refl)))
+    (λ q. let same : or ≡ c = conn-of-kind or c (ap (λ v. v .kind) (some-inj (ap row-of q ∙ e)) ∙ k) in
+    subst (λ n. Put n c) q (subst (Put 9) same (refl, refl)))
+    (λ q. let t : 10 ≡ r = omega arith in
+    let same : root ≡ c = conn-of-kind root c (ap (λ v. v .kind) (some-inj (ap row-of t ∙ e)) ∙ k) in
+    subst (λ n. Put n c) t (subst (Put 10) same (refl, refl)))
     (eq-or-lt-of-le lo)
 
 -- The step, on the numbers.
@@ -292,9 +296,9 @@ module _ {r : ℕ} {l : List ℕ} (s : Stretch l) (h : Headed r l) (i j : ℕ) (
   unfolding assign change spread _⊕_
   turns-spread n e =
       let g = headed-group s h in
-      let c = h .row .conn in
+      let c = h .conn in
       let k = h .children in
-      let put = empty-groups r lo hi (h .its-row) in
+      let put = empty-groups r c lo hi (h .its-row) (h .its-kind) in
       family-turn h i j (h .zeros) t
       (λ new w. let o = then-some (literal-at (after i k)) _ (rw (spread-family r lo hi) at w) in
       let x = o .0 in

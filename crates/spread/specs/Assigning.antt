@@ -1,11 +1,12 @@
 -- What the numbers of trees become where a literal is assigned.
 use mathlib.Core.Bool.{Bool, _&&_, _||_, not}
 use mathlib.Core.List.{List, _∷_, _++_, map}
-use Prim.Native.Nat.{ℕ, _+_, _-_}
+use Prim.Native.Nat.{ℕ, _+_, _-_, _*_}
 use lib.Dec.{eqb, ltb}
 use lib.ListN.{getD, take, drop}
 use lib.Seq.{slice}
 use Rattle.model.specs.Base.{pick, any}
+use Rattle.model.specs.Limits.{kind-factor}
 use Rattle.model.specs.Code.{value}
 use Rattle.theory.specs.Scan.{is-literal}
 use Rattle.shifts.specs.Replaced.{replaced}
@@ -22,7 +23,7 @@ spreads-from a b l =
 
 -- The number of a literal's complement.
 unfoldable pub opposite : ℕ → ℕ
-opposite x = pick (ltb x 8192) (x + 4096) (x - 4096)
+opposite x = pick (ltb x (2 * kind-factor)) (x + kind-factor) (x - kind-factor)
 
 -- The number of an empty group: a disjunction where the test holds, and else a conjunction.
 unfoldable pub empty : Bool → ℕ

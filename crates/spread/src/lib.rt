@@ -5,12 +5,13 @@ ghost use Prim.Native.Nat.{_≤_, _<_};
 ghost use lib.ListN.{length, getD};
 ghost use lib.Seq.{slice};
 ghost use Rattle.model.specs.Base.{any, «is-some»};
-ghost use Rattle.model.specs.Code.{value};
+ghost use Rattle.model.specs.Code.{children};
 ghost use Rattle.model.specs.Rules.{rewrite};
 ghost use Rattle.theory.specs.Spans.{«child-at»};
 ghost use Rattle.theory.specs.Stretches.{Stretch, «forest-in»};
 ghost use Rattle.theory.specs.Heads.{Headed, «rewritten-to»};
 ghost use Rattle.spread.specs.Assigning.{names, «spreads-from», opposite, empty, assign, around};
+use limits::KIND_FACTOR_16;
 
 // The number is a literal of the option.
 fn is_of(x: u16, option: usize) -> bool
@@ -54,28 +55,31 @@ pub fn asks(part: &[u16], rule: usize, i: usize, j: usize, at: usize) -> bool
     requires { ⌜ (9 ≤ rule) × (rule ≤ 10) ⌝ }
     requires { ⌜ Stretch (now part) ⌝ }
     requires { ⌜ Headed rule (now part) ⌝ }
-    requires { ⌜ (i < value (getD (now part) 0 0)) × (at ≡ «child-at» i (now part)) ⌝ }
+    requires { ⌜ (i < children (getD (now part) 0 0)) × (at ≡ «child-at» i (now part)) ⌝ }
     ensures { λ r. ⌜ r ≡ «is-some» (rewrite rule i j («forest-in» (now (part .entry)))) ⌝ }
 {
     if j != 0 {
         return false;
     }
-    let k = nodes::value_of(numbers::wide16(part[0]));
+    let k = nodes::children_of(numbers::wide16(part[0]));
     let end = spans::child_at(part, k);
     occurs_around(part, at, end)
 }
+
+// Kind 2 begins here: the barred literals, after the plain ones of kind 1.
+const FIRST_BARRED: u16 = 2 * KIND_FACTOR_16;
 
 // The number of a literal's complement.
 fn opposite_of(x: u16) -> u16
     ensures { λ r. ⌜ r ≡ opposite x ⌝ }
 {
-    if x < 8192 {
-        return x + 4096;
+    if x < FIRST_BARRED {
+        return x + KIND_FACTOR_16;
     }
-    x - 4096
+    x - KIND_FACTOR_16
 }
 
-// The number of an empty group.
+// The number of an empty group: a disjunction is of kind 4, a conjunction of kind 3.
 fn empty_group(disjunction: bool) -> u16
     ensures { λ r. ⌜ r ≡ empty disjunction ⌝ }
 {
@@ -107,7 +111,7 @@ pub fn turn(part: &mut [u16], rule: usize, i: usize, j: usize)
     requires { ⌜ «is-some» (rewrite rule i j («forest-in» (now part))) ≡ true ⌝ }
     ensures { λ r. ⌜ now (part .exit) ≡ «rewritten-to» rule i j (now (part .entry)) ⌝ }
 {
-    let k = nodes::value_of(numbers::wide16(part[0]));
+    let k = nodes::children_of(numbers::wide16(part[0]));
     let at = spans::child_at(part, i);
     let end = spans::child_at(part, k);
     assign_around(part, at, end, rule == 9);

@@ -1,166 +1,40 @@
--- A step on a lent stretch as a step on the sheet, and the answers of the call.
-use mathlib.Core.Bool.{Bool, true, false, _&&_}
-use mathlib.Core.List.{List, [], _∷_, _++_, map, map-append, append-assoc}
-use mathlib.Core.Option.{some}
-use mathlib.Core.Path.{_≡_, sym, ap, ap₂, _∙_}
-use Prim.Native.Nat.{ℕ, suc, _+_, _-_, _≤_, _<_}
-use native.Mathlib.Omega.{arith}
-use borrow.Rule.Slice.PartMut.{midOf, putMid}
-use lib.Dec.{eqb, leb}
-use lib.ListN.{length, take, drop, set, replicate, length-append, length-map, length-drop}
-use lib.Seq.{length-take-le}
-use Rattle.lists.proofs.Lent.{lent-part, lent-back}
-use Rattle.model.specs.Base.{pick, is-some, maybe, then, only-if, first-of}
-use Rattle.model.specs.Forest.{Forest}
-use Rattle.model.specs.Code.{encode, decode, number-of}
-use Rattle.model.specs.Rules as M
-use Rattle.model.specs.Rules.{rewrite}
-use Rattle.model.specs.Sheet.{options-in, used-in, nodes-in, is-sheet, sheet-of}
-use Rattle.model.specs.Book.{characters}
-use Rattle.model.specs.Calls.{refused, accepted, sheet-refused, rule-refused, step-refused, outcome, stepOf}
-use Rattle.answers.specs.Meaning.{afterCall}
-use Rattle.theory.specs.Logic.{is-some-of, is-some-then, fails-if}
-use Rattle.theory.specs.Bounds.{step-within}
-use Rattle.theory.specs.Inversion.{step-some}
-use Rattle.theory.specs.Flat.{spell}
-use Rattle.theory.specs.Shape.{shaped-trees}
-use Rattle.theory.specs.Sheets.{sheet-facts}
-use Rattle.theory.specs.Stretches.{Stretch, forest-in, spell-to, live, live-numbers, sheet-stretch}
-use Rattle.theory.specs.Places.{lend, place-used, before-place}
-use Rattle.theory.specs.Heads.{Headed, rewritten-to}
-use Rattle.locality.specs.Families.{level-length}
-use Rattle.heads.proofs.Laws.{applied-headed}
-use Rattle.steps.specs.Results.{stepped}
-
-module _ (s : List ℕ) (h : is-sheet s ≡ true) where
-  -- The stretch as a step leaves it, after the numbers before its place.
-  turned-numbers : (r p i j : ℕ) {g : Forest} → p < used-in s → rewrite r i j (decode (drop p (nodes-in s))) ≡ some g → let ms = take p (nodes-in s) ++ encode g in take (2 + p) s ++ rewritten-to r i j (drop (2 + p) s) ≡ options-in s ∷ used-in s ∷ (map number-of ms ++ replicate (4096 - length ms) 0)
-  unfolding rewritten-to spell-to spell maybe
-  turned-numbers r p i j {g} lt e =
-      let facts = sheet-facts s h in
-      let ns = nodes-in s in
-      let ms = take p ns ++ encode g in
-      let l = drop (2 + p) s in
-      let there : rewrite r i j (forest-in l) ≡ some g = ap (rewrite r i j) (sheet-stretch s p h (omega arith) .1) ∙ e in
-      let left : length l - length (encode g) ≡ 4096 - length ms =
-      omega (arith, length-drop (2 + p) s, facts .whole, length-append (take p ns) (encode g), length-take-le p ns (omega (arith, facts .count))) in
-      let part : rewritten-to r i j l ≡ map number-of (encode g) ++ replicate (4096 - length ms) 0 =
-      ap (maybe l (spell-to (length l))) there ∙ ap (λ z. map number-of (encode g) ++ replicate z 0) left in
-      let joined : map number-of (take p ns) ++ (map number-of (encode g) ++ replicate (4096 - length ms) 0) ≡ map number-of ms ++ replicate (4096 - length ms) 0 =
-      sym (append-assoc (map number-of (take p ns)) (map number-of (encode g)) (replicate (4096 - length ms) 0)) ∙ ap (λ xs. xs ++ replicate (4096 - length ms) 0) (sym (map-append number-of (take p ns) (encode g))) in
-      ap₂ _++_ (before-place s h p (omega arith)) part
-      ∙ ap (λ xs. options-in s ∷ used-in s ∷ xs) joined
-
-  -- With the new used count it is the sheet that the step leaves.
-  pub turned-sheet : (r p i j : ℕ) → is-some (M.step r p i j (nodes-in s)) ≡ true → let new = take (2 + p) s ++ rewritten-to r i j (drop (2 + p) s) in set new 1 (length (live (drop 2 new))) ≡ stepped s r p i j
-  unfolding stepped maybe sheet-of then M.step
-  turned-sheet r p i j t =
-      let ns = nodes-in s in
-      let w = is-some-of (rewrite r i j (decode (drop p ns))) (sym (is-some-then (rewrite r i j (decode (drop p ns))) (λ f. take p ns ++ encode f)) ∙ t) in
-      let ms = take p ns ++ encode (w .0) in
-      let z = 4096 - length ms in
-      let count : length (live (map number-of ms ++ replicate z 0)) ≡ length ms = ap length (live-numbers ms z) ∙ length-map ms number-of in
-      ap (λ new. set new 1 (length (live (drop 2 new)))) (turned-numbers r p i j (place-used s h r p i j t) (w .1))
-      ∙ ap (λ u. options-in s ∷ u ∷ (map number-of ms ++ replicate z 0)) count
-      ∙ ap (λ o. sheet-of (options-in s) (maybe ns (λ xs. xs) o)) (sym (step-some r p i j ns (w .1)))
-
-  -- A step that keeps the number of nodes leaves the used count right.
-  pub turned-level : (r p i j : ℕ) → is-some (M.step r p i j (nodes-in s)) ≡ true → 9 ≤ r → r ≤ 12 → take (2 + p) s ++ rewritten-to r i j (drop (2 + p) s) ≡ stepped s r p i j
-  unfolding stepped maybe sheet-of then M.step
-  turned-level r p i j t low high =
-      let ns = nodes-in s in
-      let facts = sheet-facts s h in
-      let w = is-some-of (rewrite r i j (decode (drop p ns))) (sym (is-some-then (rewrite r i j (decode (drop p ns))) (λ f. take p ns ++ encode f)) ∙ t) in
-      let ms = take p ns ++ encode (w .0) in
-      let did = step-some r p i j ns (w .1) in
-      let count : used-in s ≡ length ms = sym (facts .count) ∙ sym (level-length r p i j ns (shaped-trees (facts .shaped)) did low high) in
-      turned-numbers r p i j (place-used s h r p i j t) (w .1)
-      ∙ ap (λ u. options-in s ∷ u ∷ (map number-of ms ++ replicate (4096 - length ms) 0)) count
-      ∙ ap (λ o. sheet-of (options-in s) (maybe ns (λ xs. xs) o)) (sym did)
-
-pub live-short : (l : List ℕ) → length (live l) ≤ length l
-unfolding characters pick
-live-short [] = omega arith
-live-short (x ∷ l) = shorter (eqb x 0) (live-short l)
-  where
-    shorter : (b : Bool) → length (live l) ≤ length l → length (pick b [] (x ∷ live l)) ≤ suc (length l)
-    shorter true h = omega arith
-    shorter false h = omega arith
-
--- What is known of a step that applies: its rule, the sheet's length, and the stretch that is lent.
-pub record Ready (s : List ℕ) (r p i j : ℕ) : Type 0 where
-  pub low : 1 ≤ r
-  pub high : r ≤ 14
-  pub whole : length s ≡ 4098
-  pub within : p < 4096
-  pub part : List ℕ
-  pub lent : midOf (2 + p) (length s - (2 + p)) s ≡ part
-  pub stretch : Stretch part
-  pub head : Headed r part
-  pub applied : is-some (rewrite r i j (forest-in part)) ≡ true
-
-module _ (s : List ℕ) (h : is-sheet s ≡ true) (r p i j : ℕ) (t : is-some (M.step r p i j (nodes-in s)) ≡ true) where
-  pub ready : Ready s r p i j
-  ready =
-      let w = is-some-of (M.step r p i j (nodes-in s)) t in
-      let there = step-within r p i j (nodes-in s) (w .1) .1 in
-      let l = lend s h p (place-used s h r p i j t) in
-      let applied = sym (l .asked r i j) ∙ t in
-      record {
-        low = there .rule-low;
-        high = there .rule-high;
-        whole = l .whole;
-        within = l .within;
-        part = drop (2 + p) s;
-        lent = lent-part (2 + p) s;
-        stretch = l .stretch;
-        head = applied-headed r i j (l .stretch) applied;
-        applied = applied;
-      }
-
-  -- The stretch comes back rewritten, as long as it was.
-  module _ {ys : List ℕ} (e : ys ≡ rewritten-to r i j (midOf (2 + p) (length s - (2 + p)) s)) where
-    back : putMid (2 + p) (length s - (2 + p)) s ys ≡ take (2 + p) s ++ rewritten-to r i j (drop (2 + p) s)
-    back =
-        lent-back (2 + p) s ys (omega (arith, ready .whole, ready .within))
-        ∙ ap (λ xs. take (2 + p) s ++ xs) (e ∙ ap (rewritten-to r i j) (lent-part (2 + p) s))
-
-    pub back-long : length ys ≡ length (midOf (2 + p) (length s - (2 + p)) s) → length (putMid (2 + p) (length s - (2 + p)) s ys) ≡ 4098
-    back-long n =
-        let long : length ys ≡ length s - (2 + p) = n ∙ ap length (lent-part (2 + p) s) ∙ length-drop (2 + p) s in
-        let all = lent-back (2 + p) s ys (omega (arith, ready .whole, ready .within)) in
-        omega (arith, ap length all, length-append (take (2 + p) s) ys, length-take-le (2 + p) s (omega (arith, ready .whole, ready .within)), ready .whole, ready .within)
-
-    -- With its live numbers counted it is the sheet that the step leaves.
-    pub back-sheet : let new = putMid (2 + p) (length s - (2 + p)) s ys in set new 1 (length (live (midOf 2 (length new - 2) new))) ≡ stepped s r p i j
-    back-sheet =
-        let new = putMid (2 + p) (length s - (2 + p)) s ys in
-        ap (λ xs. set new 1 (length (live xs))) (lent-part 2 new)
-        ∙ ap (λ xs. set xs 1 (length (live (drop 2 xs)))) back
-        ∙ turned-sheet s h r p i j t
-
-    -- Where the step keeps the number of nodes it is that as it is.
-    pub back-level : 9 ≤ r → r ≤ 12 → putMid (2 + p) (length s - (2 + p)) s ys ≡ stepped s r p i j
-    back-level low up = back ∙ turned-level s h r p i j t low up
-
 -- The answers of a step, in the order of its tests.
+use mathlib.Core.Bool.{true, false}
+use mathlib.Core.List.{List}
+use mathlib.Core.Path.{_≡_}
+use Prim.Native.Nat.{ℕ, _≤_}
+use native.Mathlib.Omega.{arith}
+use Rattle.model.specs.Base.{only-if, first-of}
+use Rattle.model.specs.Rules.{is-rule}
+use Rattle.model.specs.Sheet.{used-in, is-sheet}
+use Rattle.model.specs.Results.{stepped}
+use Rattle.calls.specs.Refusals.{sheet-refused, rule-refused, step-refused}
+use Rattle.calls.specs.Outcomes.{refused, accepted, outcome}
+use Rattle.calls.specs.Conditions.{applies}
+use Rattle.calls.specs.Chains.{step-refusal}
+use Rattle.calls.specs.Calls.{stepOf}
+use Rattle.answers.specs.Meaning.{afterCall}
+use Rattle.theory.specs.Logic.{fails-if}
+use Rattle.theory.specs.Places.{place-used}
+use Rattle.theory.specs.Sheets.{sheet-formed}
+
 module _ (s : List ℕ) (r p i j : ℕ) where
   pub no-sheet : is-sheet s ≡ false → afterCall (refused sheet-refused) s ≡ stepOf s r p i j
-  unfolding stepOf outcome first-of only-if
+  unfolding stepOf step-refusal outcome first-of only-if
   no-sheet h = rw h
 
-  pub no-rule : is-sheet s ≡ true → (leb 1 r && leb r 14) ≡ false → afterCall (refused rule-refused) s ≡ stepOf s r p i j
-  unfolding stepOf outcome first-of only-if
+  pub no-rule : is-sheet s ≡ true → is-rule r ≡ false → afterCall (refused rule-refused) s ≡ stepOf s r p i j
+  unfolding stepOf step-refusal outcome first-of only-if
   no-rule h bad = rw (h, bad)
 
-  module _ (h : is-sheet s ≡ true) (rule : (leb 1 r && leb r 14) ≡ true) where
-    pub no-step : is-some (M.step r p i j (nodes-in s)) ≡ false → afterCall (refused step-refused) s ≡ stepOf s r p i j
-    unfolding stepOf outcome first-of only-if
+  module _ (h : is-sheet s ≡ true) (rule : is-rule r ≡ true) where
+    pub no-step : applies s r p i j ≡ false → afterCall (refused step-refused) s ≡ stepOf s r p i j
+    unfolding stepOf step-refusal outcome first-of only-if
     no-step e = rw (h, rule, e)
 
     pub no-place : used-in s ≤ p → afterCall (refused step-refused) s ≡ stepOf s r p i j
-    no-place past = no-step (fails-if (is-some (M.step r p i j (nodes-in s))) (λ t. let l = place-used s h r p i j t in omega arith))
+    no-place past = no-step (fails-if (applies s r p i j) (λ t. let l = place-used s (sheet-formed s h) r p i j t in omega arith))
 
-    pub accepted-step : is-some (M.step r p i j (nodes-in s)) ≡ true → afterCall (accepted tt) (stepped s r p i j) ≡ stepOf s r p i j
-    unfolding stepOf outcome first-of only-if stepped
+    pub accepted-step : applies s r p i j ≡ true → afterCall (accepted tt) (stepped s r p i j) ≡ stepOf s r p i j
+    unfolding stepOf step-refusal outcome first-of only-if
     accepted-step e = rw (h, rule, e)

@@ -12,19 +12,20 @@ use lib.Dec.{eqb}
 use lib.ListN.{length, getD, take, drop, set, replicate, length-append, length-map, length-replicate, replicate-append-replicate}
 use lib.Seq.{take-at, drop-at, getD-at, getD-drop, drop-drop}
 use Rattle.model.specs.Base.{all, maybe, is-some, then}
+use Rattle.model.specs.Limits.{kind-factor, sheet-room}
 use Rattle.model.specs.Literal.{pos, neg, option}
 use Rattle.model.specs.Forest.{Conn, and, or, root, same-conn, Forest, nil, lit, node, _⊕_, size, first, after, literal-at, conjunction-at, constant-at}
-use Rattle.model.specs.Code.{Node, encode, kind, value, number, conn-kind, number-of}
+use Rattle.model.specs.Code.{Node, head, encode, kind, children, number, conn-kind, conn-value, number-of}
 use Rattle.model.specs.Rules.{change, rewrite}
 use Rattle.theory.specs.Logic.{is-some-then, and-split, and-join, same-test}
-use Rattle.theory.specs.Forests.{same-conn-is, same-conn-self, ⊕-assoc, node-⊕, first-after, size-first, size-after, size-⊕}
+use Rattle.theory.specs.Forests.{conn-of-kind, same-conn-is, same-conn-self, ⊕-assoc, node-⊕, first-after, size-first, size-after, size-⊕}
 use Rattle.theory.specs.Codes.{size-length}
-use Rattle.theory.specs.Numbers.{fits, amount, kind-number}
+use Rattle.theory.specs.Numbers.{fits, amount, kind-number, head-number, head-few, head-kind}
 use Rattle.theory.specs.Scan.{is-literal}
 use Rattle.theory.specs.Spans.{span, child-at}
 use Rattle.theory.specs.Flat.{spell, spell-⊕, spell-node, Fits, fits-⊕, fits-tree}
 use Rattle.theory.specs.Stretches.{Stretch, forest-in, spell-to}
-use Rattle.theory.specs.Heads.{Headed, headed-rewrite, rewritten-to, conn-of-kind, conn-kind-bounds, first-node, child-start}
+use Rattle.theory.specs.Heads.{Headed, headed-rewrite, rewritten-to, conn-kind-bounds, first-node, child-start}
 
 -- Numbers that go: those after them move up, and zeros follow. A number that moves to before others.
 pub removed-at : (p m q s : List ℕ) (start count : ℕ) → s ≡ p ++ (m ++ q) → length p ≡ start → length m ≡ count → take start s ++ (drop (start + count) s ++ replicate count 0) ≡ p ++ (q ++ replicate count 0)
@@ -69,11 +70,10 @@ unfolding spell-to
 spell-fills f z n e = let left : z ≡ n - length (encode f) = omega (arith, spell-length f z) in ap (spell f) left
 
 -- A group with its children in two parts.
-pub spell-parts : (c : Conn) (p q f : Forest) (z : ℕ) → spell (node c (p ⊕ q) f) z ≡ number (conn-kind c) (size (p ⊕ q)) ∷ (code p ++ spell (q ⊕ f) z)
-unfolding number-of
+pub spell-parts : (c : Conn) (p q f : Forest) (z : ℕ) → spell (node c (p ⊕ q) f) z ≡ number-of (head c (size (p ⊕ q))) ∷ (code p ++ spell (q ⊕ f) z)
 spell-parts c p q f z =
     spell-node c (p ⊕ q) f z
-    ∙ ap (λ t. number (conn-kind c) (size (p ⊕ q)) ∷ t) (ap (λ g. spell g z) (⊕-assoc p q f) ∙ spell-⊕ p (q ⊕ f) z)
+    ∙ ap (λ t. number-of (head c (size (p ⊕ q))) ∷ t) (ap (λ g. spell g z) (⊕-assoc p q f) ∙ spell-⊕ p (q ⊕ f) z)
 
 -- What the first number of a list says of the first tree that it spells.
 module _ (z : ℕ) (f : Forest) where
@@ -82,16 +82,16 @@ module _ (z : ℕ) (f : Forest) where
   fit-first x ns h = and-split (fits x) (all fits ns) h .0
 
   first-constant : (d : Conn) (g : Forest) → 1 ≤ size g → Fits (g ⊕ f) → eqb (getD (spell (g ⊕ f) z) 0 0) (number (conn-kind d) 0) ≡ constant-at d g
-  unfolding constant-at spell encode _⊕_ size number-of number fits amount option
+  unfolding constant-at spell encode _⊕_ size number-of number fits amount option conn-value
   first-constant d nil n h = absurd (omega arith)
   first-constant d (lit (pos v) g) n h =
-      let small = ltb-true v 4096 (fit-first _ _ h) in
+      let small = ltb-true v kind-factor (fit-first _ _ h) in
       ne-eqb (number 1 v) (number (conn-kind d) 0) (λ e. omega (arith, conn-kind-bounds d))
   first-constant d (lit (neg v) g) n h =
-      let small = ltb-true v 4096 (fit-first _ _ h) in
+      let small = ltb-true v kind-factor (fit-first _ _ h) in
       ne-eqb (number 2 v) (number (conn-kind d) 0) (λ e. omega (arith, conn-kind-bounds d))
   first-constant d (node c k g) n h =
-      let small = ltb-true (size k) 4096 (fit-first _ _ h) in
+      let small = head-few c (size k) (fit-first _ _ h) in
       same-test (eqb (number (conn-kind c) (size k)) (number (conn-kind d) 0)) (same-conn d c && eqb (size k) 0)
       (λ e. let q = eqb-true (number (conn-kind c) (size k)) (number (conn-kind d) 0) e in
       and-join (sym (ap (same-conn d) (conn-of-kind d c (omega arith))) ∙ same-conn-self d) (eq-eqb (size k) 0 (omega arith)))
@@ -103,16 +103,16 @@ module _ (z : ℕ) (f : Forest) where
   first-kind nil n h = absurd (omega arith)
   first-kind (lit (pos v) g) n h = rw (kind-number 1 v (fit-first _ _ h)) (refl, refl)
   first-kind (lit (neg v) g) n h = rw (kind-number 2 v (fit-first _ _ h)) (refl, refl)
-  first-kind (node and k g) n h = rw (kind-number 3 (size k) (fit-first _ _ h)) (refl, refl)
-  first-kind (node or k g) n h = rw (kind-number 4 (size k) (fit-first _ _ h)) (refl, refl)
-  first-kind (node root k g) n h = rw (kind-number 5 (size k) (fit-first _ _ h)) (refl, refl)
+  first-kind (node and k g) n h = rw (head-kind and (size k) (fit-first _ _ h)) (refl, refl)
+  first-kind (node or k g) n h = rw (head-kind or (size k) (fit-first _ _ h)) (refl, refl)
+  first-kind (node root k g) n h = rw (head-kind root (size k) (fit-first _ _ h)) (refl, refl)
 
 -- A list that spells a group, trees after it, and zeros.
 pub record Group (l : List ℕ) (c : Conn) (k f : Forest) (z : ℕ) : Type 0 where
   pub spelled : l ≡ spell (node c k f) z
   pub fitting : Fits (node c k f)
 
-pub headed-group : {r : ℕ} {l : List ℕ} → Stretch l → (h : Headed r l) → Group l (h .row .conn) (h .children) (h .rest) (h .zeros)
+pub headed-group : {r : ℕ} {l : List ℕ} → Stretch l → (h : Headed r l) → Group l (h .conn) (h .children) (h .rest) (h .zeros)
 headed-group s h = record { spelled = h .spelled; fitting = rw (h .forest) at (s .fitting) }
 
 -- A child that is there has an index below the number of children.
@@ -122,24 +122,22 @@ child-within i k e = omega (arith, size-after i k, ap size e)
 
 -- A group's head and its first i children.
 abbrev pub opening : Conn → Forest → ℕ → List ℕ
-opening c k i = number (conn-kind c) (size k) ∷ code (first i k)
+opening c k i = number-of (head c (size k)) ∷ code (first i k)
 
 module _ {l : List ℕ} {c : Conn} {k f : Forest} {z : ℕ} (g : Group l c k f z) where
   -- The head: fewer than 4,096 children.
   pub group-head : getD l 0 0 ≡ number (conn-kind c) (size k)
-  unfolding number-of
-  group-head = ap (λ t. getD t 0 0) (g .spelled ∙ spell-node c k f z)
+  group-head = ap (λ t. getD t 0 0) (g .spelled ∙ spell-node c k f z) ∙ head-number c (size k)
 
-  pub group-few : size k < 4096
-  unfolding fits amount
-  group-few = ltb-true (size k) 4096 (fits-tree c k f (g .fitting) .0)
+  pub group-few : size k < kind-factor
+  group-few = head-few c (size k) (fits-tree c k f (g .fitting) .0)
 
   pub group-bounds : (12288 ≤ getD l 0 0) × (getD l 0 0 < 24576)
   unfolding number
   group-bounds = omega (arith, group-head, conn-kind-bounds c, group-few)
 
-  pub group-value : value (getD l 0 0) ≡ size k
-  group-value = ap (λ t. value (getD t 0 0)) (g .spelled) ∙ first-node c k f z (g .fitting) .1
+  pub group-children : children (getD l 0 0) ≡ size k
+  group-children = ap (λ t. children (getD t 0 0)) (g .spelled) ∙ first-node c k f z (g .fitting) .1
 
   -- What stands before child i, and from it on.
   module _ (i : ℕ) (h : i ≤ size k) where
@@ -201,35 +199,35 @@ module _ {l : List ℕ} {c : Conn} {k f : Forest} {z : ℕ} (g : Group l c k f z
 
     -- The number of its head goes, and its children take its place.
     pub child-opened : (v : ℕ) → v + 1 ≡ getD l 0 0 + size m → let a = child-at i l in take a (set l 0 v) ++ (drop (a + 1) (set l 0 v) ++ replicate 1 0) ≡ spell (node c (first i k ⊕ m ⊕ q) f) (z + 1)
-    unfolding size number number-of
+    unfolding size number
     child-opened v n =
         let p = first i k in
         let h : i ≤ size k = omega (arith, child-within i k e) in
-        let y = number (conn-kind d) (size m) in
+        let y = number-of (head d (size m)) in
         let inner = spell (m ⊕ (q ⊕ f)) z in
         let split : set l 0 v ≡ (v ∷ code p) ++ ((y ∷ []) ++ inner) =
         ap (λ t. set t 0 v) (child-split i h ∙ ap (λ t. opening c k i ++ t) (sym (child-stands i h) ∙ child-group .spelled ∙ spell-node d m (q ⊕ f) z)) in
         let left : inner ++ replicate 1 0 ≡ spell ((m ⊕ q) ⊕ f) (z + 1) = spell-zeros (m ⊕ (q ⊕ f)) z 1 ∙ ap (λ t. spell t (z + 1)) (sym (⊕-assoc m q f)) in
-        let new : v ≡ number (conn-kind c) (size (p ⊕ m ⊕ q)) =
-        omega (arith, group-head, size-after i k, ap size e, size-⊕ p (m ⊕ q), size-⊕ m q, size-first i k h) in
+        let new : v ≡ number-of (head c (size (p ⊕ m ⊕ q))) =
+        omega (arith, group-head, head-number c (size (p ⊕ m ⊕ q)), size-after i k, ap size e, size-⊕ p (m ⊕ q), size-⊕ m q, size-first i k h) in
         removed-at (v ∷ code p) (y ∷ []) inner (set l 0 v) (child-at i l) 1 split (child-place i h) refl
         ∙ ap₂ (λ x t. x ∷ (code p ++ t)) new left
         ∙ sym (spell-parts c p (m ⊕ q) f (z + 1))
 
 -- A child that the head of a stretch counts is one of its group's children, and begins within the stretch.
-pub counted-child : {r : ℕ} {l : List ℕ} → Stretch l → (h : Headed r l) → {i a : ℕ} → (i < value (getD l 0 0)) × (a ≡ child-at i l) → (i < size (h .children)) × (a < length l) × (length l ≤ 4096)
+pub counted-child : {r : ℕ} {l : List ℕ} → Stretch l → (h : Headed r l) → {i a : ℕ} → (i < children (getD l 0 0)) × (a ≡ child-at i l) → (i < size (h .children)) × (a < length l) × (length l ≤ sheet-room)
 counted-child s h {i} p =
     let g = headed-group s h in
-    let n : i < size (h .children) = omega (arith, group-value g, p .0) in
+    let n : i < size (h .children) = omega (arith, group-children g, p .0) in
     (n, omega (arith, p .1, child-room g i (omega arith)), s .short)
 
 -- What a rule does to a stretch, from what its family does to the group's children.
 module _ {r : ℕ} {l : List ℕ} (h : Headed r l) (i j : ℕ) where
-  pub headed-asks : is-some (rewrite r i j (forest-in l)) ≡ is-some (change (h .row .family) (h .row .conn) i j (h .children))
+  pub headed-asks : is-some (rewrite r i j (forest-in l)) ≡ is-some (change (h .row .family) (h .conn) i j (h .children))
   headed-asks =
-      ap is-some (headed-rewrite r h i j) ∙ is-some-then (change (h .row .family) (h .row .conn) i j (h .children)) (λ g. g ⊕ h .rest)
+      ap is-some (headed-rewrite r h i j) ∙ is-some-then (change (h .row .family) (h .conn) i j (h .children)) (λ g. g ⊕ h .rest)
 
-  pub headed-turn : {g : Forest} {out : List ℕ} (z : ℕ) → change (h .row .family) (h .row .conn) i j (h .children) ≡ some g → out ≡ spell (g ⊕ h .rest) z → length out ≡ length l → out ≡ rewritten-to r i j l
+  pub headed-turn : {g : Forest} {out : List ℕ} (z : ℕ) → change (h .row .family) (h .conn) i j (h .children) ≡ some g → out ≡ spell (g ⊕ h .rest) z → length out ≡ length l → out ≡ rewritten-to r i j l
   unfolding rewritten-to maybe then
   headed-turn {g} {out} z e shape n =
       rw (headed-rewrite r h i j, e) (shape ∙ spell-fills (g ⊕ h .rest) z (length l) (sym (ap length shape) ∙ n))

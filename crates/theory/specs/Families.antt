@@ -1,38 +1,29 @@
 -- What each family of rules does to evaluation: an equation of values a family, for every connective that it is for.
-use mathlib.Core.Bool.{Bool, true, false, _&&_, _||_, and-assoc, or-true}
-use mathlib.Core.List.{[], _∷_}
+use mathlib.Core.Bool.{Bool, true, false, _&&_, _||_, and-assoc, and-true, and-false, or-true, or-false}
+use mathlib.Core.List.{List, [], _∷_, _++_}
 use mathlib.Core.Logic.{_⊎_, inl, inr}
 use mathlib.Core.Path.{_≡_, refl, sym, ap, ap₂, _∙_}
 use native.Mathlib.Omega.{arith}
-use Rattle.model.specs.Base.{pick}
+use Rattle.model.specs.Base.{pick, all, any}
 use Rattle.model.specs.Literal.{Literal, complement, same}
 use Rattle.model.specs.Forest.{Conn, and, or, root, Forest, nil, lit, node, constant, _⊕_, size, has-unit}
 use Rattle.model.specs.Rules.{neutral, deciding, assigned, without-unit, shares, units, groups-without}
 use Rattle.theory.specs.Logic.{true-false, and-split, or-swap}
+use Rattle.theory.specs.Lists.{all-append, any-append}
 use Rattle.theory.specs.Literals.{same-is}
 use Rattle.theory.specs.Forests.{size-zero, assigned-lit}
-use Rattle.theory.specs.Evaluation.{Set, fails-empty, fails-both, fails, values}
-use Rattle.theory.specs.Values.{empty-both, both-empty, fails-⊕, conjunctive}
+use Rattle.theory.specs.Evaluation.{Set, fails-all, fails, values}
+use Rattle.theory.specs.Values.{values-⊕}
 
--- The neutral constant has the value of no child at all; the deciding one has the other value, which decides the node
--- whatever stands beside it.
-neutral-empty : (c : Conn) → fails-empty (neutral c) ≡ fails-empty c
-unfolding neutral fails-empty
-neutral-empty and = refl
-neutral-empty or = refl
-neutral-empty root = refl
+-- The deciding constant decides a group whatever stands beside it; a value leaves a group open or decides it.
+decides-group : (c : Conn) (xs ys : List Bool) → fails-all c (xs ++ fails-all (deciding c) [] ∷ ys) ≡ fails-all (deciding c) []
+unfolding fails-all deciding any all
+decides-group and xs ys = any-append (λ b. b) xs (true ∷ ys) ∙ or-true (any (λ b. b) xs)
+decides-group or xs ys = all-append (λ b. b) xs (false ∷ ys) ∙ and-false (all (λ b. b) xs)
+decides-group root xs ys = any-append (λ b. b) xs (true ∷ ys) ∙ or-true (any (λ b. b) xs)
 
-deciding-wins : (c : Conn) (x y : Bool) → fails-both c x (fails-both c (fails-empty (deciding c)) y) ≡ fails-empty (deciding c)
-unfolding fails-both fails-empty deciding
-deciding-wins and true y = refl
-deciding-wins and false y = refl
-deciding-wins or true y = refl
-deciding-wins or false y = refl
-deciding-wins root true y = refl
-deciding-wins root false y = refl
-
-open-or-decided : (c : Conn) (x : Bool) → (x ≡ fails-empty c) ⊎ (x ≡ fails-empty (deciding c))
-unfolding fails-empty deciding
+open-or-decided : (c : Conn) (x : Bool) → (x ≡ fails-all (neutral c) []) ⊎ (x ≡ fails-all (deciding c) [])
+unfolding fails-all neutral deciding any all
 open-or-decided and true = inr refl
 open-or-decided and false = inl refl
 open-or-decided or true = inl refl
@@ -40,72 +31,91 @@ open-or-decided or false = inr refl
 open-or-decided root true = inr refl
 open-or-decided root false = inl refl
 
--- What has the same value may be exchanged after the first children.
-pub beside : (s : Set) (c : Conn) (p f g : Forest) → fails s c f ≡ fails s c g → fails s c (p ⊕ f) ≡ fails s c (p ⊕ g)
-beside s c p f g e = fails-⊕ s c p f ∙ ap (fails-both c (fails s c p)) e ∙ sym (fails-⊕ s c p g)
-
 -- Rules 1, 2, 3: the deciding constant alone has the value of all the children.
 pub absorbed-fails : (s : Set) (c : Conn) (p q : Forest) → fails s c (constant (deciding c)) ≡ fails s c (p ⊕ node (deciding c) nil q)
-unfolding fails
+unfolding fails values
 absorbed-fails s c p q =
-    both-empty c _ ∙ sym (fails-⊕ s c p (node (deciding c) nil q) ∙ deciding-wins c (fails s c p) (fails s c q))
+    decides-group c [] [] ∙ sym (ap (fails-all c) (values-⊕ s p (node (deciding c) nil q)) ∙ decides-group c (values s p) (values s q))
 
 -- Rules 4, 5, 6: the neutral constant adds nothing.
-pub omitted-fails : (s : Set) (c : Conn) (q : Forest) → fails s c q ≡ fails s c (node (neutral c) nil q)
-unfolding fails
-omitted-fails s c q = sym (ap (λ b. fails-both c b (fails s c q)) (neutral-empty c) ∙ empty-both c (fails s c q))
+omits-value : (c : Conn) (xs ys : List Bool) → fails-all c (xs ++ fails-all (neutral c) [] ∷ ys) ≡ fails-all c (xs ++ ys)
+unfolding fails-all neutral any all
+omits-value and xs ys = any-append _ xs (false ∷ ys) ∙ sym (any-append _ xs ys)
+omits-value or xs ys = all-append _ xs (true ∷ ys) ∙ sym (all-append _ xs ys)
+omits-value root xs ys = any-append _ xs (false ∷ ys) ∙ sym (any-append _ xs ys)
 
--- Rules 7, 8: a node with one child has that child's value.
+pub omitted-fails : (s : Set) (c : Conn) (p q : Forest) → fails s c (p ⊕ q) ≡ fails s c (p ⊕ node (neutral c) nil q)
+unfolding fails values
+omitted-fails s c p q =
+    ap (fails-all c) (values-⊕ s p q)
+    ∙ sym (ap (fails-all c) (values-⊕ s p (node (neutral c) nil q)) ∙ omits-value c (values s p) (values s q))
+
+-- Rules 7, 8: a group with one child has that child's value.
+one-value : (c : Conn) (b : Bool) → fails-all c (b ∷ []) ≡ b
+unfolding fails-all any all
+one-value and b = or-false b
+one-value or b = and-true b
+one-value root b = or-false b
+
 pub unwrapped-values : (s : Set) (c : Conn) (k : Forest) → size k ≡ 1 → values s k ≡ fails s c k ∷ []
 unfolding size fails values
 unwrapped-values s c nil e = absurd (omega arith)
-unwrapped-values s c (lit l f) e = rw (size-zero f (omega arith)) (ap (λ b. b ∷ []) (sym (both-empty c (s l))))
-unwrapped-values s c (node d k f) e = rw (size-zero f (omega arith)) (ap (λ b. b ∷ []) (sym (both-empty c (fails s d k))))
+unwrapped-values s c (lit l f) e = rw (size-zero f (omega arith)) (ap (λ b. b ∷ []) (sym (one-value c (s l))))
+unwrapped-values s c (node d k f) e = rw (size-zero f (omega arith)) (ap (λ b. b ∷ []) (sym (one-value c (fails-all d (values s k)))))
 
 -- Rules 9, 10. Where the constants have the values of the literals that they stand for, nothing changes.
-assigned-fails : (s : Set) (c : Conn) (l : Literal) → s l ≡ fails-empty (neutral c) → s (complement l) ≡ fails-empty (deciding c) → (d : Conn) (f : Forest) → fails s d (assigned c l f) ≡ fails s d f
-unfolding fails assigned
-assigned-fails s c l e h d nil = refl
-assigned-fails s c l e h d (lit x f) =
-    let r = assigned-fails s c l e h d f in
-    assigned-lit (λ g. fails s d g ≡ fails-both d (s x) (fails s d f)) c l x f
-    (λ p. ap₂ (fails-both d) (sym e ∙ ap s (same-is l x p)) r)
-    (λ p. ap₂ (fails-both d) (sym h ∙ ap s (same-is (complement l) x p)) r)
-    (λ p q. ap (fails-both d (s x)) r)
-assigned-fails s c l e h d (node b k f) =
-    ap₂ (fails-both d) (assigned-fails s c l e h b k) (assigned-fails s c l e h d f)
+assigned-values : (s : Set) (c : Conn) (l : Literal) → s l ≡ fails-all (neutral c) [] → s (complement l) ≡ fails-all (deciding c) [] → (f : Forest) → values s (assigned c l f) ≡ values s f
+unfolding values assigned
+assigned-values s c l e h nil = refl
+assigned-values s c l e h (lit x f) =
+    let r = assigned-values s c l e h f in
+    assigned-lit (λ g. values s g ≡ s x ∷ values s f) c l x f
+    (λ p. ap₂ _∷_ (sym e ∙ ap s (same-is l x p)) r)
+    (λ p. ap₂ _∷_ (sym h ∙ ap s (same-is (complement l) x p)) r)
+    (λ p q. ap (λ bs. s x ∷ bs) r)
+assigned-values s c l e h (node b k f) =
+    ap₂ (λ bs cs. fails-all b bs ∷ cs) (assigned-values s c l e h k) (assigned-values s c l e h f)
 
 -- Where the literal, as a child, would leave a node of this connective open, its complement would decide it.
 abbrev pub Opposed : Set → Conn → Literal → Type 0
-Opposed s c l = s l ≡ fails-empty c → s (complement l) ≡ fails-empty (deciding c)
+Opposed s c l = s l ≡ fails-all (neutral c) [] → s (complement l) ≡ fails-all (deciding c) []
 
 pub spread-fails : (s : Set) (c : Conn) (l : Literal) (p q : Forest) → Opposed s c l → fails s c (assigned c l p ⊕ lit l (assigned c l q)) ≡ fails s c (p ⊕ lit l q)
-unfolding fails
+unfolding fails values
 spread-fails s c l p q h =
-    fails-⊕ s c (assigned c l p) (lit l (assigned c l q)) ∙ go (open-or-decided c (s l)) ∙ sym (fails-⊕ s c p (lit l q))
+    ap (fails-all c) (values-⊕ s (assigned c l p) (lit l (assigned c l q))) ∙ go (open-or-decided c (s l)) ∙ sym (ap (fails-all c) (values-⊕ s p (lit l q)))
   where
-    go : (s l ≡ fails-empty c) ⊎ (s l ≡ fails-empty (deciding c)) → fails-both c (fails s c (assigned c l p)) (fails-both c (s l) (fails s c (assigned c l q))) ≡ fails-both c (fails s c p) (fails-both c (s l) (fails s c q))
-    go (inl e) =
-        let same-value = assigned-fails s c l (e ∙ sym (neutral-empty c)) (h e) c in
-        ap₂ (λ x y. fails-both c x (fails-both c (s l) y)) (same-value p) (same-value q)
-    go (inr e) = rw e (deciding-wins c _ _ ∙ sym (deciding-wins c _ _))
+    go : (s l ≡ fails-all (neutral c) []) ⊎ (s l ≡ fails-all (deciding c) []) → fails-all c (values s (assigned c l p) ++ s l ∷ values s (assigned c l q)) ≡ fails-all c (values s p ++ s l ∷ values s q)
+    go (inl e) = ap₂ (λ xs ys. fails-all c (xs ++ s l ∷ ys)) (assigned-values s c l e (h e) p) (assigned-values s c l e (h e) q)
+    go (inr e) = rw e (decides-group c (values s (assigned c l p)) (values s (assigned c l q)) ∙ sym (decides-group c (values s p) (values s q)))
 
--- Rules 11, 12: where the node is no disjunction, a literal may leave a conjunction among the children.
-pub lifted-fails : (s : Set) (c : Conn) (l : Literal) (a b q : Forest) → (c ≡ or → ⊥) → fails s c (lit l (node and (a ⊕ b) q)) ≡ fails s c (node and (a ⊕ lit l b) q)
-unfolding fails fails-both
-lifted-fails s c l a b q h =
-    rw (fails-⊕ s and a b, fails-⊕ s and a (lit l b))
-    (simp (conjunctive c h) (or-regroup (s l) (fails s and a) (fails s and b) (fails s c q)))
+-- What some child makes fail: a conjunction or the root.
+pub some-child : (c : Conn) → (c ≡ or → ⊥) → (bs : List Bool) → fails-all c bs ≡ any (λ b. b) bs
+unfolding fails-all
+some-child and h bs = refl
+some-child or h bs = absurd (h refl)
+some-child root h bs = refl
+
+-- Rules 11, 12: where the node is no disjunction, a literal may leave a conjunction among the children. Rule 13 likewise.
+pub lifted-fails : (s : Set) (c : Conn) (l : Literal) (p a b q : Forest) → (c ≡ or → ⊥) → fails s c (p ⊕ lit l (node and (a ⊕ b) q)) ≡ fails s c (p ⊕ node and (a ⊕ lit l b) q)
+unfolding fails fails-all values any
+lifted-fails s c l p a b q h =
+    simp (some-child c h, values-⊕, any-append)
+    (ap (λ x. any (λ b. b) (values s p) || x) (or-regroup (s l) (any (λ b. b) (values s a)) (any (λ b. b) (values s b)) (any (λ b. b) (values s q))))
   where
     or-regroup : (x y z w : Bool) → (x || ((y || z) || w)) ≡ ((y || (x || z)) || w)
     or-regroup x true z w = or-swap x true w
     or-regroup true false z w = refl
     or-regroup false false z w = refl
 
+pub merged-fails : (s : Set) (p a q : Forest) → fails s and (p ⊕ a ⊕ q) ≡ fails s and (p ⊕ node and a q)
+unfolding fails fails-all values any
+merged-fails s p a q = simp (values-⊕, any-append)
+
 -- Rule 14. A conjunction that has the literal a among its children fails where a fails or the conjunction without it does; a
 -- disjunction of literals and such conjunctions fails where the literals do, and a or the disjunction of the rest.
 pulled-out : (s : Set) (a : Literal) (k : Forest) → has-unit a k ≡ true → fails s and k ≡ (s a || fails s and (without-unit a k))
-unfolding has-unit without-unit pick fails fails-both
+unfolding has-unit without-unit pick fails fails-all values any
 pulled-out s a nil e = true-false (sym e)
 pulled-out s a (lit x f) e = go (same a x) refl e (pulled-out s a f)
   where
@@ -116,7 +126,7 @@ pulled-out s a (node c k f) e =
     ap (λ b. fails s c k || b) (pulled-out s a f e) ∙ or-swap (fails s c k) (s a) (fails s and (without-unit a f))
 
 shared-fails : (s : Set) (a : Literal) (k : Forest) → shares a k ≡ true → (fails s or (units k) && (s a || fails s or (groups-without a k))) ≡ fails s or k
-unfolding shares units groups-without fails fails-both fails-empty
+unfolding shares units groups-without fails fails-all values any all
 shared-fails s a nil e = or-true (s a)
 shared-fails s a (lit x f) e =
     and-assoc (s x) (fails s or (units f)) _ ∙ ap (λ b. s x && b) (shared-fails s a f e)
@@ -134,8 +144,8 @@ shared-fails s a (node or k f) e = true-false (sym e)
 shared-fails s a (node root k f) e = true-false (sym e)
 
 pub factored-fails : (s : Set) (a : Literal) (k : Forest) → shares a k ≡ true → fails s or (units k ⊕ node and (lit a (node or (groups-without a k) nil)) nil) ≡ fails s or k
-unfolding fails fails-both
+unfolding fails fails-all values any all
 factored-fails s a k e =
-    fails-⊕ s or (units k) (node and (lit a (node or (groups-without a k) nil)) nil)
-    ∙ ap (fails-both or (fails s or (units k))) (both-empty or _ ∙ ap (fails-both and (s a)) (both-empty and _))
-    ∙ shared-fails s a k e
+    ap (all (λ b. b)) (values-⊕ s (units k) (node and (lit a (node or (groups-without a k) nil)) nil))
+    ∙ all-append (λ b. b) (values s (units k)) _
+    ∙ simp (and-true, or-false) (shared-fails s a k e)

@@ -10,6 +10,7 @@ use lib.Dec.{eqb}
 use Rattle.model.specs.Base.{pick}
 use Rattle.model.specs.Literal.{Literal, option, same, complement}
 use Rattle.model.specs.Forest.{Conn, and, or, root, same-conn, Forest, nil, lit, node, _⊕_, size, first, after, literal-at, conjunction-at, constant-at, has-unit, mentions}
+use Rattle.model.specs.Code.{conn-kind}
 use Rattle.model.specs.Rules.{neutral, deciding, assigned, groups}
 use Rattle.theory.specs.Logic.{true-false, none-some, some-inj, and-split, or-left, or-right}
 use Rattle.theory.specs.Literals.{same-self}
@@ -124,6 +125,18 @@ unfolding same-conn
 same-conn-self and = refl
 same-conn-self or = refl
 same-conn-self root = refl
+
+pub conn-of-kind : (c d : Conn) → conn-kind c ≡ conn-kind d → c ≡ d
+unfolding conn-kind
+conn-of-kind and and e = refl
+conn-of-kind and or e = absurd (omega arith)
+conn-of-kind and root e = absurd (omega arith)
+conn-of-kind or and e = absurd (omega arith)
+conn-of-kind or or e = refl
+conn-of-kind or root e = absurd (omega arith)
+conn-of-kind root and e = absurd (omega arith)
+conn-of-kind root or e = absurd (omega arith)
+conn-of-kind root root e = refl
 
 -- Two connectives that are told apart.
 pub not-conn : {c d : Conn} → same-conn c d ≡ false → c ≡ d → ⊥

@@ -9,7 +9,7 @@ use Rattle.model.specs.Forest.{Conn, and, or, root}
 use Rattle.model.specs.Code.{leaf, head, value, conn-kind, number-of, node-of}
 use Rattle.theory.specs.Logic.{true-false, fails-if, same-test}
 use Rattle.theory.specs.Literals.{same-is, is-same}
-use Rattle.theory.specs.Numbers.{amount, fits, kind-number, value-number, node-number}
+use Rattle.theory.specs.Numbers.{amount, fits, kind-number, value-number, head-kind, node-number}
 use Rattle.theory.specs.Scan.{is-literal}
 
 -- What the number of a node that fits says of its kind and value.
@@ -19,10 +19,10 @@ leaf-literal (pos v) h = rw (kind-number 1 v h)
 leaf-literal (neg v) h = rw (kind-number 2 v h)
 
 pub head-inner : (c : Conn) (n : ℕ) → fits (head c n) ≡ true → is-literal (number-of (head c n)) ≡ false
-unfolding is-literal number-of conn-kind fits amount
-head-inner and n h = rw (kind-number 3 n h)
-head-inner or n h = rw (kind-number 4 n h)
-head-inner root n h = rw (kind-number 5 n h)
+unfolding is-literal conn-kind
+head-inner and n h = rw (head-kind and n h)
+head-inner or n h = rw (head-kind or n h)
+head-inner root n h = rw (head-kind root n h)
 
 pub leaf-value : (x : Literal) → fits (leaf x) ≡ true → value (number-of (leaf x)) ≡ option x
 unfolding number-of fits amount option

@@ -11,10 +11,10 @@ use lib.ListN.{length, drop}
 use Rattle.model.specs.Base.{only-if, first-of, all}
 use Rattle.model.specs.Forest.{root, Forest, nil, _⊕_, size}
 use Rattle.model.specs.Code.{encode, decode, trees, weight, node-of}
-use Rattle.model.specs.Clauses.{no-child, clauses}
+use Rattle.model.specs.Clauses.{clauses, need, no-tree, some-of}
+use Rattle.model.specs.Limits.{most-options, most-rules, most-nodes, most-weight, head-length}
 use Rattle.model.specs.Sheet.{body-node, is-sheet, sheet-of, clauses-in}
 use Rattle.model.specs.Book.{word, options-of, rules-of, size-of, head-in-limits, length-due, codes-of, contents-of, numbers-of, codes-ok, in-line, bodies-of, body-ok, book-nodes, clauses-of-body, clauses-of-book, contents-end}
-use Rattle.model.specs.Calls.{book-refusal}
 use Rattle.theory.specs.Logic.{and-split, only-none, none-due}
 use Rattle.theory.specs.Lists.{all-weaken, all-flatten}
 use Rattle.theory.specs.Forests.{size-⊕}
@@ -26,66 +26,18 @@ use Rattle.theory.specs.Sheets.{nodes-made, sheet-made}
 use Rattle.theory.specs.Bytes.{length-words, length-entries}
 use Rattle.theory.specs.Contents.{in-line-means, flatten-cut, length-cut}
 
--- What is known of an accepted book.
+-- What is known of an accepted book: none of the conditions of 1 to 6 is against it.
 pub record Accepted (b : List ℕ) : Type 0 where
-  pub head : 8 ≤ length b
-  pub options : options-of b ≤ 512
-  pub rules : rules-of b ≤ 4095
-  pub nodes : size-of b ≤ 4095
+  pub head : head-length ≤ length b
+  pub options : options-of b ≤ most-options
+  pub rules : rules-of b ≤ most-rules
+  pub nodes : size-of b ≤ most-nodes
   pub fourth : word b 6 ≡ 0
   pub long : length b ≡ length-due b
   pub codes : codes-ok (codes-of b) ≡ true
   pub contents : in-line (size-of b) 0 (contents-of b) ≡ true
   pub bodies : all (body-ok (options-of b)) (bodies-of b) ≡ true
-  pub weight : weight (book-nodes b) ≤ 4096
-
--- It is known where the book is not refused, and the other way round.
-pub accepted-book : (b : List ℕ) → book-refusal b ≡ none → Accepted b
-unfolding book-refusal head-in-limits
-accepted-book b e =
-    let long = eqb (length b) (length-due b) in
-    let contents = in-line (size-of b) 0 (contents-of b) in
-    let bodies = all (body-ok (options-of b)) (bodies-of b) in
-    let light = leb (weight (book-nodes b)) 4096 in
-    let e1 = none-due (ltb (length b) 8) _ _ e in
-    let e2 = none-due (not (head-in-limits b)) _ _ (e1 .1) in
-    let e3 = none-due (not long) _ _ (e2 .1) in
-    let e4 = none-due (not (codes-ok (codes-of b))) _ _ (e3 .1) in
-    let e5 = none-due (not contents) _ _ (e4 .1) in
-    let e6 = none-due (not bodies) _ _ (e5 .1) in
-    let e7 = only-none (not light) _ (e6 .1) in
-    let few = leb (options-of b) 512 in
-    let h4 = and-split (few && leb (rules-of b) 4095 && leb (size-of b) 4095) _ (not-false _ (e2 .0)) in
-    let h3 = and-split (few && leb (rules-of b) 4095) _ (h4 .0) in
-    let h2 = and-split few _ (h3 .0) in
-    record {
-      head = ltb-false (length b) 8 (e1 .0);
-      options = leb-true (options-of b) 512 (h2 .0);
-      rules = leb-true (rules-of b) 4095 (h2 .1);
-      nodes = leb-true (size-of b) 4095 (h3 .1);
-      fourth = eqb-true (word b 6) 0 (h4 .1);
-      long = eqb-true (length b) (length-due b) (not-false long (e3 .0));
-      codes = not-false (codes-ok (codes-of b)) (e4 .0);
-      contents = not-false contents (e5 .0);
-      bodies = not-false bodies (e6 .0);
-      weight = leb-true (weight (book-nodes b)) 4096 (not-false light e7);
-    }
-
-pub book-accepted : (b : List ℕ) → Accepted b → book-refusal b ≡ none
-unfolding book-refusal head-in-limits first-of only-if
-book-accepted b a =
-    rw (
-      le-ltb (length b) 8 (a .head),
-      le-leb (options-of b) 512 (a .options),
-      le-leb (rules-of b) 4095 (a .rules),
-      le-leb (size-of b) 4095 (a .nodes),
-      a .fourth,
-      eq-eqb (length b) (length-due b) (a .long),
-      a .codes,
-      a .contents,
-      a .bodies,
-      le-leb (weight (book-nodes b)) 4096 (a .weight),
-    )
+  pub weight : weight (book-nodes b) ≤ most-weight
 
 -- The bodies, one after another, are the book's numbers, and there are as many as the book has rules.
 pub bodies-flat : (b : List ℕ) → Accepted b → flatten (bodies-of b) ≡ numbers-of b
@@ -131,7 +83,7 @@ module _ (n : ℕ) where
 
 -- The clauses of the bodies' trees side by side are those of every body.
 clauses-forest : (xss : List (List ℕ)) → clauses root (forest-of xss) ≡ flatten (map clauses-of-body xss)
-unfolding forest-of clauses no-child flatten clauses-of-body
+unfolding forest-of clauses need some-of no-tree flatten clauses-of-body
 clauses-forest [] = refl
 clauses-forest (xs ∷ xss) =
     clauses-⊕ (decode (map node-of xs)) (forest-of xss)

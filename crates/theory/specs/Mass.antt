@@ -1,23 +1,30 @@
--- The mass of trees: a given number for every literal, 1 for every other node.
+-- The mass of trees: a given number for every literal, and for every other node what its connective weighs, which is 1.
 use mathlib.Core.Bool.{Bool, true, false, _||_}
 use mathlib.Core.Logic.{⊎-elim}
-use mathlib.Core.Path.{_≡_, sym, ap₂, _∙_}
-use Prim.Native.Nat.{ℕ, suc, _+_, _*_, _≤_, _<_}
+use mathlib.Core.Path.{_≡_, refl, sym, ap₂, _∙_}
+use Prim.Native.Nat.{ℕ, _+_, _*_, _≤_, _<_}
 use native.Mathlib.Omega.{arith}
 use borrow.Author.Tests.{eqb-true}
 use lib.Dec.{eqb}
 use Rattle.model.specs.Base.{pick}
 use Rattle.model.specs.Literal.{Literal, complement, option, same}
 use Rattle.model.specs.Forest.{Conn, and, or, root, Forest, nil, lit, node, _⊕_, size, has-unit, mentions}
-use Rattle.model.specs.Rules.{assigned, without-unit, shares, units, groups-without, groups}
+use Rattle.model.specs.Rules.{neutral, deciding, assigned, without-unit, shares, units, groups-without, groups}
 use Rattle.theory.specs.Logic.{true-false, and-split, or-split, or-left, or-right}
 use Rattle.theory.specs.Literals.{is-same, of-option}
 use Rattle.theory.specs.Forests.{assigned-lit}
 
+unfoldable pub heft : ℕ → Conn → ℕ
+heft u c = 1
+
+pub heft-one : (u : ℕ) (c : Conn) → heft u c ≡ 1
+unfolding heft
+heft-one u c = refl
+
 unfoldable pub mass : ℕ → Forest → ℕ
 mass u nil = 0
 mass u (lit l f) = u + mass u f
-mass u (node c k f) = suc (mass u k + mass u f)
+mass u (node c k f) = heft u c + (mass u k + mass u f)
 
 pub mass-⊕ : (u : ℕ) (f g : Forest) → mass u (f ⊕ g) ≡ mass u f + mass u g
 unfolding mass _⊕_
@@ -29,7 +36,7 @@ pub mass-size : (u : ℕ) (f : Forest) → 1 ≤ u → size f ≤ mass u f
 unfolding mass size
 mass-size u nil h = omega arith
 mass-size u (lit l f) h = let r = mass-size u f h in omega arith
-mass-size u (node c k f) h = let r = mass-size u f h in omega arith
+mass-size u (node c k f) h = let r = mass-size u f h in omega (arith, heft-one u c)
 
 -- A constant in place of a literal weighs no more, and less where the option is mentioned at all.
 mass-assigned : (u : ℕ) (c : Conn) (l : Literal) (f : Forest) → 1 ≤ u → mass u (assigned c l f) ≤ mass u f
@@ -37,7 +44,10 @@ unfolding mass assigned
 mass-assigned u c l nil h = omega arith
 mass-assigned u c l (lit x f) h =
     let r = mass-assigned u c l f h in
-    assigned-lit (λ g. mass u g ≤ u + mass u f) c l x f (λ e. omega arith) (λ e. omega arith) (λ e o. omega arith)
+    assigned-lit (λ g. mass u g ≤ u + mass u f) c l x f
+    (λ e. omega (arith, heft-one u (neutral c)))
+    (λ e. omega (arith, heft-one u (deciding c)))
+    (λ e o. omega arith)
 mass-assigned u c l (node d k f) h =
     let p = mass-assigned u c l k h in
     let q = mass-assigned u c l f h in
@@ -52,7 +62,9 @@ unfolding mass assigned mentions
 mass-mentioned u c l nil h m = true-false (sym m)
 mass-mentioned u c l (lit x f) h m =
     let r = mass-assigned u c l f (omega arith) in
-    assigned-lit (λ g. mass u g < u + mass u f) c l x f (λ e. omega arith) (λ e. omega arith)
+    assigned-lit (λ g. mass u g < u + mass u f) c l x f
+    (λ e. omega (arith, heft-one u (neutral c)))
+    (λ e. omega (arith, heft-one u (deciding c)))
     (λ e o. ⊎-elim
     (λ v. true-false (sym (of-mention l x v) ∙ ap₂ _||_ e o))
     (λ v. omega (arith, mass-mentioned u c l f h v))

@@ -8,14 +8,14 @@ use native.Mathlib.Nat.{mul-le-mul-right}
 use native.Mathlib.Omega.{arith}
 use lib.ListN.{length, length-append}
 use Rattle.model.specs.Literal.{Literal, option}
-use Rattle.model.specs.Forest.{Conn, and, Forest, nil, lit, node, _⊕_, mentions}
+use Rattle.model.specs.Forest.{Conn, and, or, Forest, nil, lit, node, _⊕_, mentions}
 use Rattle.model.specs.Code.{Node, leaf, head, encode, literals, weight}
-use Rattle.model.specs.Rules.{assigned, step}
+use Rattle.model.specs.Rules.{neutral, deciding, assigned, step}
 use Rattle.theory.specs.Forests.{mentions-⊕}
 use Rattle.theory.specs.Codes.{encode-⊕, literals-append}
 use Rattle.theory.specs.Changes.{Change, absorbed, omitted, unwrapped, spreaded, lifted, merged, factored}
 use Rattle.theory.specs.Shape.{Changed, Shaped, shaped-trees, step-changed}
-use Rattle.theory.specs.Mass.{mass, mass-⊕, mass-size, mass-mentioned, mass-shared}
+use Rattle.theory.specs.Mass.{heft-one, mass, mass-⊕, mass-size, mass-mentioned, mass-shared}
 
 -- Nodes plus u times the literals: for 1 the weight.
 abbrev pub bulk : ℕ → List Node → ℕ
@@ -29,6 +29,7 @@ bulk-code u (lit l f) = let h = bulk-code u f in omega arith
 bulk-code u (node c k f) =
     let p = bulk-code u k in
     let q = bulk-code u f in
+    let r = heft-one (suc u) c in
     simp (length-append, literals-append) (omega arith)
 
 bulk-after : (u : ℕ) (b : List Node) (f : Forest) → bulk u (b ++ encode f) ≡ bulk u b + mass (suc u) f
@@ -83,16 +84,16 @@ Falls u a b = (a ≤ b) × (2 ≤ u → a < b)
 -- A change lifts a literal, so that it stands sooner; or the mass falls.
 change-falls : (u : ℕ) → 1 ≤ u → {c : Conn} {k g : Forest} → Change c k g → ((rest : Forest) → Sooner (encode (g ⊕ rest)) (encode (node c k rest))) ⊎ Falls u (mass (suc u) g) (mass (suc u) (node c k nil))
 unfolding mass mentions assigned _⊕_
-change-falls u one {c} {k} (absorbed p q e t r) = inr (omega (arith, ap (mass (suc u)) r, mass-size (suc u) k (omega arith)))
-change-falls u one (omitted p q e r) = inr (omega (arith, simp mass-⊕ at (ap (mass (suc u)) r), simp mass-⊕ at (ap (mass (suc u)) e)))
-change-falls u one (unwrapped d t r) = inr (omega (arith, ap (mass (suc u)) r))
+change-falls u one {c} {k} (absorbed p q e t r) = inr (omega (arith, ap (mass (suc u)) r, mass-size (suc u) k (omega arith), heft-one (suc u) (deciding c)))
+change-falls u one {c} (omitted p q e r) = inr (omega (arith, heft-one (suc u) (neutral c), simp mass-⊕ at (ap (mass (suc u)) r), simp mass-⊕ at (ap (mass (suc u)) e)))
+change-falls u one {c} (unwrapped d t r) = inr (omega (arith, ap (mass (suc u)) r, heft-one (suc u) c))
 change-falls u one {c} (spreaded p q l d e m r) =
     let both = mass-mentioned (suc u) c l (node and p q) (omega arith) (sym (mentions-⊕ (option l) p q) ∙ m) in
     inr (omega (arith, simp mass-⊕ at (ap (mass (suc u)) r), simp mass-⊕ at (ap (mass (suc u)) e), both))
 change-falls u one {c} (lifted p a b q l d e r) = inl (λ rest. rw (e, r) (sooner-lifted c p a b q rest l))
-change-falls u one (merged p a q d e r) = inr (omega (arith, simp mass-⊕ at (ap (mass (suc u)) r), simp mass-⊕ at (ap (mass (suc u)) e)))
+change-falls u one (merged p a q d e r) = inr (omega (arith, heft-one (suc u) and, simp mass-⊕ at (ap (mass (suc u)) r), simp mass-⊕ at (ap (mass (suc u)) e)))
 change-falls u one {c} {k} (factored a d s g r) =
-    inr (omega (arith, simp mass-⊕ at (ap (mass (suc u)) r), mass-shared (suc u) a k s, mul-le-mul-right (suc u) g))
+    inr (omega (arith, heft-one (suc u) and, heft-one (suc u) or, simp mass-⊕ at (ap (mass (suc u)) r), mass-shared (suc u) a k s, mul-le-mul-right (suc u) g))
 
 -- In a list of nodes the bulk changes as the mass of the tree that changed.
 changed-bulk : (u : ℕ) {ns ms : List Node} (w : Changed ns ms) → bulk u ms + mass (suc u) (node (w .conn) (w .children) nil) ≡ bulk u ns + mass (suc u) (w .new)

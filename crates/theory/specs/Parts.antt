@@ -6,7 +6,7 @@ use Prim.Native.Nat.{ℕ, _+_, _*_, _<_}
 use native.Mathlib.Omega.{arith}
 use lib.ListN.{length, take, drop, length-append, length-drop, take-append-drop}
 use lib.Seq.{drop-at, drop-append-add, drop-drop, take-all, getD-drop}
-use Rattle.model.specs.Limits.{code-length}
+use Rattle.model.specs.Limits.{head-length, code-length}
 use Rattle.model.specs.Book.{word, words, bytes-of, options-of, rules-of, size-of, codes-end, contents-end, length-due, pieces, codes-of, Entry, contents-of, numbers-of}
 use Rattle.theory.specs.Lists.{part-and-rest}
 use Rattle.theory.specs.Bytes.{Below, Bytes, below-drop, length-words, length-bytes, words-bytes, bytes-words, length-entries, flat, length-flat, entries-bytes, bytes-entries, pieces-part}
@@ -53,7 +53,7 @@ module _ (n : ℕ) (codes : List ℕ) (es : List Entry) (xs : List ℕ) (h : Fit
   unfolding book-of word bytes-of
   reads-fourth = refl
 
-  drop-head : (k : ℕ) → drop (8 + k) (book-of n codes es xs) ≡ drop k (codes ++ (bytes-of (flat es) ++ bytes-of xs))
+  drop-head : (k : ℕ) → drop (head-length + k) (book-of n codes es xs) ≡ drop k (codes ++ (bytes-of (flat es) ++ bytes-of xs))
   unfolding book-of bytes-of
   drop-head k = drop-append-add (bytes-of (n ∷ length es ∷ length xs ∷ 0 ∷ [])) (codes ++ (bytes-of (flat es) ++ bytes-of xs)) k
 
@@ -67,16 +67,16 @@ module _ (n : ℕ) (codes : List ℕ) (es : List Entry) (xs : List ℕ) (h : Fit
   unfolding codes-of
   reads-codes = rw reads-options (ap (pieces code-length n) (drop-head 0) ∙ pieces-part code-length n codes (bytes-of (flat es) ++ bytes-of xs) (omega arith))
 
-  after-codes : drop (8 + code-length * n) (book-of n codes es xs) ≡ bytes-of (flat es) ++ bytes-of xs
+  after-codes : drop (head-length + code-length * n) (book-of n codes es xs) ≡ bytes-of (flat es) ++ bytes-of xs
   after-codes = drop-head (code-length * n) ∙ drop-at codes (bytes-of (flat es) ++ bytes-of xs) (code-length * n) (h .codes-long)
 
   reads-contents : contents-of (book-of n codes es xs) ≡ es
   unfolding contents-of codes-end
   reads-contents = rw (reads-rules, reads-options, after-codes) (entries-bytes es (bytes-of xs) (h .pairs))
 
-  after-contents : drop (8 + code-length * n + 4 * length es) (book-of n codes es xs) ≡ bytes-of xs
+  after-contents : drop (head-length + code-length * n + 4 * length es) (book-of n codes es xs) ≡ bytes-of xs
   after-contents =
-      sym (drop-drop (4 * length es) (8 + code-length * n) (book-of n codes es xs))
+      sym (drop-drop (4 * length es) (head-length + code-length * n) (book-of n codes es xs))
       ∙ ap (drop (4 * length es)) after-codes
       ∙ drop-at (bytes-of (flat es)) (bytes-of xs) (4 * length es) (omega (arith, length-bytes (flat es), length-flat es))
 
@@ -103,7 +103,7 @@ unfolding words word options-of rules-of size-of
 head-read b = simp (getD-drop, drop-drop)
 
 module _ (b : List ℕ) (bytes : Bytes b) (zero : word b 6 ≡ 0) (long : length b ≡ length-due b) where
-  head-again : bytes-of (options-of b ∷ length (contents-of b) ∷ length (numbers-of b) ∷ 0 ∷ []) ≡ take 8 b
+  head-again : bytes-of (options-of b ∷ length (contents-of b) ∷ length (numbers-of b) ∷ 0 ∷ []) ≡ take head-length b
   unfolding contents-of numbers-of length-due contents-end codes-end
   head-again = rw (length-entries, length-words, ← zero, ← head-read b) (bytes-words 4 b bytes (omega arith))
 
@@ -120,8 +120,8 @@ module _ (b : List ℕ) (bytes : Bytes b) (zero : word b 6 ≡ 0) (long : length
       ∙ take-all (2 * size-of b) (drop (contents-end b) b) (omega arith)
 
   -- A book of the length due, with a zero in the fourth place of its head, is made of the parts that are read from it.
-  pub book-parts : book-of (options-of b) (take (code-length * options-of b) (drop 8 b)) (contents-of b) (numbers-of b) ≡ b
+  pub book-parts : book-of (options-of b) (take (code-length * options-of b) (drop head-length b)) (contents-of b) (numbers-of b) ≡ b
   unfolding book-of contents-end codes-end
   book-parts =
-      rw (head-again, pairs-again, numbers-again, part-and-rest (4 * rules-of b) (codes-end b) b, part-and-rest (code-length * options-of b) 8 b)
-      (take-append-drop 8 b)
+      rw (head-again, pairs-again, numbers-again, part-and-rest (4 * rules-of b) (codes-end b) b, part-and-rest (code-length * options-of b) head-length b)
+      (take-append-drop head-length b)

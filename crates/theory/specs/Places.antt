@@ -7,29 +7,30 @@ use native.Mathlib.Omega.{arith}
 use lib.ListN.{length, getD, take, drop, replicate, length-map, length-drop}
 use lib.Seq.{take-append-le}
 use Rattle.model.specs.Base.{is-some}
+use Rattle.model.specs.Limits.{sheet-room, sheet-length}
 use Rattle.model.specs.Code.{encode, decode, number-of}
 use Rattle.model.specs.Rules as M
 use Rattle.model.specs.Rules.{rewrite}
-use Rattle.model.specs.Sheet.{options-in, used-in, nodes-in, is-sheet, sheet-of}
+use Rattle.model.specs.Sheet.{options-in, used-in, nodes-in, sheet-of}
 use Rattle.theory.specs.Logic.{is-some-of, is-some-then}
 use Rattle.theory.specs.Lists.{map-take}
 use Rattle.theory.specs.Bounds.{step-within}
-use Rattle.theory.specs.Sheets.{sheet-facts, sheet-is}
+use Rattle.theory.specs.Sheets.{Formed, sheet-is}
 use Rattle.theory.specs.Stretches.{Stretch, forest-in, sheet-stretch}
 
 -- What a step at a place of a sheet asks, in terms of the stretch from there on.
 pub record Lent (s : List ℕ) (p : ℕ) : Type 0 where
-  pub whole : length s ≡ 4098
-  pub within : p < 4096
+  pub whole : length s ≡ sheet-length
+  pub within : p < sheet-room
   pub stretch : Stretch (drop (2 + p) s)
   pub long : 1 ≤ length (drop (2 + p) s)
   pub asked : (r i j : ℕ) → is-some (M.step r p i j (nodes-in s)) ≡ is-some (rewrite r i j (forest-in (drop (2 + p) s)))
 
-module _ (s : List ℕ) (h : is-sheet s ≡ true) where
+module _ (s : List ℕ) (h : Formed s) where
   pub lend : (p : ℕ) → p < used-in s → Lent s p
   unfolding M.step
   lend p lt =
-      let facts = sheet-facts s h in
+      let facts = h in
       let t = sheet-stretch s p h (omega arith) in
       record {
         whole = facts .whole;
@@ -43,23 +44,23 @@ module _ (s : List ℕ) (h : is-sheet s ≡ true) where
   pub place-used : (r p i j : ℕ) → is-some (M.step r p i j (nodes-in s)) ≡ true → p < used-in s
   place-used r p i j t =
       let w = is-some-of (M.step r p i j (nodes-in s)) t in
-      omega (arith, step-within r p i j (nodes-in s) (w .1) .0, sheet-facts s h .count)
+      omega (arith, step-within r p i j (nodes-in s) (w .1) .0, h .count)
 
   -- The numbers before the place.
   pub before-place : (p : ℕ) → p ≤ used-in s → take (2 + p) s ≡ options-in s ∷ used-in s ∷ map number-of (take p (nodes-in s))
   unfolding sheet-of
   before-place p le =
-      let facts = sheet-facts s h in
+      let facts = h in
       let ns = nodes-in s in
       let two : 2 + p ≡ suc (suc p) = omega arith in
       let enough : p ≤ length (map number-of ns) = omega (arith, length-map ns number-of, facts .count) in
-      let front : take p (map number-of ns ++ replicate (4096 - length ns) 0) ≡ map number-of (take p ns) =
-      take-append-le p (map number-of ns) (replicate (4096 - length ns) 0) enough ∙ sym (map-take number-of p ns) in
+      let front : take p (map number-of ns ++ replicate (sheet-room - length ns) 0) ≡ map number-of (take p ns) =
+      take-append-le p (map number-of ns) (replicate (sheet-room - length ns) 0) enough ∙ sym (map-take number-of p ns) in
       rw two (ap (take (suc (suc p))) (sheet-is s h) ∙ ap₂ (λ u xs. options-in s ∷ u ∷ xs) (facts .count) front)
 
 -- What calls read of a sheet.
-pub sheet-long : (s : List ℕ) → is-sheet s ≡ true → length s ≡ 4098
-sheet-long s h = sheet-facts s h .whole
+pub sheet-long : (s : List ℕ) → Formed s → length s ≡ sheet-length
+sheet-long s h = h .whole
 
 pub used-here : (s : List ℕ) → used-in s ≡ getD s 1 0
 unfolding used-in

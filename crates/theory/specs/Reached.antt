@@ -1,4 +1,4 @@
--- A run under way: the sheet that so many steps of the strategy have led to, and the answers where it ends.
+-- A run under way: the sheet that so many steps of the strategy have led to, and what it says where it ends.
 use mathlib.Core.Bool.{Bool, true, false}
 use mathlib.Core.List.{List}
 use mathlib.Core.Option.{none, some}
@@ -6,18 +6,29 @@ use mathlib.Core.Path.{_≡_, sym, ap, subst, _∙_}
 use Prim.Native.Nat.{ℕ, _+_, _≤_}
 use native.Mathlib.Nat.{zero-add, suc-add}
 use native.Mathlib.Omega.{arith}
-use Rattle.model.specs.Base.{is-some, maybe, only-if, then}
+use Rattle.model.specs.Base.{is-some, maybe, then}
 use Rattle.model.specs.Code.{Node, weight}
+use Rattle.model.specs.Limits.{most-weight}
 use Rattle.model.specs.Rules as M
 use Rattle.model.specs.Strategy as S
 use Rattle.model.specs.Strategy.{Redex, next, next-step, contract}
-use Rattle.model.specs.Sheet.{options-in, nodes-in, is-sheet, sheet-of}
-use Rattle.model.specs.Calls.{refused, accepted, sheet-refused, outcome, runOf}
-use Rattle.theory.specs.Steps.{done, more, steps-shaped, steps-weight}
+use Rattle.model.specs.Sheet.{options-in, nodes-in, sheet-of}
+use Rattle.model.specs.Results.{stepped, run-through}
+use Rattle.theory.specs.Steps.{Steps, done, more, steps-shaped, steps-weight, steps-bound}
 use Rattle.theory.specs.Strategy.{none-iff, next-applies}
 use Rattle.theory.specs.Runs as R
-use Rattle.theory.specs.Runs.{Strategy-steps, run-is, run-spent}
-use Rattle.theory.specs.Sheets.{sheet-shaped, sheet-options, sheet-weight, sheet-is, sheet-made, nodes-made, options-made}
+use Rattle.theory.specs.Runs.{Strategy-steps, run-steps, step-of, run-is, run-spent}
+use Rattle.theory.specs.Sheets.{Formed, sheet-is, formed-made, nodes-made, options-made}
+
+-- A run's steps are steps, and bounded as they are.
+pub strategy-steps : {k : ℕ} {ns ms : List Node} → Strategy-steps k ns ms → Steps k ns ms
+strategy-steps R.done = done
+strategy-steps (R.more {ns = ns} e t) =
+    let w = step-of ns e in
+    more (w .0 .rule) (w .0 .place) (w .0 .i) (w .0 .j) (w .2) (strategy-steps t)
+
+pub run-bounded : (s : List ℕ) (budget : ℕ) → Formed s → S.run budget (nodes-in s) .count ≤ S.most-steps (nodes-in s)
+run-bounded s budget h = steps-bound (h .shaped) (strategy-steps (run-steps budget (nodes-in s)))
 
 -- Steps after steps.
 steps-after : {k : ℕ} {ns ms : List Node} → Strategy-steps k ns ms → {os : List Node} → next-step ms ≡ some os → Strategy-steps (k + 1) ns os
@@ -26,11 +37,11 @@ steps-after (R.more {k} {ns} d t) {os} e = subst (λ n. Strategy-steps n ns os) 
 
 -- So many steps lead from one sheet to another.
 pub record Reached (start : List ℕ) (count : ℕ) (s : List ℕ) : Type 0 where
-  pub sheet : is-sheet s ≡ true
+  pub sheet : Formed s
   pub steps : Strategy-steps count (nodes-in start) (nodes-in s)
   pub same : s ≡ sheet-of (options-in start) (nodes-in s)
 
-pub reached-start : (s : List ℕ) → is-sheet s ≡ true → Reached s 0 s
+pub reached-start : (s : List ℕ) → Formed s → Reached s 0 s
 reached-start s h = record { sheet = h; steps = R.done; same = sheet-is s h }
 
 -- The strategy's step applies, and one step more is done.
@@ -39,40 +50,44 @@ module _ {start s : List ℕ} {count : ℕ} (r : Reached start count s) {x : Red
   unfolding is-some
   next-here = ap is-some (next-applies (nodes-in s) e .1)
 
-  pub reached-more : Reached start (count + 1) (sheet-of (options-in s) (maybe (nodes-in s) (λ ns. ns) (M.step (x .rule) (x .place) (x .i) (x .j) (nodes-in s))))
-  unfolding next-step then contract maybe
+  pub reached-more : Reached start (count + 1) (stepped s (x .rule) (x .place) (x .i) (x .j))
+  unfolding stepped next-step then contract maybe
   reached-more =
       let a = next-applies (nodes-in s) e in
       let h = r .sheet in
-      let form = sheet-shaped s h in
+      let form = h .shaped in
       let one = more (x .rule) (x .place) (x .i) (x .j) (a .1) done in
-      let light : weight (a .0) ≤ 4096 = omega (arith, sheet-weight s h, steps-weight form one) in
+      let light : weight (a .0) ≤ most-weight = omega (arith, h .weight, steps-weight form one) in
       let after = steps-shaped form one in
-      let back = nodes-made (sheet-options s h) after light in
+      let back = nodes-made (h .options) after light in
       let options : options-in s ≡ options-in start = ap options-in (r .same) ∙ options-made (options-in start) (nodes-in s) in
       let stepping : next-step (nodes-in s) ≡ some (a .0) = ap (λ o. then o (λ y. contract y (nodes-in s))) e ∙ a .1 in
       rw (a .1)
       (record {
-        sheet = sheet-made (sheet-options s h) after light;
+        sheet = formed-made (h .options) after light;
         steps = rw back (steps-after (r .steps) stepping);
         same = ap (sheet-of (options-in s)) (sym back) ∙ ap (λ n. sheet-of n (nodes-in (sheet-of (options-in s) (a .0)))) options;
       })
 
--- The answers of a run: no sheet; no rule applies within the budget; the budget is spent and a rule still applies.
-pub run-refused : (s : List ℕ) (budget : ℕ) → is-sheet s ≡ false → record { answer = refused sheet-refused; buffer = s } ≡ runOf s budget
-unfolding runOf outcome only-if
-run-refused s budget h = rw h
+-- What a run says and leaves, where no rule applies within the budget, and where the budget is spent and a rule still applies.
+pub record Ends (start : List ℕ) (budget : ℕ) (settled : Bool) (count : ℕ) (s : List ℕ) : Type 0 where
+  pub says : settled ≡ S.run budget (nodes-in start) .settled
+  pub counts : count ≡ S.run budget (nodes-in start) .count
+  pub leaves : s ≡ run-through start budget
 
-run-accepted : (start s : List ℕ) (budget count : ℕ) (t : Bool) → is-sheet start ≡ true → Reached start count s → S.run budget (nodes-in start) ≡ record { settled = t; count = count; nodes = nodes-in s } → record { answer = accepted (record { settled = t; count = count }); buffer = s } ≡ runOf start budget
-unfolding runOf outcome only-if
-run-accepted start s budget count t h r e =
-    rw (h, e) (ap (λ b. record { answer = accepted (record { settled = t; count = count }); buffer = b }) (r .same))
+run-ends : (start s : List ℕ) (budget count : ℕ) (t : Bool) → Reached start count s → S.run budget (nodes-in start) ≡ record { settled = t; count = count; nodes = nodes-in s } → Ends start budget t count s
+unfolding run-through
+run-ends start s budget count t r e =
+    record {
+      says = sym (ap (λ x. x .settled) e);
+      counts = sym (ap (λ x. x .count) e);
+      leaves = r .same ∙ ap (λ x. sheet-of (options-in start) (x .nodes)) (sym e);
+    }
 
-module _ {start s : List ℕ} {count : ℕ} (h : is-sheet start ≡ true) (r : Reached start count s) (budget : ℕ) where
-  pub run-done : count ≤ budget → next (nodes-in s) ≡ none → record { answer = accepted (record { settled = true; count = count }); buffer = s } ≡ runOf start budget
-  run-done le e =
-      run-accepted start s budget count true h r (run-is budget (r .steps) le (none-iff (nodes-in s) .0 e))
+module _ {start s : List ℕ} {count : ℕ} (r : Reached start count s) (budget : ℕ) where
+  pub run-done : count ≤ budget → next (nodes-in s) ≡ none → Ends start budget true count s
+  run-done le e = run-ends start s budget count true r (run-is budget (r .steps) le (none-iff (nodes-in s) .0 e))
 
-  pub run-over : count ≡ budget → {x : Redex} → next (nodes-in s) ≡ some x → record { answer = accepted (record { settled = false; count = count }); buffer = s } ≡ runOf start budget
+  pub run-over : count ≡ budget → {x : Redex} → next (nodes-in s) ≡ some x → Ends start budget false count s
   run-over same e =
-      run-accepted start s budget count false h r (ap (λ b. S.run b (nodes-in start)) (sym same) ∙ run-spent (r .steps) e)
+      run-ends start s budget count false r (ap (λ b. S.run b (nodes-in start)) (sym same) ∙ run-spent (r .steps) e)

@@ -12,7 +12,7 @@ use lib.Seq.{slice, slice-cons}
 use Rattle.model.specs.Base.{pick, only-if, maybe, then, all}
 use Rattle.model.specs.Literal.{Literal, pos, neg}
 use Rattle.model.specs.Forest.{Conn, and, or, root}
-use Rattle.model.specs.Code.{Node, leaf, head, kind, value, node-of, joined, trees, exactly-one, one-tree, literals}
+use Rattle.model.specs.Code.{Node, leaf, head, kind, value, children, node-of, joined, trees, exactly-one, one-tree, literals}
 use Rattle.model.specs.Sheet.{body-node, rooted}
 use Rattle.model.specs.Book.{body-ok}
 use Rattle.theory.specs.Logic.{true-false, or-neither, same-test, pick-keeps}
@@ -34,7 +34,7 @@ unfoldable pub counted : Option ℕ → ℕ
 counted none = zero
 counted (some t) = t
 
--- The node of a number: a literal where the number is one, and else a connective with as many children as its value.
+-- The node of a number: a literal where the number is one, and else a connective with as many children as it says.
 pub literal-node : (x : ℕ) → is-literal x ≡ true → (l : Literal) × (node-of x ≡ leaf l)
 unfolding is-literal node-of pick
 literal-node x h = go (eqb (kind x) 1) refl (eqb (kind x) 2) refl h
@@ -44,7 +44,7 @@ literal-node x h = go (eqb (kind x) 1) refl (eqb (kind x) 2) refl h
     go false p true q e = (neg (value x), rw (p, q))
     go false p false q e = true-false (sym e)
 
-pub inner-node : (x : ℕ) → is-literal x ≡ false → (c : Conn) × (node-of x ≡ head c (value x))
+pub inner-node : (x : ℕ) → is-literal x ≡ false → (c : Conn) × (node-of x ≡ head c (children x))
 unfolding is-literal node-of pick
 inner-node x h =
     let s = or-neither (eqb (kind x) 1) (eqb (kind x) 2) h in
@@ -52,7 +52,7 @@ inner-node x h =
     (pick-keeps Inner (eqb (kind x) 3) (and, refl) (pick-keeps Inner (eqb (kind x) 4) (or, refl) (root, refl)))
   where
     Inner : Node → Type 0
-    Inner y = (c : Conn) × (y ≡ head c (value x))
+    Inner y = (c : Conn) × (y ≡ head c (children x))
 
 -- Literals among nodes, by the first number.
 module _ (x : ℕ) (xs : List ℕ) where
@@ -80,7 +80,7 @@ module _ (n x t : ℕ) where
   unfolding joined-by then only-if joined
   joined-literal h l = rw (h, literal-node x l .1)
 
-  pub joined-inner : body-node n x ≡ true → is-literal x ≡ false → joined-by n x t ≡ only-if (leb (value x) t) (suc (t - value x))
+  pub joined-inner : body-node n x ≡ true → is-literal x ≡ false → joined-by n x t ≡ only-if (leb (children x) t) (suc (t - children x))
   unfolding joined-by then only-if joined
   joined-inner h l = rw (h, inner-node x l .1)
 
@@ -145,20 +145,20 @@ takes-all v t = go (leb v t) refl
         (λ h. let same = eqb-true t v h in eq-eqb (suc (t - v)) 1 (omega arith))
     go false e = let few : t < v = leb-false v t e in sym (ne-eqb t v (λ same. omega arith))
 
-pub root-node : (x : ℕ) → eqb (kind x) 5 ≡ true → node-of x ≡ head root (value x)
+pub root-node : (x : ℕ) → eqb (kind x) 5 ≡ true → node-of x ≡ head root (children x)
 unfolding node-of pick
 root-node x h = rw (eqb-true (kind x) 5 h)
 
--- A tree with the root at its head and nowhere else: the head is of kind 5, and the rest are as many trees as its value.
-pub rooted-scan : (n x : ℕ) (xs : List ℕ) → (rooted n (x ∷ xs) && one-tree (map node-of (x ∷ xs))) ≡ (eqb (kind x) 5 && maybe false (λ t. eqb t (value x)) (scan n xs))
+-- A tree with the root at its head and nowhere else: the head is of kind 5, and the rest are as many trees as it has children.
+pub rooted-scan : (n x : ℕ) (xs : List ℕ) → (rooted n (x ∷ xs) && one-tree (map node-of (x ∷ xs))) ≡ (eqb (kind x) 5 && maybe false (λ t. eqb t (children x)) (scan n xs))
 unfolding rooted one-tree exactly-one trees then joined maybe pick
 rooted-scan n x xs = rw (scan-trees n xs) (go (eqb (kind x) 5) refl)
   where
-    rest : (a : Bool) (o : Option ℕ) → (a && exactly-one (then o (joined (head root (value x))))) ≡ maybe false (λ t. eqb t (value x)) (pick a o none)
+    rest : (a : Bool) (o : Option ℕ) → (a && exactly-one (then o (joined (head root (children x))))) ≡ maybe false (λ t. eqb t (children x)) (pick a o none)
     rest true none = refl
-    rest true (some t) = takes-all (value x) t
+    rest true (some t) = takes-all (children x) t
     rest false o = refl
 
-    go : (b : Bool) → eqb (kind x) 5 ≡ b → ((b && all (body-node n) xs) && one-tree (node-of x ∷ map node-of xs)) ≡ (b && maybe false (λ t. eqb t (value x)) (pick (all (body-node n) xs) (trees (map node-of xs)) none))
+    go : (b : Bool) → eqb (kind x) 5 ≡ b → ((b && all (body-node n) xs) && one-tree (node-of x ∷ map node-of xs)) ≡ (b && maybe false (λ t. eqb t (children x)) (pick (all (body-node n) xs) (trees (map node-of xs)) none))
     go true e = rw (root-node x e) (rest (all (body-node n) xs) (trees (map node-of xs)))
     go false e = refl

@@ -9,20 +9,22 @@ use native.Mathlib.Omega.{arith}
 use lib.ListN.{length, getD, drop, length-append, length-map, drop-of-length-le}
 use lib.Seq.{drop-cons, drop-at}
 use Rattle.model.specs.Base.{pick, all}
+use Rattle.model.specs.Limits.{kind-factor}
 use Rattle.model.specs.Literal.{Literal, pos, neg, option}
-use Rattle.model.specs.Forest.{Conn, and, or, root, Forest, nil, lit, node, size, first, after}
-use Rattle.model.specs.Code.{Node, leaf, head, value, encode, conn-kind, number-of}
+use Rattle.model.specs.Forest.{Conn, and, Forest, nil, lit, node, size, first, after}
+use Rattle.model.specs.Code.{Node, leaf, head, kind, value, children, encode, number-of}
 use Rattle.model.specs.Book.{counts}
 use Rattle.theory.specs.Logic.{pick-true, pick-false, and-split, pick-keeps}
 use Rattle.theory.specs.Lists.{all-append}
 use Rattle.theory.specs.Forests.{first-after, size-first}
 use Rattle.theory.specs.Codes.{encode-⊕}
-use Rattle.theory.specs.Numbers.{amount, fits, kind-number, value-number}
+use Rattle.theory.specs.Numbers.{amount, fits, kind-number, head-children}
 use Rattle.theory.specs.Scan.{is-literal}
+use Rattle.theory.specs.Leaves.{head-inner}
 
 -- The number of children that a node announces.
 unfoldable pub arity : ℕ → ℕ
-arity x = pick (is-literal x) 0 (value x)
+arity x = pick (is-literal x) 0 (children x)
 
 -- The number of nodes of the first so many trees.
 unfoldable pub span : ℕ → List ℕ → ℕ
@@ -40,19 +42,24 @@ spans (suc m) xs = span 1 xs ∷ spans m (drop (span 1 xs) xs)
 abbrev pub child-at : ℕ → List ℕ → ℕ
 child-at i l = 1 + span i (drop 1 l)
 
--- No child for a literal, and as many as its value for any other node: in either case fewer than 4,096.
+-- No child for a literal, and as many as its number says for any other node: in either case fewer than 4,096.
 module _ (x : ℕ) where
   pub arity-literal : is-literal x ≡ true → arity x ≡ 0
   unfolding arity
-  arity-literal h = pick-true _ 0 (value x) h
+  arity-literal h = pick-true _ 0 (children x) h
 
-  pub arity-inner : is-literal x ≡ false → arity x ≡ value x
+  pub arity-inner : is-literal x ≡ false → arity x ≡ children x
   unfolding arity
-  arity-inner h = pick-false _ 0 (value x) h
+  arity-inner h = pick-false _ 0 (children x) h
 
-  pub arity-small : arity x ≤ 4095
-  unfolding arity value
-  arity-small = pick-keeps (λ k. k ≤ 4095) (is-literal x) (omega arith) (omega arith)
+  pub arity-small : arity x < kind-factor
+  unfolding arity children value
+  arity-small = pick-keeps (λ k. k < kind-factor) (is-literal x) (omega arith) (omega arith)
+
+-- A zero, which is no node, announces none.
+pub arity-none : arity 0 ≡ 0
+unfolding arity is-literal kind children value pick
+arity-none = refl
 
 -- The span of any numbers, one number at a time.
 pub span-none : (xs : List ℕ) → span zero xs ≡ zero
@@ -93,10 +100,8 @@ arity-leaf (pos v) h = rw kind-number
 arity-leaf (neg v) h = rw kind-number
 
 pub arity-head : (c : Conn) (k : ℕ) → fits (head c k) ≡ true → arity (number-of (head c k)) ≡ k
-unfolding arity number-of conn-kind is-literal pick fits amount
-arity-head and k h = rw (kind-number, value-number)
-arity-head or k h = rw (kind-number, value-number)
-arity-head root k h = rw (kind-number, value-number)
+unfolding arity pick
+arity-head c k h = rw (head-inner c k h) (head-children c k h)
 
 pub span-leaf : (l : Literal) (p : ℕ) (xs : List ℕ) → fits (leaf l) ≡ true → span (suc p) (number-of (leaf l) ∷ xs) ≡ suc (span p xs)
 span-leaf l p xs h = rw (span-more, arity-leaf l h, add-zero)

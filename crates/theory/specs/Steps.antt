@@ -9,7 +9,7 @@ use native.Mathlib.Omega.{arith}
 use lib.ListN.{length}
 use Rattle.model.specs.Code.{Node, leaf, head, literals, weight}
 use Rattle.model.specs.Rules.{step}
-use Rattle.model.specs.History.{cube}
+use Rattle.model.specs.Strategy.{cube}
 use Rattle.theory.specs.Shape.{Shaped, shaped-length, step-shaped}
 use Rattle.theory.specs.Measure.{bulk, pairs, Sooner, step-falls, step-weight}
 

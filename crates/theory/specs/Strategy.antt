@@ -8,6 +8,7 @@ use Prim.Native.Nat.{ℕ, zero, suc, _<_}
 use native.Mathlib.Omega.{arith}
 use lib.ListN.{length, take, drop}
 use Rattle.model.specs.Base.{only-if, is-some, then}
+use Rattle.model.specs.Limits.{last-rule}
 use Rattle.model.specs.Forest.{Forest, size, after, kids}
 use Rattle.model.specs.Code.{Node, encode, decode}
 use Rattle.model.specs.Rules.{rewrite, step, NoRule, Applies}
@@ -32,7 +33,7 @@ none-i : (r p : ℕ) (f : Forest) → (least-i r p f ≡ none) ↔ ((i j : ℕ) 
 unfolding least-i
 none-i r p f =
     least-none-all
-    (size (kids f))
+    (suc (size (kids f)))
     _
     (λ i. (j : ℕ) → rewrite r i j f ≡ none)
     (λ i. none-j r p i f)
@@ -60,7 +61,7 @@ none-iff ns = ((λ e. go (search .0 e)), λ h. search .1 (λ r. h (suc r)))
     search : (next ns ≡ none) ↔ ((r p i j : ℕ) → step (suc r) p i j ns ≡ none)
     search =
         least-none-all
-        14
+        last-rule
         _
         (λ r. (p i j : ℕ) → step (suc r) p i j ns ≡ none)
         (λ r. none-place (suc r) ns)
@@ -105,7 +106,7 @@ found-place r ns {x} e =
 found-rule : (ns : List Node) {x : Redex} → next ns ≡ some x → (least-place (x .rule) ns ≡ some x) × ((r p i j : ℕ) → r < x .rule → step r p i j ns ≡ none)
 unfolding next
 found-rule ns {x} e =
-    let w = least-found 14 (λ r. least-place (suc r) ns) e in
+    let w = least-found last-rule (λ r. least-place (suc r) ns) e in
     let at-place = found-place (suc (w .number)) ns (w .answer) in
     let at-i = found-i (suc (w .number)) (x .place) _ (at-place .0) in
     let named : suc (w .number) ≡ x .rule = ap (λ y. y .rule) (found-j (suc (w .number)) (x .place) (x .i) _ (at-i .0) .0) in

@@ -8,17 +8,18 @@ use borrow.Author.Tests.{ne-eqb}
 use lib.ListN.{length, drop, replicate, length-map, length-drop, take-append-drop}
 use lib.Seq.{drop-drop, drop-append-le}
 use Rattle.model.specs.Base.{pick, all}
+use Rattle.model.specs.Limits.{sheet-room}
 use Rattle.model.specs.Literal.{pos, neg}
 use Rattle.model.specs.Forest.{and, or, root, Forest}
 use Rattle.model.specs.Code.{Node, leaf, head, encode, decode, literals, weight, number, conn-kind, number-of, node-of}
 use Rattle.model.specs.Book.{characters}
-use Rattle.model.specs.Sheet.{used-in, numbers-in, nodes-in, rest-in, is-sheet}
+use Rattle.model.specs.Sheet.{used-in, numbers-in, nodes-in, rest-in}
 use Rattle.theory.specs.Logic.{and-split, and-join}
 use Rattle.theory.specs.Codes.{decode-encode, encode-decode, trees-drop}
 use Rattle.theory.specs.Numbers.{fits, fits-node, node-number}
 use Rattle.theory.specs.Lists.{map-back, map-drop}
 use Rattle.theory.specs.Shape.{shaped-trees}
-use Rattle.theory.specs.Sheets.{Sheet-facts, sheet-facts}
+use Rattle.theory.specs.Sheets.{Formed}
 use Rattle.theory.specs.Flat.{spell, Fits}
 
 -- The numbers before the zeros.
@@ -38,7 +39,7 @@ pub record Stretch (l : List ℕ) : Type 0 where
   pub spelled : l ≡ spell-to (length l) (forest-in l)
   pub fitting : Fits (forest-in l)
   pub room : weight (encode (forest-in l)) ≤ length l
-  pub short : length l ≤ 4096
+  pub short : length l ≤ sheet-room
 
 number-positive : (x : Node) → number-of x ≡ 0 → ⊥
 unfolding number-of number conn-kind
@@ -69,7 +70,7 @@ forest-spell f z h =
     ∙ decode-encode f
 
 -- A list that spells a forest is a stretch.
-pub stretch-of : (f : Forest) (l : List ℕ) → l ≡ spell-to (length l) f → Fits f → weight (encode f) ≤ length l → length l ≤ 4096 → Stretch l × (forest-in l ≡ f)
+pub stretch-of : (f : Forest) (l : List ℕ) → l ≡ spell-to (length l) f → Fits f → weight (encode f) ≤ length l → length l ≤ sheet-room → Stretch l × (forest-in l ≡ f)
 unfolding spell-to
 stretch-of f l e h w s =
     let back : forest-in l ≡ f = ap forest-in e ∙ forest-spell f (length l - length (encode f)) h in
@@ -94,28 +95,28 @@ all-drop q (suc p) [] h = h
 all-drop q (suc p) (x ∷ xs) h = all-drop q p xs (and-split (q x) (all q xs) h .1)
 
 -- The numbers of a sheet from its root on.
-pub stands : (s : List ℕ) → Sheet-facts s → drop 2 s ≡ map number-of (nodes-in s) ++ replicate (4096 - used-in s) 0
+pub stands : (s : List ℕ) → Formed s → drop 2 s ≡ map number-of (nodes-in s) ++ replicate (sheet-room - used-in s) 0
 unfolding rest-in numbers-in
 stands s facts =
     sym (take-append-drop (used-in s) (drop 2 s)) ∙ ap₂ _++_ (facts .numbers) (facts .rest)
 
 -- The stretch of a sheet from a place on.
-pub sheet-stretch : (s : List ℕ) (p : ℕ) → is-sheet s ≡ true → p ≤ used-in s → Stretch (drop (2 + p) s) × (forest-in (drop (2 + p) s) ≡ decode (drop p (nodes-in s)))
+pub sheet-stretch : (s : List ℕ) (p : ℕ) → Formed s → p ≤ used-in s → Stretch (drop (2 + p) s) × (forest-in (drop (2 + p) s) ≡ decode (drop p (nodes-in s)))
 unfolding spell-to spell weight nodes-in numbers-in
 sheet-stretch s p h le =
-    let facts = sheet-facts s h in
+    let facts = h in
     let ns = nodes-in s in
     let ms = drop p ns in
     let t = trees-drop p ns (shaped-trees (facts .shaped)) in
     let code : encode (decode ms) ≡ ms = encode-decode ms (t .0) (t .1) .0 in
-    let numbers : drop 2 s ≡ map number-of ns ++ replicate (4096 - used-in s) 0 = stands s facts in
+    let numbers : drop 2 s ≡ map number-of ns ++ replicate (sheet-room - used-in s) 0 = stands s facts in
     let count = facts .count in
     let within : p ≤ length (map number-of ns) = rw (length-map ns number-of) (omega arith) in
-    let here : drop (2 + p) s ≡ map number-of ms ++ replicate (4096 - used-in s) 0 =
-    sym (drop-drop p 2 s) ∙ ap (drop p) numbers ∙ drop-append-le p (map number-of ns) (replicate (4096 - used-in s) 0) within ∙ ap (λ xs. xs ++ replicate (4096 - used-in s) 0) (sym (map-drop number-of p ns)) in
-    let long : length (drop (2 + p) s) ≡ 4096 - p = length-drop (2 + p) s ∙ (let w = facts .whole in let u = facts .used in omega arith) in
+    let here : drop (2 + p) s ≡ map number-of ms ++ replicate (sheet-room - used-in s) 0 =
+    sym (drop-drop p 2 s) ∙ ap (drop p) numbers ∙ drop-append-le p (map number-of ns) (replicate (sheet-room - used-in s) 0) within ∙ ap (λ xs. xs ++ replicate (sheet-room - used-in s) 0) (sym (map-drop number-of p ns)) in
+    let long : length (drop (2 + p) s) ≡ sheet-room - p = length-drop (2 + p) s ∙ (let w = facts .whole in let u = facts .used in omega arith) in
     let few : length ms ≡ used-in s - p = length-drop p ns ∙ ap (λ k. k - p) count in
-    let left : 4096 - used-in s ≡ length (drop (2 + p) s) - length (encode (decode ms)) = let u = facts .used in omega (arith, ap length code) in
+    let left : sheet-room - used-in s ≡ length (drop (2 + p) s) - length (encode (decode ms)) = let u = facts .used in omega (arith, ap length code) in
     let spelled : drop (2 + p) s ≡ spell-to (length (drop (2 + p) s)) (decode ms) =
     here ∙ ap₂ (λ xs z. map number-of xs ++ replicate z 0) (sym code) left in
     stretch-of (decode ms) (drop (2 + p) s) spelled (rw code (all-drop fits p ns (all-nodes-fit (numbers-in s)))) (rw code (let w = facts .weight in let d = drop-literals p ns in omega arith)) (omega arith)

@@ -13,18 +13,17 @@ use lib.ListN.{length, getD, set, replicate, List·getD-eq-default}
 use lib.Seq.{getD-set-same, getD-set-other}
 use Rattle.model.specs.Base.{pick, all, any}
 use Rattle.model.specs.Literal.{Literal, pos, neg, complement, option, same, has}
-use Rattle.model.specs.Forest.{Conn, and, or, root, Forest, nil, lit, node}
+use Rattle.model.specs.Forest.{Conn, root, Forest, nil, lit, node, size}
 use Rattle.model.specs.Code.{decode}
-use Rattle.model.specs.Clauses.{Clause, unions, no-child, join, clauses, Derived, derived, Contradictory}
+use Rattle.model.specs.Clauses.{Clause, unions, need, no-tree, one-tree-more, some-of, clauses, Derived, derived, Contradictory}
 use Rattle.model.specs.Propagation.{others, refuted, conflict, mark, count-from, report-by, report, complete}
-use Rattle.model.specs.Sheet.{is-sheet, options-in, nodes-in, clauses-in}
-use Rattle.model.specs.Calls.{report-in}
+use Rattle.model.specs.Sheet.{options-in, nodes-in, clauses-in, report-in}
 use Rattle.theory.specs.Logic.{true-false, either, and-split, and-join, or-split, or-left, or-right, same-test, pick-true}
 use Rattle.theory.specs.Lists.{all-append, all-at, all-from, any-at, any-from, all-map}
 use Rattle.theory.specs.Literals.{same-is, not-same, complement-twice, complement-inj, has-mem, not-has}
 use Rattle.theory.specs.Fine.{fine, fine-node}
 use Rattle.theory.specs.Clauses.{clauses-root, all-others, all-but-one}
-use Rattle.theory.specs.Sheets.{sheet-shaped}
+use Rattle.theory.specs.Sheets.{Formed}
 use Rattle.theory.specs.Shape.{shaped-decode}
 use Rattle.theory.specs.Exact.{Sound, refuted-others, contradictory-or-not}
 use Rattle.theory.specs.ExactReports.{report-tells, report-by-settled}
@@ -166,27 +165,26 @@ all-unions p (c ∷ cs) ds a b =
     let one = all-map (λ d. c ++ d) (all p) ds ∙ all-from (λ d. all p (c ++ d)) ds (λ d m. all-append p c d ∙ and-join (s .0) (all-at (all p) ds b m)) in
     all-append (all p) (map (λ d. c ++ d) ds) (unions cs ds) ∙ and-join one (all-unions p cs ds (s .1) b)
 
-all-join : (p : Literal → Bool) (c : Conn) (cs ds : List Clause) → all (all p) cs ≡ true → all (all p) ds ≡ true → all (all p) (join c cs ds) ≡ true
-unfolding join
-all-join p and cs ds a b = all-append (all p) cs ds ∙ and-join a b
-all-join p or cs ds a b = all-unions p cs ds a b
-all-join p root cs ds a b = all-append (all p) cs ds ∙ and-join a b
+all-more : (p : Literal → Bool) (cs : List Clause) (later : ℕ → List Clause) → all (all p) cs ≡ true → ((r : ℕ) → all (all p) (later r) ≡ true) → (r : ℕ) → all (all p) (one-tree-more cs later r) ≡ true
+unfolding one-tree-more all
+all-more p cs later a b zero = refl
+all-more p cs later a b (suc r) =
+    all-append (all p) (unions cs (later r)) (later (suc r)) ∙ and-join (all-unions p cs (later r) a (b r)) (b (suc r))
 
-all-none : (p : Literal → Bool) (c : Conn) → all (all p) (no-child c) ≡ true
-unfolding no-child all
-all-none p and = refl
-all-none p or = refl
-all-none p root = refl
+named-of : (n : ℕ) (f : Forest) → fine n f ≡ true → (r : ℕ) → all (all (λ l. ltb (option l) n)) (some-of f r) ≡ true
+unfolding fine some-of no-tree all
+named-of n nil h zero = refl
+named-of n nil h (suc r) = refl
+named-of n (lit l f) h r =
+    let s = and-split (ltb (option l) n) (fine n f) h in
+    all-more (λ l. ltb (option l) n) ((l ∷ []) ∷ []) (some-of f) (rw (s .0)) (named-of n f (s .1)) r
+named-of n (node d k f) h r =
+    let s = fine-node n d k f h in
+    all-more (λ l. ltb (option l) n) (some-of k (need d (size k))) (some-of f) (named-of n k (s .1) (need d (size k))) (named-of n f (s .2)) r
 
 pub named : (n : ℕ) (c : Conn) (f : Forest) → fine n f ≡ true → all (all (λ l. ltb (option l) n)) (clauses c f) ≡ true
-unfolding fine clauses all
-named n c nil h = all-none (λ l. ltb (option l) n) c
-named n c (lit l f) h =
-    let s = and-split (ltb (option l) n) (fine n f) h in
-    all-join (λ l. ltb (option l) n) c ((l ∷ []) ∷ []) (clauses c f) (rw (s .0)) (named n c f (s .1))
-named n c (node d k f) h =
-    let s = fine-node n d k f h in
-    all-join (λ l. ltb (option l) n) c (clauses d k) (clauses c f) (named n d k (s .1)) (named n c f (s .2))
+unfolding clauses
+named n c f h = named-of n f h (need c (size f))
 
 -- The literal is forced by what the table holds, and no fact yet.
 unfoldable pub forced-by : Forest → List ℕ → Literal → Bool
@@ -263,11 +261,11 @@ is-marked t v = eqb (mark-in t v) 1 || eqb (mark-in t v) 2
 abbrev pub Has-report : List ℕ → List ℕ → Type 0
 Has-report s t = report-by (options-in s) (clauses-in s) (facts-in t) ≡ report-in s
 
-module _ (s : List ℕ) (h : is-sheet s ≡ true) where
+module _ (s : List ℕ) (h : Formed s) where
   sheet-named : all (all (λ l. ltb (option l) (options-in s))) (clauses-in s) ≡ true
   unfolding clauses-in
   sheet-named =
-      let form = sheet-shaped s h in
+      let form = h .shaped in
       rw (shaped-decode form, clauses-root (form .kids)) (named (options-in s) root (form .kids) (form .fine))
 
   -- A table on which nothing is forced any more has the report.

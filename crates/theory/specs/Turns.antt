@@ -42,13 +42,13 @@ family-of (suc r) e = let next : 1 + r ≡ suc r = omega arith in rw next at (in
 
 -- What a rule asks of the children, and what it makes of them.
 module _ {r : ℕ} {l : List ℕ} (h : Headed r l) (i j : ℕ) where
-  family-change : change (h .row .family) (h .row .conn) i j (h .children) ≡ change (family-at r) (h .row .conn) i j (h .children)
-  family-change = ap (λ x. change x (h .row .conn) i j (h .children)) (family-of r (h .its-row))
+  family-change : change (h .row .family) (h .conn) i j (h .children) ≡ change (family-at r) (h .conn) i j (h .children)
+  family-change = ap (λ x. change x (h .conn) i j (h .children)) (family-of r (h .its-row))
 
-  pub family-asks : is-some (rewrite r i j (forest-in l)) ≡ is-some (change (family-at r) (h .row .conn) i j (h .children))
+  pub family-asks : is-some (rewrite r i j (forest-in l)) ≡ is-some (change (family-at r) (h .conn) i j (h .children))
   family-asks = headed-asks h i j ∙ ap is-some family-change
 
-  pub family-turn : {out : List ℕ} (z : ℕ) → is-some (rewrite r i j (forest-in l)) ≡ true → ((g : Forest) → change (family-at r) (h .row .conn) i j (h .children) ≡ some g → out ≡ spell (g ⊕ h .rest) z) → length out ≡ length l → out ≡ rewritten-to r i j l
+  pub family-turn : {out : List ℕ} (z : ℕ) → is-some (rewrite r i j (forest-in l)) ≡ true → ((g : Forest) → change (family-at r) (h .conn) i j (h .children) ≡ some g → out ≡ spell (g ⊕ h .rest) z) → length out ≡ length l → out ≡ rewritten-to r i j l
   family-turn z t shape n =
-      let w = is-some-of (change (family-at r) (h .row .conn) i j (h .children)) (sym family-asks ∙ t) in
+      let w = is-some-of (change (family-at r) (h .conn) i j (h .children)) (sym family-asks ∙ t) in
       headed-turn h i j z (family-change ∙ w .1) (shape (w .0) (w .1)) n

@@ -1,73 +1,82 @@
 -- The value of a tree depends on what stands below and beside it through values alone: how `fails` and `values` go through
 -- forests side by side, through first trees and the rest, and through the prefix code.
-use mathlib.Core.Bool.{Bool, and-assoc, or-assoc, _||_, and-true, or-false}
+use mathlib.Core.Bool.{Bool, true, false, _&&_, _||_}
 use mathlib.Core.List.{List, [], _∷_, _++_}
 use mathlib.Core.Path.{_≡_, refl, sym, ap, ap₂, _∙_}
 use Prim.Native.Nat.{ℕ, zero, suc}
 use lib.ListN.{take, drop}
+use Rattle.model.specs.Base.{all, any}
 use Rattle.model.specs.Forest.{Conn, and, or, root, Forest, nil, lit, node, _⊕_, first, after}
 use Rattle.model.specs.Code.{Node, leaf, head, push}
+use Rattle.theory.specs.Lists.{any-append}
 use Rattle.theory.specs.Codes.{decode-onto}
-use Rattle.theory.specs.Evaluation.{Set, fails-empty, fails-both, fails, values}
+use Rattle.theory.specs.Evaluation.{Set, fails-all, fails, values}
 
--- Each connective's `fails-both` is associative, and `fails-empty` is neutral for it on either side.
-pub both-assoc : (c : Conn) (x y z : Bool) → fails-both c (fails-both c x y) z ≡ fails-both c x (fails-both c y z)
-unfolding fails-both
-both-assoc and x y z = or-assoc x y z
-both-assoc or x y z = and-assoc x y z
-both-assoc root x y z = or-assoc x y z
+-- One child more, of a disjunction, and of the root, which fails as a conjunction does.
+module _ (b : Bool) (bs : List Bool) where
+  pub or-more : fails-all or (b ∷ bs) ≡ (b && fails-all or bs)
+  unfolding fails-all all
+  or-more = refl
 
-pub empty-both : (c : Conn) (x : Bool) → fails-both c (fails-empty c) x ≡ x
-unfolding fails-both fails-empty
-empty-both and x = refl
-empty-both or x = refl
-empty-both root x = refl
+  pub root-more : fails-all root (b ∷ bs) ≡ (b || fails-all root bs)
+  unfolding fails-all any
+  root-more = refl
 
-pub both-empty : (c : Conn) (x : Bool) → fails-both c x (fails-empty c) ≡ x
-unfolding fails-both fails-empty
-both-empty and x = or-false x
-both-empty or x = and-true x
-both-empty root x = or-false x
+pub or-none : fails-all or [] ≡ true
+unfolding fails-all all
+or-none = refl
 
--- Where the node is no disjunction, it fails where either does.
-pub conjunctive : (c : Conn) → (c ≡ or → ⊥) → (x y : Bool) → fails-both c x y ≡ (x || y)
-unfolding fails-both
-conjunctive and h x y = refl
-conjunctive or h x y = absurd (h refl)
-conjunctive root h x y = refl
+pub root-none : fails-all root [] ≡ false
+unfolding fails-all any
+root-none = refl
 
-pub fails-⊕ : (s : Set) (c : Conn) (f g : Forest) → fails s c (f ⊕ g) ≡ fails-both c (fails s c f) (fails s c g)
-unfolding fails _⊕_
-fails-⊕ s c nil g = sym (empty-both c (fails s c g))
-fails-⊕ s c (lit l f) g = ap (fails-both c (s l)) (fails-⊕ s c f g) ∙ sym (both-assoc c _ _ _)
-fails-⊕ s c (node d k f) g = ap (fails-both c (fails s d k)) (fails-⊕ s c f g) ∙ sym (both-assoc c _ _ _)
+pub and-root : (bs : List Bool) → fails-all and bs ≡ fails-all root bs
+unfolding fails-all
+and-root bs = refl
 
--- Whether a node fails is a fold over the values of its children.
-unfoldable pub fails-all : Conn → List Bool → Bool
-fails-all c [] = fails-empty c
-fails-all c (b ∷ bs) = fails-both c b (fails-all c bs)
+-- The children of the root in two parts.
+pub root-append : (xs ys : List Bool) → fails-all root (xs ++ ys) ≡ (fails-all root xs || fails-all root ys)
+unfolding fails-all
+root-append xs ys = any-append (λ b. b) xs ys
 
+-- Whether a node fails depends on the values of its children alone.
 pub fails-values : (s : Set) (c : Conn) (f : Forest) → fails s c f ≡ fails-all c (values s f)
-unfolding fails fails-all values
-fails-values s c nil = refl
-fails-values s c (lit l f) = ap (fails-both c (s l)) (fails-values s c f)
-fails-values s c (node d k f) = ap (fails-both c (fails s d k)) (fails-values s c f)
+unfolding fails
+fails-values s c f = refl
 
 pub same-fails : (s : Set) (c : Conn) (f g : Forest) → values s f ≡ values s g → fails s c f ≡ fails s c g
-same-fails s c f g e = fails-values s c f ∙ ap (fails-all c) e ∙ sym (fails-values s c g)
+unfolding fails
+same-fails s c f g e = ap (fails-all c) e
+
+-- The root, by its children.
+pub root-empty : (s : Set) → fails s root nil ≡ false
+unfolding fails values
+root-empty s = root-none
+
+pub root-and : (s : Set) (f : Forest) → fails s and f ≡ fails s root f
+unfolding fails
+root-and s f = and-root (values s f)
+
+pub root-with : (s : Set) (c : Conn) (k f : Forest) → fails s root (node c k f) ≡ (fails s c k || fails s root f)
+unfolding fails values
+root-with s c k f = root-more (fails s c k) (values s f)
 
 pub values-⊕ : (s : Set) (f g : Forest) → values s (f ⊕ g) ≡ values s f ++ values s g
 unfolding values _⊕_
 values-⊕ s nil g = refl
 values-⊕ s (lit l f) g = ap (λ bs. s l ∷ bs) (values-⊕ s f g)
-values-⊕ s (node c k f) g = ap (λ bs. fails s c k ∷ bs) (values-⊕ s f g)
+values-⊕ s (node c k f) g = ap (λ bs. fails-all c (values s k) ∷ bs) (values-⊕ s f g)
+
+pub root-⊕ : (s : Set) (f g : Forest) → fails s root (f ⊕ g) ≡ (fails s root f || fails s root g)
+unfolding fails
+root-⊕ s f g = ap (fails-all root) (values-⊕ s f g) ∙ root-append (values s f) (values s g)
 
 pub values-first : (s : Set) (n : ℕ) (f : Forest) → values s (first n f) ≡ take n (values s f)
 unfolding values first
 values-first s zero f = refl
 values-first s (suc n) nil = refl
 values-first s (suc n) (lit l f) = ap (λ bs. s l ∷ bs) (values-first s n f)
-values-first s (suc n) (node c k f) = ap (λ bs. fails s c k ∷ bs) (values-first s n f)
+values-first s (suc n) (node c k f) = ap (λ bs. fails-all c (values s k) ∷ bs) (values-first s n f)
 
 pub values-after : (s : Set) (n : ℕ) (f : Forest) → values s (after n f) ≡ drop n (values s f)
 unfolding values after
@@ -87,4 +96,4 @@ values-onto s (head c n ∷ ns) f g e =
     let inner = values-onto s ns f g e in
     let firsts = values-first s n a ∙ ap (take n) inner ∙ sym (values-first s n b) in
     let afters = values-after s n a ∙ ap (drop n) inner ∙ sym (values-after s n b) in
-    ap₂ (λ x bs. x ∷ bs) (same-fails s c (first n a) (first n b) firsts) afters
+    ap₂ (λ x bs. x ∷ bs) (ap (fails-all c) firsts) afters

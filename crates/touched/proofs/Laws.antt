@@ -9,17 +9,16 @@ use borrow.Author.Tests.{ne-eqb, ltb-true, ltb-false}
 use lib.Dec.{eqb, ltb}
 use lib.ListN.{length, getD, drop, set, length-drop}
 use lib.Seq.{drop-drop, getD-drop, getD-set-same, getD-set-other}
+use Rattle.model.specs.Limits.{sheet-room}
 use Rattle.model.specs.Forest.{Conn, and, or, root, Forest, nil, lit, node, size, after, kids, constant-at}
-use Rattle.model.specs.Base.{pick}
-use Rattle.model.specs.Code.{Node, encode, decode, kind, value, number, conn-kind}
-use Rattle.model.specs.Sheet.{is-sheet, used-in, nodes-in}
+use Rattle.model.specs.Code.{Node, encode, decode, number, conn-kind}
+use Rattle.model.specs.Sheet.{used-in, nodes-in}
 use Rattle.theory.specs.Logic.{either}
 use Rattle.theory.specs.Forests.{past-end}
 use Rattle.theory.specs.Rooted.{no-root, no-root-node, Rooted, below-root}
 use Rattle.theory.specs.Shape.{shaped-rooted}
-use Rattle.theory.specs.Sheets.{sheet-facts}
-use Rattle.theory.specs.Scan.{is-literal}
-use Rattle.theory.specs.Spans.{arity, arity-leaf, arity-head, span, span-none, child-at}
+use Rattle.theory.specs.Sheets.{Formed}
+use Rattle.theory.specs.Spans.{arity, arity-none, arity-leaf, arity-head, span, span-none, child-at}
 use Rattle.theory.specs.Flat.{spell, Fits, fits-lit, fits-tree}
 use Rattle.theory.specs.Stretches.{spell-to, sheet-stretch}
 use Rattle.theory.specs.Children.{Group, first-left, child-constant, child-room}
@@ -50,9 +49,9 @@ no-empty-root (suc i) (node c k f) e = no-empty-root i f (no-root-node c k f e .
 
 -- The first number of a forest announces the children of its first tree.
 announced : (f : Forest) (z : ℕ) → Fits f → arity (getD (spell f z) 0 0) ≡ size (kids f)
-unfolding kids size spell encode arity is-literal kind value pick
-announced nil zero h = refl
-announced nil (suc z) h = refl
+unfolding kids size spell encode
+announced nil zero h = arity-none
+announced nil (suc z) h = arity-none
 announced (lit x f) z h = arity-leaf x (fits-lit x f h .0)
 announced (node c k f) z h = arity-head c (size k) (fits-tree c k f h .0)
 
@@ -75,7 +74,7 @@ pub record Passed (s : List ℕ) (p i at : ℕ) : Type 0 where
 pub passed-first : (s : List ℕ) (p : ℕ) → Passed s p 0 (p + 1)
 passed-first s p = record { here = omega (arith, span-none (drop 1 (drop (2 + p) s))); none-yet = λ j l. absurd (omega arith) }
 
-module _ (s : List ℕ) (h : is-sheet s ≡ true) (p : ℕ) (lt : p < used-in s) where
+module _ (s : List ℕ) (h : Formed s) (p : ℕ) (lt : p < used-in s) where
   -- What stands at the place, and how many children it announces.
   spelled-here : let f = decode (drop p (nodes-in s)) in (z : ℕ) × (drop (2 + p) s ≡ spell f z) × Fits f
   unfolding spell-to
@@ -113,9 +112,9 @@ module _ (s : List ℕ) (h : is-sheet s ≡ true) (p : ℕ) (lt : p < used-in s)
         group-of (decode (drop p (nodes-in s))) (f .0) (drop (2 + p) s) (f .1) (f .2) (omega (arith, left))
 
     -- It begins within the sheet, and its number tells whether it is a constant.
-    pub passed-inside : at < 4096
+    pub passed-inside : at < sheet-room
     passed-inside =
-        omega (arith, w .here, child-room (group-here .2) i (omega (arith, left)), left, length-drop (2 + p) s, sheet-facts s h .whole, sheet-facts s h .used)
+        omega (arith, w .here, child-room (group-here .2) i (omega (arith, left)), left, length-drop (2 + p) s, h .whole, h .used)
 
     asked : (d : Conn) → eqb (getD s (2 + at) 0) (number (conn-kind d) 0) ≡ constant-at d (after i (children s p))
     asked d =
@@ -128,18 +127,18 @@ module _ (s : List ℕ) (h : is-sheet s ≡ true) (p : ℕ) (lt : p < used-in s)
     unfolding number conn-kind
     no-constant a o and = sym (asked and) ∙ ne-eqb (getD s (2 + at) 0) 12288 a
     no-constant a o or = sym (asked or) ∙ ne-eqb (getD s (2 + at) 0) 16384 o
-    no-constant a o root = no-empty-root i (children s p) (below-place p (nodes-in s) (shaped-rooted (sheet-facts s h .shaped)))
+    no-constant a o root = no-empty-root i (children s p) (below-place p (nodes-in s) (shaped-rooted (h .shaped)))
 
     -- One hop, by the table of sizes.
     module _ (t : List ℕ) (sized : Sized 0 (drop 2 s) t) {n : ℕ} (read : n ≡ getD t at 0) where
       long : at < length (drop 2 s)
-      long = omega (arith, passed-inside, length-drop 2 s, sheet-facts s h .whole)
+      long = omega (arith, passed-inside, length-drop 2 s, h .whole)
 
       hop : n ≡ span 1 (drop at (drop 2 s))
       hop = read ∙ sized at (omega arith) long
 
-      pub passed-room : at + n ≤ 4096
-      passed-room = omega (arith, hop, span-one at (drop 2 s) long .1, length-drop 2 s, sheet-facts s h .whole)
+      pub passed-room : at + n ≤ sheet-room
+      passed-room = omega (arith, hop, span-one at (drop 2 s) long .1, length-drop 2 s, h .whole)
 
       pub passed-more : (getD s (2 + at) 0 ≡ 12288 → ⊥) → (getD s (2 + at) 0 ≡ 16384 → ⊥) → Passed s p (i + 1) (at + n)
       passed-more a o =

@@ -4,14 +4,16 @@ ghost use mathlib.Core.Path.{_≡_};
 ghost use mathlib.Core.Bool.{true, false};
 ghost use Prim.Native.Nat.{_≤_, _<_};
 ghost use lib.ListN.{length, drop};
-ghost use Rattle.model.specs.Sheet.{«is-sheet», «used-in», «nodes-in»};
+ghost use Rattle.model.specs.Limits.{«sheet-room»};
+ghost use Rattle.model.specs.Sheet.{«used-in», «nodes-in»};
+ghost use Rattle.theory.specs.Sheets.{Formed};
 ghost use Rattle.sizes.specs.Tables.{Sized};
 ghost use Rattle.touched.specs.Touched.{Bare, «Set-back»};
 
-// The node at a place has a constant among its children.
+// The node at a place has a constant among its children: the number of an empty conjunction (kind 3) or disjunction (kind 4).
 fn has_constant(sheet: &[u16], sizes: &[u16], place: usize) -> bool
-    requires { ⌜ («is-sheet» (now sheet) ≡ true) × (place < «used-in» (now sheet)) ⌝ }
-    requires { ⌜ (length (now sizes) ≡ 4096) × Sized 0 (drop 2 (now sheet)) (now sizes) ⌝ }
+    requires { ⌜ Formed (now sheet) × (place < «used-in» (now sheet)) ⌝ }
+    requires { ⌜ (length (now sizes) ≡ «sheet-room») × Sized 0 (drop 2 (now sheet)) (now sizes) ⌝ }
     ensures { λ r. ⌜ (r ≡ false → Bare place («nodes-in» (now (sheet .entry)))) ⌝ }
 {
     let k = spans::arity_of(numbers::wide16(sheet[2 + place]));
@@ -30,9 +32,9 @@ fn has_constant(sheet: &[u16], sizes: &[u16], place: usize) -> bool
 
 // The bounds of the places from one up to another that have a constant among their children go back to 1.
 pub fn set_back(sheet: &[u16], sizes: &[u16], low: &mut [u16], from: usize, to: usize)
-    requires { ⌜ («is-sheet» (now sheet) ≡ true) × (from ≤ to) × (to ≤ «used-in» (now sheet)) ⌝ }
-    requires { ⌜ (length (now sizes) ≡ 4096) × Sized 0 (drop 2 (now sheet)) (now sizes) ⌝ }
-    requires { ⌜ length (now low) ≡ 4096 ⌝ }
+    requires { ⌜ Formed (now sheet) × (from ≤ to) × (to ≤ «used-in» (now sheet)) ⌝ }
+    requires { ⌜ (length (now sizes) ≡ «sheet-room») × Sized 0 (drop 2 (now sheet)) (now sizes) ⌝ }
+    requires { ⌜ length (now low) ≡ «sheet-room» ⌝ }
     ensures { λ r. ⌜ «Set-back» from to («nodes-in» (now (sheet .entry))) (now (low .entry)) (now (low .exit)) ⌝ }
 {
     let mut place = from;

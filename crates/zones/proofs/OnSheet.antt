@@ -7,38 +7,39 @@ use Prim.Native.Nat.{ℕ, _+_, _≤_, _<_}
 use native.Mathlib.Omega.{arith}
 use lib.ListN.{length, getD, drop, length-drop}
 use Rattle.model.specs.Base.{is-some}
+use Rattle.model.specs.Limits.{sheet-room, last-rule}
 use Rattle.model.specs.Forest.{size, kids}
 use Rattle.model.specs.Code.{Node, decode, trees, weight}
 use Rattle.model.specs.Rules.{step}
-use Rattle.model.specs.Sheet.{is-sheet, used-in, nodes-in}
+use Rattle.model.specs.Sheet.{used-in, nodes-in}
 use Rattle.theory.specs.Shape.{shaped-trees}
 use Rattle.theory.specs.Steps.{done, more, steps-weight}
 use Rattle.theory.specs.Bounds.{step-within}
-use Rattle.theory.specs.Sheets.{Sheet-facts, sheet-facts}
+use Rattle.theory.specs.Sheets.{Formed}
 use Rattle.locality.specs.Zones.{tree-end, child-place}
 use Rattle.sizes.specs.Tables.{Sized}
 use Rattle.zones.specs.Zoned.{after-step, Zoned}
 use Rattle.zones.proofs.Places.{size-here}
 use Rattle.zones.proofs.Zones as Z
 
-module _ (s : List ℕ) (h : is-sheet s ≡ true) (r p i j : ℕ) (a : is-some (step r p i j (nodes-in s)) ≡ true) where
+module _ (s : List ℕ) (h : Formed s) (r p i j : ℕ) (a : is-some (step r p i j (nodes-in s)) ≡ true) where
   ns : List Node
   ns = nodes-in s
 
-  facts : Sheet-facts s
-  facts = sheet-facts s h
+  facts : Formed s
+  facts = h
 
   one : trees (nodes-in s) ≡ some 1
   one = shaped-trees (facts .shaped)
 
-  pub few : length (nodes-in s) ≤ 4096
+  pub few : length (nodes-in s) ≤ sheet-room
   few = omega (arith, facts .count, facts .used)
 
   pub did : step r p i j (nodes-in s) ≡ some (after-step r p i j (nodes-in s))
   did = Z.did r p i j (nodes-in s) one few a
 
   -- The rule is one of the fourteen, the place one of the nodes, and the child is there.
-  pub rules : (1 ≤ r) × (r ≤ 14)
+  pub rules : (1 ≤ r) × (r ≤ last-rule)
   rules = let w = step-within r p i j (nodes-in s) did .1 in (w .rule-low, w .rule-high)
 
   pub within : p < used-in s
@@ -47,7 +48,7 @@ module _ (s : List ℕ) (h : is-sheet s ≡ true) (r p i j : ℕ) (a : is-some (
   pub child : i < size (kids (decode (drop p (nodes-in s))))
   child = Z.child-there r p i j (nodes-in s) one few a .1
 
-  pub short : length (after-step r p i j (nodes-in s)) ≤ 4096
+  pub short : length (after-step r p i j (nodes-in s)) ≤ sheet-room
   unfolding weight
   short =
       let light = steps-weight (facts .shaped) (more r p i j did done) in
@@ -77,7 +78,7 @@ module _ (s : List ℕ) (h : is-sheet s ≡ true) (r p i j : ℕ) (a : is-some (
   pub zone-13 : r ≡ 13 → let at = child-place p i (nodes-in s) in Zoned r p i j (nodes-in s) at (at + 1) at
   zone-13 = Z.zone-13 r p i j (nodes-in s) one few a
 
-  pub zone-14 : r ≡ 14 → Zoned r p i j (nodes-in s) p 4096 4096
+  pub zone-14 : r ≡ 14 → Zoned r p i j (nodes-in s) p sheet-room sheet-room
   zone-14 e = Z.zone-14 r p i j (nodes-in s) one few a e short
 
   pub inner-there : 11 ≤ r → r ≤ 12 → j < size (kids (decode (drop (child-place p i (nodes-in s)) (nodes-in s))))

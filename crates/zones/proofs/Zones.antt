@@ -7,6 +7,7 @@ use Prim.Native.Nat.{ℕ, suc, _+_, _-_, _≤_, _<_}
 use native.Mathlib.Omega.{arith}
 use lib.ListN.{length, drop}
 use Rattle.model.specs.Base.{pick, is-some, maybe}
+use Rattle.model.specs.Limits.{sheet-room}
 use Rattle.model.specs.Literal.{Literal}
 use Rattle.model.specs.Forest.{and, Forest, node, lit, size, after, kids, _⊕_, conjunction-at, literal-at}
 use Rattle.model.specs.Code.{Node, decode, trees}
@@ -14,7 +15,7 @@ use Rattle.model.specs.Rules.{lifts, factors, change, lift, step}
 use Rattle.theory.specs.Logic.{is-some-of, then-some}
 use Rattle.theory.specs.Forests.{conjunction-here, literal-here, size-after}
 use Rattle.theory.specs.Codes.{size-length, decode-encode}
-use Rattle.theory.specs.Bounds.{step-within}
+use Rattle.theory.specs.Bounds.{step-within, step-child}
 use Rattle.theory.specs.Turns.{family-at}
 use Rattle.locality.specs.Zones.{between, zone, tree-length, tree-end, child-place}
 use Rattle.locality.specs.Places.{read-here, length-here, child-here}
@@ -27,7 +28,7 @@ lit-size : (l : Literal) (f : Forest) → 1 ≤ size (lit l f)
 unfolding size
 lit-size l f = omega arith
 
-module _ (r p i j : ℕ) (ns : List Node) {t : ℕ} (h : trees ns ≡ some t) (few : length ns ≤ 4096) (a : is-some (step r p i j ns) ≡ true) where
+module _ (r p i j : ℕ) (ns : List Node) {t : ℕ} (h : trees ns ≡ some t) (few : length ns ≤ sheet-room) (a : is-some (step r p i j ns) ≡ true) where
   abbrev ms : List Node
   ms = after-step r p i j ns
 
@@ -61,7 +62,7 @@ module _ (r p i j : ℕ) (ns : List Node) {t : ℕ} (h : trees ns ≡ some t) (f
 
   -- Child i is there, and the tree at the place has a node below its head.
   pub child-there : (p < length ns) × (i < size (kids (decode (drop p ns))))
-  child-there = let w = step-within r p i j ns did in (w .0, w .1 .child)
+  child-there = (step-within r p i j ns did .0, step-child r p i j ns did)
 
   pub tall : 2 ≤ tree-length p ns
   unfolding kids
@@ -95,7 +96,7 @@ module _ (r p i j : ℕ) (ns : List Node) {t : ℕ} (h : trees ns ≡ some t) (f
   zone-13 e = zoned (ap (λ q. zone (family-at q) p i j ns ms) e) (omega arith) (λ x y. absurd (omega arith))
 
   -- Rule 14 may make the nodes longer: from the place on nothing is said.
-  pub zone-14 : r ≡ 14 → length (after-step r p i j ns) ≤ 4096 → Zoned r p i j ns p 4096 4096
+  pub zone-14 : r ≡ 14 → length (after-step r p i j ns) ≤ sheet-room → Zoned r p i j ns p sheet-room sheet-room
   unfolding zone family-at pick
   zone-14 e short =
       let its : zone (family-at r) p i j ns ms ≡ zone factors p i j ns ms = ap (λ q. zone (family-at q) p i j ns ms) e in

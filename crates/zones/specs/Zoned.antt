@@ -4,6 +4,7 @@ use mathlib.Core.Path.{_≡_}
 use Prim.Native.Nat.{ℕ, _+_, _-_, _≤_, _<_}
 use lib.ListN.{length, drop}
 use Rattle.model.specs.Base.{maybe}
+use Rattle.model.specs.Limits.{sheet-room}
 use Rattle.model.specs.Code.{Node}
 use Rattle.model.specs.Rules.{step}
 use Rattle.theory.specs.Turns.{family-at}
@@ -19,7 +20,7 @@ pub record Zoned (r p i j : ℕ) (ns : List Node) (from old new : ℕ) : Type 0 
   pub place-from : p ≤ from
   pub from-new : from ≤ new
   pub new-old : new ≤ old
-  pub old-within : old ≤ 4096
+  pub old-within : old ≤ sheet-room
   pub before : from ≤ zone (family-at r) p i j ns (after-step r p i j ns) .from
   pub after : (q : ℕ) → new ≤ q → q < length (after-step r p i j ns) → (drop q (after-step r p i j ns) ≡ drop (q + (old - new)) ns) × (q + (old - new) < length ns)
   pub level : 9 ≤ r → r ≤ 12 → old ≡ new

@@ -4,13 +4,16 @@ ghost use mathlib.Core.Bool.{true};
 ghost use Prim.Native.Nat.{_+_, _≤_, _<_};
 ghost use lib.ListN.{length, drop};
 ghost use Rattle.model.specs.Base.{«is-some»};
+ghost use Rattle.model.specs.Limits.{«sheet-room»};
 ghost use Rattle.model.specs.Forest.{size, kids};
 ghost use Rattle.model.specs.Code.{decode};
 ghost use Rattle.model.specs.Rules.{step};
-ghost use Rattle.model.specs.Sheet.{«is-sheet», «nodes-in»};
+ghost use Rattle.model.specs.Sheet.{«nodes-in»};
+ghost use Rattle.theory.specs.Sheets.{Formed};
 ghost use Rattle.locality.specs.Zones.{«child-place», «tree-end»};
 ghost use Rattle.sizes.specs.Tables.{Sized};
 ghost use Rattle.zones.specs.Zoned.{Zoned};
+use limits::SHEET_ROOM;
 
 pub struct Zone {
     pub from: usize,
@@ -20,9 +23,9 @@ pub struct Zone {
 
 // The place of child i of the node at a place.
 fn child_place(sheet: &[u16], place: usize, i: usize) -> usize
-    requires { ⌜ «is-sheet» (now sheet) ≡ true ⌝ }
+    requires { ⌜ Formed (now sheet) ⌝ }
     requires { ⌜ i < size (kids (decode (drop place («nodes-in» (now sheet))))) ⌝ }
-    ensures { λ r. ⌜ (r ≡ «child-place» place i («nodes-in» (now (sheet .entry)))) × (r < 4096) ⌝ }
+    ensures { λ r. ⌜ (r ≡ «child-place» place i («nodes-in» (now (sheet .entry)))) × (r < «sheet-room») ⌝ }
 {
     let from = 2 + place;
     place + spans::child_at(&sheet[from..], i)
@@ -31,7 +34,7 @@ fn child_place(sheet: &[u16], place: usize, i: usize) -> usize
 // The zone of rules 9 to 13, where the tree at the place ends.
 fn late_zone(sheet: &[u16], rule: usize, place: usize, i: usize, j: usize, end: usize) -> Zone
     requires { ⌜ (9 ≤ rule) × (rule ≤ 13) ⌝ }
-    requires { ⌜ «is-sheet» (now sheet) ≡ true ⌝ }
+    requires { ⌜ Formed (now sheet) ⌝ }
     requires { ⌜ «is-some» (step rule place i j («nodes-in» (now sheet))) ≡ true ⌝ }
     requires { ⌜ end ≡ «tree-end» place («nodes-in» (now sheet)) ⌝ }
     ensures { λ r. ⌜ Zoned rule place i j («nodes-in» (now (sheet .entry))) (r .from) (r .old) (r .new) ⌝ }
@@ -61,16 +64,16 @@ fn late_zone(sheet: &[u16], rule: usize, place: usize, i: usize, j: usize, end: 
 
 // The zone of a step that applies. Rule 14 makes a tree anew: from the place on all is left open.
 pub fn zone_of(sheet: &[u16], sizes: &[u16], rule: usize, place: usize, i: usize, j: usize) -> Zone
-    requires { ⌜ «is-sheet» (now sheet) ≡ true ⌝ }
+    requires { ⌜ Formed (now sheet) ⌝ }
     requires { ⌜ «is-some» (step rule place i j («nodes-in» (now sheet))) ≡ true ⌝ }
-    requires { ⌜ (length (now sizes) ≡ 4096) × Sized 0 (drop 2 (now sheet)) (now sizes) ⌝ }
+    requires { ⌜ (length (now sizes) ≡ «sheet-room») × Sized 0 (drop 2 (now sheet)) (now sizes) ⌝ }
     ensures { λ r. ⌜ Zoned rule place i j («nodes-in» (now (sheet .entry))) (r .from) (r .old) (r .new) ⌝ }
 {
     if rule == 14 {
         return Zone {
             from: place,
-            old: 4096,
-            new: 4096,
+            old: SHEET_ROOM,
+            new: SHEET_ROOM,
         };
     }
     let end = place + numbers::wide16(sizes[place]);

@@ -1,13 +1,13 @@
 -- `advance::advance` meets its contract: after the step the bounds that were set back rise again.
-use mathlib.Core.Bool.{true}
 use mathlib.Core.Logic.{_⊎_}
 use mathlib.Core.Path.{_≡_, sym, subst, _∙_}
 use Prim.Native.Nat.{_≤_}
 use native.Mathlib.Omega.{arith}
 use borrow.Author.Needs.{needs}
-use Rattle.model.specs.Sheet.{is-sheet, used-in}
+use Rattle.model.specs.Limits.{no-rule}
+use Rattle.model.specs.Sheet.{used-in}
 use Rattle.theory.specs.Places.{used-here}
-use Rattle.theory.specs.Sheets.{sheet-facts}
+use Rattle.theory.specs.Sheets.{Formed}
 use Rattle.zones.proofs.OnSheet.{rules}
 use Rattle.advance.proofs.Bounding.{high-all, high-ahead}
 use Rattle.advance.proofs.Stepping.{after}
@@ -15,13 +15,13 @@ use Rattle.advance.proofs.advance.Statement.{statement}
 use Rattle.advance.proofs.advance.Tie as tie
 
 -- What the step leaves is a sheet.
-good : (c : tie.After-move-on) → is-sheet (c .move-on .last .0) ≡ true
+good : (c : tie.After-move-on) → Formed (c .move-on .last .0)
 good c =
     let b = c .before .before .before .before .before .before .before in
     let a = b .args in
     rw (c .move-on .ensures .0) (after (a .sheet .now) (b .pre .0 .0) (a .rule) (a .place) (a .i) (a .j) (b .pre .0 .1) .sheet)
 
-named : (c : tie.Start) → (1 ≤ c .args .rule) × (c .args .rule ≤ 15)
+named : (c : tie.Start) → (1 ≤ c .args .rule) × (c .args .rule ≤ no-rule)
 named c =
     let a = c .args in
     let w = rules (a .sheet .now) (c .pre .0 .0) (a .rule) (a .place) (a .i) (a .j) (c .pre .0 .1) in
@@ -36,7 +36,7 @@ move-on-requires c κs = search needs
 slice-read-wide16 : tie.Need-slice-read-wide16
 slice-read-wide16 c =
     let m = c .before .before .before .before .before .before .before in
-    omega (arith, sheet-facts (m .move-on .last .0) (good m) .whole)
+    omega (arith, (good m) .whole)
 
 wide16-requires : tie.Need-wide16-requires
 wide16-requires c κs = search needs

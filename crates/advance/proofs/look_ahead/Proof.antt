@@ -1,18 +1,18 @@
 -- `advance::look_ahead` meets its contract: the nearest holder, the nearest before it, and the zone.
 use Prim.Native.Nat.{_≤_, _<_}
 use native.Mathlib.Omega.{arith}
+use Rattle.model.specs.Limits.{sheet-room}
 use Rattle.model.specs.Sheet.{used-in}
-use Rattle.theory.specs.Sheets.{sheet-facts}
 use Rattle.zones.proofs.OnSheet.{within}
 use Rattle.advance.proofs.Stepping.{holders}
 use Rattle.advance.proofs.look_ahead.Statement.{statement}
 use Rattle.advance.proofs.look_ahead.Tie as tie
 
 -- The place is one of the nodes.
-here : (c : tie.Start) → (c .args .place < used-in (c .args .sheet .now)) × (used-in (c .args .sheet .now) ≤ 4096)
+here : (c : tie.Start) → (c .args .place < used-in (c .args .sheet .now)) × (used-in (c .args .sheet .now) ≤ sheet-room)
 here c =
     let a = c .args in
-    (within (a .sheet .now) (c .pre .0 .0) (a .rule) (a .place) (a .i) (a .j) (c .pre .0 .1), sheet-facts (a .sheet .now) (c .pre .0 .0) .used)
+    (within (a .sheet .now) (c .pre .0 .0) (a .rule) (a .place) (a .i) (a .j) (c .pre .0 .1), (c .pre .0 .0) .used)
 
 holder-requires : tie.Need-holder-requires
 holder-requires c κs =

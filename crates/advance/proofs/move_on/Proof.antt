@@ -1,26 +1,26 @@
 -- `advance::move_on` meets its contract: the step is done, the sizes and the bounds follow.
-use mathlib.Core.Bool.{true}
 use mathlib.Core.Logic.{⊎-elim}
 use mathlib.Core.Path.{_≡_, sym, _∙_}
 use Prim.Native.Nat.{_<_}
 use native.Mathlib.Omega.{arith}
 use borrow.Author.Needs.{needs}
 use lib.ListN.{length}
-use Rattle.model.specs.Sheet.{is-sheet, used-in}
+use Rattle.model.specs.Limits.{sheet-room, sheet-length}
+use Rattle.model.specs.Sheet.{used-in}
 use Rattle.theory.specs.Places.{used-here}
-use Rattle.theory.specs.Sheets.{sheet-facts}
+use Rattle.theory.specs.Sheets.{Formed}
 use Rattle.zones.proofs.OnSheet.{within}
 use Rattle.advance.proofs.Moving.{whole-after, still, outside, past, spread-zone, moved-on}
 use Rattle.advance.proofs.move_on.Statement.{statement}
 use Rattle.advance.proofs.move_on.Tie as tie
 
-here : (c : tie.Start) → (c .args .place < 4096)
+here : (c : tie.Start) → (c .args .place < sheet-room)
 here c =
     let a = c .args in
-    omega (arith, within (a .sheet .now) (c .pre .0 .0) (a .rule) (a .place) (a .i) (a .j) (c .pre .0 .1), sheet-facts (a .sheet .now) (c .pre .0 .0) .used)
+    omega (arith, within (a .sheet .now) (c .pre .0 .0) (a .rule) (a .place) (a .i) (a .j) (c .pre .0 .1), (c .pre .0 .0) .used)
 
 -- What the step leaves is a sheet.
-made : (c : tie.After-apply) → (is-sheet (c .apply .last .0) ≡ true) × (length (c .apply .last .0) ≡ 4098)
+made : (c : tie.After-apply) → (Formed (c .apply .last .0)) × (length (c .apply .last .0) ≡ sheet-length)
 made c =
     let k = c .before .before .before .before in
     let b = k .before .before .before .before .before .before in
@@ -40,7 +40,7 @@ look-ahead-requires c κs = search needs
 slice-read-wide16 : tie.Need-slice-read-wide16
 slice-read-wide16 c =
     let b = c .before .before .before .before .before .before .before in
-    omega (arith, sheet-facts (b .args .sheet .now) (b .pre .0 .0) .whole)
+    omega (arith, (b .pre .0 .0) .whole)
 
 wide16-requires : tie.Need-wide16-requires
 wide16-requires c κs = search needs
@@ -68,8 +68,8 @@ resize-requires c κs =
     let u = d .apply .last .0 in
     let old = counted (d .before .before) in
     let new = counted-after (g .before) in
-    let few = sheet-facts (a .sheet .now) (b .pre .0 .0) .used in
-    let few-after = sheet-facts u (made d .0) .used in
+    let few = (b .pre .0 .0) .used in
+    let few-after = (made d .0) .used in
     let most = g .greater .ensures in
     ((made d .1, b .pre .1 .0 .0, z .from-new, omega (arith, z .new-old, z .old-within)), (still (a .sheet .now) (b .pre .0 .0) (a .rule) (a .place) (a .i) (a .j) (b .pre .0 .1) z u (a .sizes .now) (d .apply .ensures) (b .pre .1 .0 .1), (λ low top. outside (a .sheet .now) (b .pre .0 .0) (a .rule) (a .place) (a .i) (a .j) (b .pre .0 .1) z u (a .sizes .now) (d .apply .ensures) (b .pre .1 .0 .1) (omega arith) top, (⊎-elim (λ e. omega arith) (λ e. omega arith) (most .2), past (a .sheet .now) (b .pre .0 .0) (a .rule) (a .place) (a .i) (a .j) (b .pre .0 .1) z u (a .sizes .now) (d .apply .ensures) (b .pre .1 .0 .1) (g .greater .result) (omega arith) (omega arith)))))
 

@@ -1,114 +1,88 @@
 use borrow.Author.Needs.{needs}
-use Rattle.model.specs.Calls.{refusal-number}
+use Rattle.calls.specs.Refusals.{refusal-number}
 use Rattle.answers.proofs.number.Statement.{statement}
 use Rattle.answers.proofs.number.Tie as tie
-use Rattle.answers.proofs.number.Reads as reads
-use Rattle.answers.proofs.number.Lts as lts
 
--- src/lib.rt:39:28
 enum-told : tie.Need-enum-told
 enum-told c = search needs
 
--- src/lib.rt:40:26
 enum-told-2 : tie.Need-enum-told-2
 enum-told-2 c = search needs
 
--- src/lib.rt:41:26
 enum-told-3 : tie.Need-enum-told-3
 enum-told-3 c = search needs
 
--- src/lib.rt:42:30
 enum-told-4 : tie.Need-enum-told-4
 enum-told-4 c = search needs
 
--- src/lib.rt:43:26
 enum-told-5 : tie.Need-enum-told-5
 enum-told-5 c = search needs
 
--- src/lib.rt:44:28
 enum-told-6 : tie.Need-enum-told-6
 enum-told-6 c = search needs
 
--- src/lib.rt:45:29
 enum-told-7 : tie.Need-enum-told-7
 enum-told-7 c = search needs
 
--- src/lib.rt:46:26
 enum-told-8 : tie.Need-enum-told-8
 enum-told-8 c = search needs
 
--- src/lib.rt:47:26
 enum-told-9 : tie.Need-enum-told-9
 enum-told-9 c = search needs
 
--- src/lib.rt:48:26
 enum-told-10 : tie.Need-enum-told-10
 enum-told-10 c = search needs
 
--- src/lib.rt:49:27
 enum-told-11 : tie.Need-enum-told-11
 enum-told-11 c = search needs
 
--- src/lib.rt:50:28
 enum-told-12 : tie.Need-enum-told-12
 enum-told-12 c = search needs
 
--- src/lib.rt:35:1
 returns : tie.Need-returns
 unfolding refusal-number
 returns c = rw (c .enum-told .given .1)
 
--- src/lib.rt:35:1
 returns-2 : tie.Need-returns-2
 unfolding refusal-number
 returns-2 c = rw (c .enum-told2 .given .1)
 
--- src/lib.rt:35:1
 returns-3 : tie.Need-returns-3
 unfolding refusal-number
 returns-3 c = rw (c .enum-told3 .given .1)
 
--- src/lib.rt:35:1
 returns-4 : tie.Need-returns-4
 unfolding refusal-number
 returns-4 c = rw (c .enum-told4 .given .1)
 
--- src/lib.rt:35:1
 returns-5 : tie.Need-returns-5
 unfolding refusal-number
 returns-5 c = rw (c .enum-told5 .given .1)
 
--- src/lib.rt:35:1
 returns-6 : tie.Need-returns-6
 unfolding refusal-number
 returns-6 c = rw (c .enum-told6 .given .1)
 
--- src/lib.rt:35:1
 returns-7 : tie.Need-returns-7
 unfolding refusal-number
 returns-7 c = rw (c .enum-told7 .given .1)
 
--- src/lib.rt:35:1
 returns-8 : tie.Need-returns-8
 unfolding refusal-number
 returns-8 c = rw (c .enum-told8 .given .1)
 
--- src/lib.rt:35:1
 returns-9 : tie.Need-returns-9
 unfolding refusal-number
 returns-9 c = rw (c .enum-told9 .given .1)
 
--- src/lib.rt:35:1
 returns-10 : tie.Need-returns-10
 unfolding refusal-number
 returns-10 c = rw (c .enum-told10 .given .1)
 
--- src/lib.rt:35:1
 returns-11 : tie.Need-returns-11
 unfolding refusal-number
 returns-11 c = rw (c .enum-told11 .given .1)
 
--- src/lib.rt:35:1
 returns-12 : tie.Need-returns-12
 unfolding refusal-number
 returns-12 c = rw (c .enum-told12 .given .1)

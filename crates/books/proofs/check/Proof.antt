@@ -5,8 +5,9 @@ use Prim.Native.Nat.{_≤_}
 use native.Mathlib.Omega.{arith}
 use borrow.Author.Needs.{needs}
 use borrow.Author.Tests.{not-true, not-false, lt-ltb, le-ltb, eq-eqb, ne-eqb}
+use Rattle.model.specs.Limits.{most-options, most-rules, most-nodes}
 use Rattle.model.specs.Book.{head-in-limits}
-use Rattle.theory.specs.Refusals.{too-short, bad-head, bad-length, then-parts}
+use Rattle.call_laws.specs.Books.{too-short, bad-head, bad-length, then-parts}
 use Rattle.books.proofs.Laws.{head-limits, length-is, refused-by, done-by}
 use Rattle.books.proofs.check.Statement.{statement}
 use Rattle.books.proofs.check.Tie as tie
@@ -15,7 +16,7 @@ use Rattle.books.proofs.check.Tie as tie
 good-head : (d : tie.Else2) → head-in-limits (d .before .before .before .before .args .book .now) ≡ true
 good-head d = sym (d .before .is-head .ensures) ∙ not-false (d .before .is-head .result) (d .if2 .left)
 
-limits : (c : tie.After-word-at3) → (c .before .before .word-at .result ≤ 512) × (c .before .word-at2 .result ≤ 4095) × (c .word-at3 .result ≤ 4095)
+limits : (c : tie.After-word-at3) → (c .before .before .word-at .result ≤ most-options) × (c .before .word-at2 .result ≤ most-rules) × (c .word-at3 .result ≤ most-nodes)
 limits c =
     head-limits _ _ _ _ (c .before .before .word-at .ensures) (c .before .word-at2 .ensures) (c .word-at3 .ensures) (good-head (c .before .before .before))
 

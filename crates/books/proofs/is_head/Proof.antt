@@ -6,23 +6,24 @@ use Prim.Native.Nat.{ℕ, _≤_, _<_}
 use borrow.Author.Needs.{needs}
 use borrow.Author.Tests.{le-leb, lt-leb}
 use lib.Dec.{eqb}
+use Rattle.model.specs.Limits.{most-options, most-rules, most-nodes}
 use Rattle.model.specs.Book.{word, head-in-limits}
 use Rattle.books.proofs.Laws.{head-tests}
 use Rattle.books.proofs.is_head.Statement.{statement}
 use Rattle.books.proofs.is_head.Tie as tie
 
 module _ (b : List ℕ) (n m t : ℕ) (pn : n ≡ word b 0) (pm : m ≡ word b 2) (pt : t ≡ word b 4) where
-  options-over : 512 < n → false ≡ head-in-limits b
-  options-over h = sym (head-tests b n m t pn pm pt ∙ rw (lt-leb n 512 h))
+  options-over : most-options < n → false ≡ head-in-limits b
+  options-over h = sym (head-tests b n m t pn pm pt ∙ rw (lt-leb n most-options h))
 
-  rules-over : n ≤ 512 → 4095 < m → false ≡ head-in-limits b
-  rules-over hn h = sym (head-tests b n m t pn pm pt ∙ rw (le-leb n 512 hn, lt-leb m 4095 h))
+  rules-over : n ≤ most-options → most-rules < m → false ≡ head-in-limits b
+  rules-over hn h = sym (head-tests b n m t pn pm pt ∙ rw (le-leb n most-options hn, lt-leb m most-rules h))
 
-  nodes-over : n ≤ 512 → m ≤ 4095 → 4095 < t → false ≡ head-in-limits b
-  nodes-over hn hm h = sym (head-tests b n m t pn pm pt ∙ rw (le-leb n 512 hn, le-leb m 4095 hm, lt-leb t 4095 h))
+  nodes-over : n ≤ most-options → m ≤ most-rules → most-nodes < t → false ≡ head-in-limits b
+  nodes-over hn hm h = sym (head-tests b n m t pn pm pt ∙ rw (le-leb n most-options hn, le-leb m most-rules hm, lt-leb t most-nodes h))
 
-  within : n ≤ 512 → m ≤ 4095 → t ≤ 4095 → eqb (word b 6) 0 ≡ head-in-limits b
-  within hn hm ht = sym (head-tests b n m t pn pm pt ∙ rw (le-leb n 512 hn, le-leb m 4095 hm, le-leb t 4095 ht))
+  within : n ≤ most-options → m ≤ most-rules → t ≤ most-nodes → eqb (word b 6) 0 ≡ head-in-limits b
+  within hn hm ht = sym (head-tests b n m t pn pm pt ∙ rw (le-leb n most-options hn, le-leb m most-rules hm, le-leb t most-nodes ht))
 
 word-at-requires : tie.Need-word-at-requires
 word-at-requires c κs = search needs

@@ -5,6 +5,7 @@ use Prim.Native.Nat.{ℕ, _+_, _-_, _≤_, _<_}
 use native.Mathlib.Omega.{arith}
 use borrow.Author.Needs.{needs}
 use lib.ListN.{length, drop}
+use Rattle.model.specs.Limits.{sheet-room}
 use Rattle.model.specs.Code.{decode}
 use Rattle.model.specs.Sheet.{nodes-in, used-in}
 use Rattle.model.specs.Strategy.{least-i}
@@ -20,7 +21,7 @@ use Rattle.bounds.proofs.least_place.Tie as tie
 abbrev Inv-loop : tie.InvT-loop
 Inv-loop sheet sizes low₀ rule start used place₀ low place =
     (place ≤ used)
-    × (length low ≡ 4096)
+    × (length low ≡ sheet-room)
     × Bounds (nodes-in sheet) low
     × High rule 0 (used-in sheet) low
     × High (rule + 1) 0 place low

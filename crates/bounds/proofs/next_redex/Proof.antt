@@ -6,6 +6,7 @@ use Prim.Native.Nat.{ℕ, _+_, _-_, _≤_, _<_}
 use native.Mathlib.Omega.{arith}
 use borrow.Author.Needs.{needs}
 use lib.ListN.{length}
+use Rattle.model.specs.Limits.{sheet-room, no-rule}
 use Rattle.model.specs.Sheet.{nodes-in, used-in}
 use Rattle.model.specs.Strategy.{least-place}
 use Rattle.search.specs.Meaning.{nextOf}
@@ -20,15 +21,15 @@ use Rattle.bounds.proofs.next_redex.Tie as tie
 abbrev Inv-loop : tie.InvT-loop
 Inv-loop sheet sizes low₀ floor cursor rule₀ start₀ low rule start =
     (1 ≤ rule)
-    × (rule ≤ 15)
-    × (length low ≡ 4096)
+    × (rule ≤ no-rule)
+    × (length low ≡ sheet-room)
     × Bounds (nodes-in sheet) low
     × High rule 0 (used-in sheet) low
     × ((q : ℕ) → q < rule → 1 ≤ q → none ≡ least-place q (nodes-in sheet))
     × ((start ≤ used-in sheet) × High (rule + 1) 0 start low)
 
 abbrev μ-loop : tie.MeasureT-loop
-μ-loop sheet sizes low₀ floor cursor rule₀ start₀ low rule start = 15 - rule
+μ-loop sheet sizes low₀ floor cursor rule₀ start₀ low rule start = no-rule - rule
 
 loop-holds : tie.Need-loop-holds Inv-loop μ-loop
 loop-holds c =
@@ -98,7 +99,7 @@ returns-2 : tie.Need-returns-2 Inv-loop μ-loop
 returns-2 c =
     let n = c .before in
     let a = n .before .before .before .before .args in
-    let done : n .loop .rule ≡ 15 = omega arith in
+    let done : n .loop .rule ≡ no-rule = omega arith in
     (r-none (nodes-in (a .sheet .now)) (λ q l m. n .loop .inv .5 q (omega arith) l), ((n .loop .inv .3, subst (λ k. High k 0 (used-in (a .sheet .now)) (n .loop .low)) done (n .loop .inv .4)), λ q from to. absurd (omega arith)))
 
 pub next-redex-spec : {M : Type 1} → statement M

@@ -4,6 +4,7 @@ use Prim.Native.Nat.{_-_, _≤_, _<_}
 use native.Mathlib.Omega.{arith}
 use borrow.Author.Needs.{needs}
 use lib.ListN.{length, getD}
+use Rattle.model.specs.Limits.{sheet-room}
 use Rattle.model.specs.Sheet.{nodes-in}
 use Rattle.search.specs.Meaning.{spotOf}
 use Rattle.search.proofs.Places.{used-few}
@@ -16,7 +17,7 @@ abbrev Inv-loop : tie.InvT-loop
 Inv-loop sheet sizes low₀ place limit rule₀ low rule =
     (1 ≤ rule)
     × (rule ≤ limit)
-    × (length low ≡ 4096)
+    × (length low ≡ sheet-room)
     × (rule ≤ getD low place 0)
     × Bounds (nodes-in sheet) low
     × Rises low₀ low
@@ -25,7 +26,7 @@ abbrev μ-loop : tie.MeasureT-loop
 μ-loop sheet sizes low₀ place limit rule₀ low rule = limit - rule
 
 -- The place has an entry.
-inside : (c : tie.Start Inv-loop μ-loop) → c .args .place < 4096
+inside : (c : tie.Start Inv-loop μ-loop) → c .args .place < sheet-room
 inside c = omega (arith, c .pre .1 .0 .1, used-few (c .args .sheet .now) (c .pre .1 .0 .0))
 
 mul-wide16 : tie.Need-mul-wide16 Inv-loop μ-loop

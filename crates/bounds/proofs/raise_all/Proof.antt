@@ -3,6 +3,7 @@ use mathlib.Core.Path.{_≡_, sym, _∙_}
 use Prim.Native.Nat.{_-_, _≤_}
 use native.Mathlib.Omega.{arith}
 use lib.ListN.{length}
+use Rattle.model.specs.Limits.{sheet-room}
 use Rattle.model.specs.Sheet.{nodes-in}
 use Rattle.search.proofs.Places.{used-few}
 use Rattle.bounds.specs.Tables.{Bounds, High, Rises}
@@ -14,7 +15,7 @@ abbrev Inv-loop : tie.InvT-loop
 Inv-loop sheet sizes low₀ from to limit floor₀ place₀ low floor place =
     ((1 ≤ floor) × (floor ≤ limit))
     × ((from ≤ place) × (place ≤ to))
-    × (length low ≡ 4096)
+    × (length low ≡ sheet-room)
     × High floor from place low
     × Bounds (nodes-in sheet) low
     × Rises low₀ low

@@ -5,6 +5,7 @@ use Prim.Native.Nat.{_+_, _<_}
 use native.Mathlib.Omega.{arith}
 use borrow.Author.Needs.{needs}
 use lib.ListN.{length, getD}
+use Rattle.model.specs.Limits.{no-rule}
 use Rattle.model.specs.Sheet.{nodes-in}
 use Rattle.theory.specs.Logic.{none-some}
 use Rattle.theory.specs.Scan.{is-literal}
@@ -78,7 +79,7 @@ returns-2 c =
     let a = b .args in
     let it : is-literal (getD (a .sheet .now) (2 + a .place) 0) ≡ true = sym (c .before .is-literal .ensures ∙ ap is-literal (c .before .before .wide162 .ensures .0)) ∙ c .if2 .taken in
     let here = come e in
-    (literal-none (a .sheet .now) (a .low .now) (b .pre .1 .0 .0) (a .place) 15 (inside b) (b .pre .1 .0 .1) it (a .rule), ((literal-bounds (a .sheet .now) (a .low .now) (b .pre .1 .0 .0) (a .place) 15 (inside b) (b .pre .1 .0 .1) it (b .pre .1 .1 .1 .2), literal-rises (a .sheet .now) (a .low .now) (b .pre .1 .0 .0) (a .place) 15 (inside b) (b .pre .1 .0 .1) it (omega (arith, b .pre .0 .1))), λ k. set-past (a .low .now) (a .place) 15 (a .rule) (inside b) (omega (arith, b .pre .0 .1))))
+    (literal-none (a .sheet .now) (a .low .now) (b .pre .1 .0 .0) (a .place) no-rule (inside b) (b .pre .1 .0 .1) it (a .rule), ((literal-bounds (a .sheet .now) (a .low .now) (b .pre .1 .0 .0) (a .place) no-rule (inside b) (b .pre .1 .0 .1) it (b .pre .1 .1 .1 .2), literal-rises (a .sheet .now) (a .low .now) (b .pre .1 .0 .0) (a .place) no-rule (inside b) (b .pre .1 .0 .1) it (omega (arith, b .pre .0 .1))), λ k. set-past (a .low .now) (a .place) no-rule (a .rule) (inside b) (omega (arith, b .pre .0 .1))))
 
 least-at-requires : tie.Need-least-at-requires
 least-at-requires c κs = search needs

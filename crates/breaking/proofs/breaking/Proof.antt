@@ -2,7 +2,7 @@
 -- of each literal, whether the tree fails where the literal is tried.
 use mathlib.Core.Bool.{true, false, _||_}
 use mathlib.Core.List.{List, [], _∷_}
-use mathlib.Core.Logic.{_⊎_, inl, inr, ⊎-elim}
+use mathlib.Core.Logic.{⊎-elim}
 use mathlib.Core.Path.{_≡_, sym, ap, _∙_}
 use Prim.Native.Nat.{ℕ, suc, _+_, _-_, _%_, _≤_, _<_}
 use native.Mathlib.Omega.{arith}
@@ -11,12 +11,13 @@ use borrow.Author.Tests.{eqb-true, eqb-false, eq-eqb, ne-eqb, ltb-true, ltb-fals
 use lib.Dec.{eqb, ltb}
 use lib.ListN.{length, getD, take, drop, set, replicate, length-drop, length-replicate, getD-replicate, List·getD-eq-default}
 use lib.Seq.{drop-cons, drop-length, length-take-le, getD-take}
-use Rattle.model.specs.Code.{value}
+use Rattle.model.specs.Limits.{sheet-room, most-literals}
+use Rattle.model.specs.Code.{children}
 use Rattle.theory.specs.Logic.{either, true-false, fails-if}
 use Rattle.theory.specs.Scan.{is-literal}
 use Rattle.evaluation.specs.Reading.{place-at, with-node, tree-fails, Spells-tree}
 use Rattle.evaluation.proofs.Nodes.{values-of, values-none, values-more, values-length, trees-of, Node-here, node-here, tree-value}
-use Rattle.breaking.specs.Breaking.{opposite, Breaking}
+use Rattle.breaking.specs.Breaking.{opposite, Broken-by}
 use Rattle.breaking.specs.Stacks.{among, begin, failing, broken, bottom, tried, Blank, Stack}
 use Rattle.breaking.proofs.Among.{among-at, among-index}
 use Rattle.breaking.proofs.Entries.{bottom-empty, broken-length}
@@ -27,13 +28,13 @@ use Rattle.breaking.proofs.breaking.Tie as tie
 -- The numbers from i on have been read.
 record Read (tree t places firsts held : List ℕ) (top end i : ℕ) : Type 0 where
   left : end + i ≤ length tree
-  wide : length places ≡ 4096
-  deep : length firsts ≡ 4096
+  wide : length places ≡ sheet-room
+  deep : length firsts ≡ sheet-room
   blank : Blank held
   stack : Stack places firsts top end
   told : (q : ℕ) → broken q (take end places) (drop top firsts) ≡ values-of (tried t q) (drop i tree)
 
-begun : (tree t places firsts held : List ℕ) → length places ≡ 4096 → length firsts ≡ 4096 → Blank held → Read tree t places firsts held (length firsts) 0 (length tree)
+begun : (tree t places firsts held : List ℕ) → length places ≡ sheet-room → length firsts ≡ sheet-room → Blank held → Read tree t places firsts held (length firsts) 0 (length tree)
 unfolding broken bottom among
 begun tree t places firsts held w d b =
     record {
@@ -45,7 +46,7 @@ begun tree t places firsts held w d b =
       told = λ q. rw (drop-length firsts, drop-length tree) (sym (values-none (tried t q)));
     }
 
-module _ {tree t places firsts held : List ℕ} {top end i : ℕ} (h : Spells-tree tree) (few : length tree ≤ 4096) (r : Read tree t places firsts held top end i) where
+module _ {tree t places firsts held : List ℕ} {top end i : ℕ} (h : Spells-tree tree) (few : length tree ≤ sheet-room) (r : Read tree t places firsts held top end i) where
   -- As many entries stand on the stack as there are trees.
   count : length (drop top firsts) ≡ trees-of (drop i tree)
   count = sym (broken-length 0 (take end places) (drop top firsts)) ∙ ap length (r .told 0) ∙ values-length (tried t 0) (drop i tree)
@@ -54,7 +55,7 @@ module _ {tree t places firsts held : List ℕ} {top end i : ℕ} (h : Spells-tr
   here l = let k = r .left in node-here tree h (i - 1) (omega arith)
 
   -- The number before them finds its room on the stack, and its children.
-  asked : 0 < i → {x : ℕ} → x ≡ getD tree (i - 1) 0 → (1 ≤ top) × (is-literal x ≡ true → place-at x < 1024) × (is-literal x ≡ false → top + value x ≤ length firsts)
+  asked : 0 < i → {x : ℕ} → x ≡ getD tree (i - 1) 0 → (1 ≤ top) × (is-literal x ≡ true → place-at x < most-literals) × (is-literal x ≡ false → top + children x ≤ length firsts)
   asked l e =
       let n = here l in
       let p : suc (i - 1) ≡ i = omega arith in
@@ -111,12 +112,12 @@ module _ {tree t places firsts held : List ℕ} {top end i : ℕ} (h : Spells-tr
       let f : (failing entry || among q (drop (begin entry) (take end places))) ≡ tree-fails (tried t q) tree = cc in
       ap (λ n. failing entry || among q (drop n (take end places))) (sym start) ∙ f
 
-  module _ (wide : length t ≡ 1024) where
-    falls : getD firsts top 0 % 2 ≡ 1 → Breaking t tree places 4097
+  module _ (wide : length t ≡ most-literals) where
+    falls : getD firsts top 0 % 2 ≡ 1 → tree-fails t tree ≡ true
     unfolding failing entry
     falls e =
         let b : failing entry ≡ true = eq-eqb (entry % 2) 1 e in
-        inr (omega arith, sym (ap (λ u. tree-fails u tree) (tried-none t wide)) ∙ sym (verdict 1024) ∙ rw b)
+        sym (ap (λ u. tree-fails u tree) (tried-none t wide)) ∙ sym (verdict most-literals) ∙ rw b
 
     module _ (odd : getD firsts top 0 % 2 ≡ 1 → ⊥) where
       exact : (q : ℕ) → among q (take end places) ≡ tree-fails (tried t q) tree
@@ -125,8 +126,8 @@ module _ {tree t places firsts held : List ℕ} {top end i : ℕ} (h : Spells-tr
 
       stood : tree-fails t tree ≡ false
       stood =
-          sym (ap (λ u. tree-fails u tree) (tried-none t wide)) ∙ sym (exact 1024)
-          ∙ fails-if (among 1024 (take end places)) (λ e. omega (arith, r .stack .inside 1024 e))
+          sym (ap (λ u. tree-fails u tree) (tried-none t wide)) ∙ sym (exact most-literals)
+          ∙ fails-if (among most-literals (take end places)) (λ e. omega (arith, r .stack .inside most-literals e))
 
       -- A literal of the list breaks the tree; its complement does not fail, or nothing would be tried.
       breaks : (x : ℕ) → among x (take end places) ≡ true → tree-fails (set t x 1) tree ≡ true
@@ -147,9 +148,8 @@ module _ {tree t places firsts held : List ℕ} {top end i : ℕ} (h : Spells-tr
           let l : w .0 < end = omega (arith, w .1, long) in
           (w .0, l, sym (getD-take end places (w .0) 0 l) ∙ w .2)
 
-      stands : Breaking t tree places end
+      stands : Broken-by t tree places end
       stands =
-          inl
           record {
             few = omega (arith, r .stack .room, r .wide);
             stands = stood;
@@ -158,10 +158,10 @@ module _ {tree t places firsts held : List ℕ} {top end i : ℕ} (h : Spells-tr
           }
 
 -- The counts at the start.
-blank-zeros : Blank (replicate 1024 0)
+blank-zeros : Blank (replicate most-literals 0)
 blank-zeros = (
-  length-replicate {A = ℕ} 1024 0,
-  λ x. ⊎-elim (λ e. getD-replicate 1024 x 0 0 (ltb-true x 1024 e)) (λ e. List·getD-eq-default (replicate 1024 0) 0 (ltb-false x 1024 e)) (either (ltb x 1024)),
+  length-replicate {A = ℕ} most-literals 0,
+  λ x. ⊎-elim (λ e. getD-replicate most-literals x 0 0 (ltb-true x most-literals e)) (λ e. List·getD-eq-default (replicate most-literals 0) 0 (ltb-false x most-literals e)) (either (ltb x most-literals)),
 )
 
 abbrev Inv-loop : tie.InvT-loop

@@ -11,9 +11,10 @@ use borrow.Author.Needs.{needs}
 use lib.Dec.{eqb}
 use lib.ListN.{length, getD, take, drop}
 use lib.Seq.{drop-cons, drop-length, take-take, length-take-le, take-all}
+use Rattle.model.specs.Limits.{most-literals}
 use Rattle.model.specs.Forest.{or}
-use Rattle.theory.specs.Evaluation.{fails-empty, fails-both}
-use Rattle.theory.specs.Values.{fails-all}
+use Rattle.theory.specs.Evaluation.{fails-all}
+use Rattle.theory.specs.Values.{or-none, or-more}
 use Rattle.theory.specs.Logic.{either, or-left, or-right}
 use Rattle.breaking.specs.Stacks.{among, Places, begin, failing, broken, Stacked, bottom, standing, raised, Blank, Blank-but, Counted}
 use Rattle.breaking.proofs.Among.{among-take, among-drop, among-cut, lent}
@@ -27,7 +28,7 @@ record Reached (ls fs held : List ℕ) (n to i : ℕ) : Type 0 where
   left : i ≤ length fs
   few : n ≤ i
   low : to ≤ length ls
-  wide : length held ≡ 1024
+  wide : length held ≡ most-literals
   stacked : Stacked to (drop i fs)
   last : bottom to (drop i fs) ≡ bottom (length ls) fs
   count : n + standing (drop i fs) ≡ standing fs
@@ -84,7 +85,7 @@ module _ {ls fs held : List ℕ} {n to i : ℕ} (r : Reached ls fs held n to i) 
   wider x = among-cut x (begin f) to ls (cut .0) (r .low)
 
   skipped : failing f ≡ true → Reached ls fs held n (begin f) (i + 1)
-  unfolding rest standing bottom fails-all fails-both
+  unfolding rest standing bottom
   skipped h =
       record {
         left = omega arith;
@@ -95,17 +96,16 @@ module _ {ls fs held : List ℕ} {n to i : ℕ} (r : Reached ls fs held n to i) 
         last = rw (add-one i) (rw next at (r .last));
         count = rw (add-one i) (ap (λ k. n + k) (sym (standing-same f rest h)) ∙ rw next at (r .count));
         most = r .most;
-        common = λ x. rw (add-one i) (rw (after x, h) at (r .common x));
+        common = λ x. rw (add-one i) (rw (after x, or-more, h) at (r .common x));
         blank = rw (cut .1 h) (r .blank);
       }
 
   -- The counts of the tree's own literals are raised.
   module _ (h : failing f ≡ false) (new : List ℕ) (wide : length new ≡ length held) (up : (x : ℕ) → getD new x 0 ≡ raised n own held x) where
     new-common : (x : ℕ) → (eqb (getD new x 0) (n + 1) && fails-all or (broken x (take (begin f) ls) rest)) ≡ fails-all or (broken x ls fs)
-    unfolding fails-all fails-both
     new-common x =
         rw (up x, raised-at n own held x (r .most x))
-        (two-tests (among x own) (eqb (getD held x 0) n) _ ∙ rw (after x, h) at (r .common x))
+        (two-tests (among x own) (eqb (getD held x 0) n) _ ∙ rw (after x, or-more, h) at (r .common x))
 
     new-blank : Blank-but (drop (begin f) ls) new
     new-blank x = ⊎-elim
@@ -130,14 +130,14 @@ module _ {ls fs held : List ℕ} {n to i : ℕ} (r : Reached ls fs held n to i) 
         }
 
 done : {ls fs held : List ℕ} {n to i : ℕ} → Reached ls fs held n to i → length fs ≤ i → Counted ls fs held n
-unfolding broken fails-all fails-empty standing bottom
+unfolding broken standing bottom
 done {ls} {fs} {held} {n} {to} {i} r h =
     let e : i ≡ length fs = omega (arith, r .left) in
     let none : drop i fs ≡ [] = rw e (drop-length fs) in
     let last : to ≡ bottom (length ls) fs = rw none at (r .last) in
     record {
       count = omega (arith, rw none at (r .count));
-      common = λ x. sym (and-true (eqb (getD held x 0) n)) ∙ rw none at (r .common x);
+      common = λ x. sym (and-true (eqb (getD held x 0) n)) ∙ rw (none, or-none) at (r .common x);
       blank = rw (← last) (r .blank);
     }
 

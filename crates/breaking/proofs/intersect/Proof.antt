@@ -11,7 +11,7 @@ use lib.Dec.{eqb}
 use lib.ListN.{length, getD, take, drop, length-take}
 use lib.Seq.{length-take-le, take-take, drop-at, take-append-add, take-append-le}
 use Rattle.model.specs.Forest.{or}
-use Rattle.theory.specs.Values.{fails-all}
+use Rattle.theory.specs.Evaluation.{fails-all}
 use Rattle.theory.specs.Logic.{and-split, or-split}
 use Rattle.breaking.specs.Stacks.{among, Places, broken, bottom, Children, Counted}
 use Rattle.breaking.proofs.Among.{among-append, among-take, among-drop, lent}

@@ -11,9 +11,10 @@ use borrow.Author.Tests.{eqb-true, eqb-false, ltb-true, ltb-false, not-true, not
 use lib.ListN.{length, take, drop}
 use lib.Seq.{length-take-le, take-take}
 use Rattle.model.specs.Base.{pick}
+use Rattle.model.specs.Limits.{sheet-room}
 use Rattle.model.specs.Forest.{or, root}
 use Rattle.theory.specs.Logic.{true-false}
-use Rattle.theory.specs.Values.{fails-all}
+use Rattle.theory.specs.Evaluation.{fails-all}
 use Rattle.breaking.specs.Stacks.{among, Places, broken, Stacked, bottom, standing, Children, Made}
 use Rattle.breaking.proofs.Entries.{bottom-low}
 use Rattle.breaking.proofs.Groups.{falls-by, stands-by, makes-failing, makes-standing}
@@ -77,7 +78,7 @@ stood c h =
     (c .if1 .came)
 
 -- The base is below the end, which is small.
-below : (c : tie.Start) → (c .args .base ≤ c .args .end) × (c .args .end ≤ 4096)
+below : (c : tie.Start) → (c .args .base ≤ c .args .end) × (c .args .end ≤ sheet-room)
 below c = let p = c .pre in (low (p .0) true, omega (arith, p .0 .room, p .1))
 
 mul-t13 : tie.Need-mul-t13

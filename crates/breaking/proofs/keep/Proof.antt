@@ -11,6 +11,7 @@ use borrow.Author.Needs.{needs}
 use lib.Dec.{eqb}
 use lib.ListN.{length, getD, take, drop, set, length-set}
 use lib.Seq.{drop-cons, drop-length, take-suc-set, drop-set-lt}
+use Rattle.model.specs.Limits.{most-literals}
 use Rattle.theory.specs.Logic.{true-false}
 use Rattle.breaking.specs.Stacks.{among, Places, Blank-but}
 use Rattle.breaking.proofs.Among.{among-same, among-drop}
@@ -41,14 +42,14 @@ module _ {list₀ held₀ : List ℕ} {n : ℕ} {list held : List ℕ} {kept i :
   unfolding rest
   next = drop-cons list i 0 l ∙ rw (← e)
 
-  in-table : length held₀ ≡ 1024 → y < length held
+  in-table : length held₀ ≡ most-literals → y < length held
   in-table w = omega (arith, r .wide, r .inside y (rw next (among-same y y rest refl)))
 
   rest-inside : Places rest
   unfolding rest
   rest-inside x h = r .inside x (rw next (among-drop x 1 (y ∷ rest) h))
 
-  module _ (some : 1 ≤ n) (w : length held₀ ≡ 1024) where
+  module _ (some : 1 ≤ n) (w : length held₀ ≡ most-literals) where
     rest-blank : Blank-but rest (set held y 0)
     rest-blank = blank-more n some y (take kept list) rest held (in-table w) (rw next at (r .blank))
 

@@ -8,22 +8,22 @@ use lib.Dec.{eqb}
 use lib.ListN.{take, drop, length-take, length-drop}
 use Rattle.model.specs.Base.{pick}
 use Rattle.model.specs.Forest.{or, root}
-use Rattle.model.specs.Code.{kind, value}
-use Rattle.theory.specs.Values.{fails-all}
+use Rattle.model.specs.Code.{kind, children}
+use Rattle.theory.specs.Evaluation.{fails-all}
 use Rattle.breaking.specs.Stacks.{broken, Made}
 use Rattle.breaking.proofs.Entries.{stacked-take}
 use Rattle.breaking.proofs.read_group.Statement.{statement}
 use Rattle.breaking.proofs.read_group.Tie as tie
 
 -- The children's entries, in the part that is lent.
-lent-children : (x top : ℕ) (firsts : List ℕ) {v : ℕ} → v ≡ value x → take (top + v - top) (drop top firsts) ≡ take (value x) (drop top firsts)
-lent-children x top firsts {v} e = let n : top + v - top ≡ value x = omega arith in rw n
+lent-children : (x top : ℕ) (firsts : List ℕ) {v : ℕ} → v ≡ children x → take (top + v - top) (drop top firsts) ≡ take (children x) (drop top firsts)
+lent-children x top firsts {v} e = let n : top + v - top ≡ children x = omega arith in rw n
 
 relabel : (x : ℕ) {ls part fs new : List ℕ} {k f : ℕ} → k ≡ kind x → part ≡ fs → Made (λ q. fails-all (pick (eqb k 4) or root) (broken q ls part)) ls part new f → Made (λ q. fails-all (pick (eqb (kind x) 4) or root) (broken q ls fs)) ls fs new f
 relabel x {ls} {new = new} {f = f} e h = subst₂ (λ j gs. Made (λ q. fails-all (pick (eqb j 4) or root) (broken q ls gs)) ls gs new f) e h
 
-value-of-requires : tie.Need-value-of-requires
-value-of-requires c κs = search needs
+children-of-requires : tie.Need-children-of-requires
+children-of-requires c κs = search needs
 
 add-to : tie.Need-add-to
 add-to c = search needs
@@ -64,7 +64,7 @@ join-requires c κs =
     let a = n .before .before .before .before .before .before in
     let p = a .pre in
     let k = p .0 .2 in
-    let v = n .before .before .value-of .result in
+    let v = n .before .before .children-of .result in
     let fs = drop (a .args .top) (a .args .firsts .now) in (
       record {
         few = omega (arith, length-take (a .args .top + v - a .args .top) fs, length-drop (a .args .top) (a .args .firsts .now), p .0 .1);
@@ -88,13 +88,13 @@ returns c =
     let n = c .before .before .before .before in
     let v = n .before .before .before .before .before .before .before in
     let a = v .before .before .before .before in
-    (relabel (a .args .x) (n .before .before .before .kind-of .ensures) (lent-children (a .args .x) (a .args .top) (a .args .firsts .now) (v .value-of .ensures)) (n .join .ensures .0), n .join .ensures .1)
+    (relabel (a .args .x) (n .before .before .before .kind-of .ensures) (lent-children (a .args .x) (a .args .top) (a .args .firsts .now) (v .children-of .ensures)) (n .join .ensures .0), n .join .ensures .1)
 
 pub read-group-spec : {M : Type 1} → statement M
 read-group-spec =
     tie.close
     (tie.spec
-    value-of-requires
+    children-of-requires
     add-to
     mul-base-of
     sub-base-of

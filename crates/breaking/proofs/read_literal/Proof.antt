@@ -11,6 +11,7 @@ use borrow.Author.Tests.{eqb-true}
 use lib.Dec.{eqb}
 use lib.ListN.{length, getD, take, drop, set, length-append, drop-of-length-le}
 use lib.Seq.{length-take-le, take-take, take-suc-set, take-at, drop-at}
+use Rattle.model.specs.Limits.{most-literals}
 use Rattle.theory.specs.Logic.{or-split}
 use Rattle.breaking.specs.Breaking.{opposite}
 use Rattle.breaking.specs.Stacks.{among, Places, bottom, tried, Made}
@@ -20,7 +21,7 @@ use Rattle.breaking.proofs.Tables.{opposite-below, fails-anyway, never-
 use Rattle.breaking.proofs.read_literal.Statement.{statement}
 use Rattle.breaking.proofs.read_literal.Tie as tie
 
-module _ (places t : List ℕ) (p end : ℕ) (room : end < length places) (inside : Places (take end places)) (small : p < 1024) (wide : length t ≡ 1024) where
+module _ (places t : List ℕ) (p end : ℕ) (room : end < length places) (inside : Places (take end places)) (small : p < most-literals) (wide : length t ≡ most-literals) where
   -- Whether the literal fails, where another one does.
   abbrev value : ℕ → Bool
   value q = eqb (getD (tried t q) p 0) 1

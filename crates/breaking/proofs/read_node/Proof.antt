@@ -9,9 +9,9 @@ use lib.Dec.{eqb}
 use lib.ListN.{length, getD, take, drop}
 use Rattle.model.specs.Base.{pick}
 use Rattle.model.specs.Forest.{or, root}
-use Rattle.model.specs.Code.{kind, value}
+use Rattle.model.specs.Code.{kind, children}
 use Rattle.theory.specs.Scan.{is-literal}
-use Rattle.theory.specs.Values.{fails-all}
+use Rattle.theory.specs.Evaluation.{fails-all}
 use Rattle.evaluation.specs.Reading.{place-at, with-node}
 use Rattle.evaluation.proofs.Nodes.{with-literal, with-inner}
 use Rattle.breaking.specs.Stacks.{broken, tried}
@@ -25,8 +25,8 @@ module _ (t : List ℕ) (x : ℕ) (bs : List Bool) where
   at-literal : {p : ℕ} → p ≡ place-at x → is-literal x ≡ true → eqb (getD t p 0) 1 ∷ bs ≡ with-node t x bs
   at-literal e l = rw e (sym (with-literal t x bs l))
 
-at-inner : (t : List ℕ) (x q : ℕ) (ls fs : List ℕ) → is-literal x ≡ false → fails-all (pick (eqb (kind x) 4) or root) (broken q ls (take (value x) fs)) ∷ drop (value x) (broken q ls fs) ≡ with-node t x (broken q ls fs)
-at-inner t x q ls fs l = rw (broken-take q (value x) ls fs) (sym (with-inner t x (broken q ls fs) l))
+at-inner : (t : List ℕ) (x q : ℕ) (ls fs : List ℕ) → is-literal x ≡ false → fails-all (pick (eqb (kind x) 4) or root) (broken q ls (take (children x) fs)) ∷ drop (children x) (broken q ls fs) ≡ with-node t x (broken q ls fs)
+at-inner t x q ls fs l = rw (broken-take q (children x) ls fs) (sym (with-inner t x (broken q ls fs) l))
 
 is-literal-requires : tie.Need-is-literal-requires
 is-literal-requires c κs = search needs
@@ -41,10 +41,10 @@ inner : (c : tie.Else1) → is-literal (c .before .before .before .before .befor
 inner c = sym (c .before .is-literal .ensures) ∙ c .if1 .left
 
 -- A connective's children are on the stack.
-enough : (c : tie.After-value-of) → let a = c .before .before .before .before .before .before .before .args in a .top + c .value-of .result ≤ length (a .firsts .now)
+enough : (c : tie.After-children-of) → let a = c .before .before .before .before .before .before .before .args in a .top + c .children-of .result ≤ length (a .firsts .now)
 enough c =
     let a = c .before .before .before .before .before .before .before in
-    omega (arith, c .value-of .ensures, a .pre .0 .2 (inner (c .before)))
+    omega (arith, c .children-of .ensures, a .pre .0 .2 (inner (c .before)))
 
 place-of-requires : tie.Need-place-of-requires
 place-of-requires c κs = literal c
@@ -83,8 +83,8 @@ returns c =
     let w = pushed h 0 (g .top - 1) (r .result .first) (r .last .1 .1 .1 .0) (r .result .end) at low room (r .ensures .0) in
     ((r .ensures .1, w .0, p .1 .1 .1), λ q. w .1 q ∙ at-literal (tried (g .failed .now) q) (g .x) _ (c .before .before .before .before .place-of .ensures) (literal t))
 
-value-of-requires : tie.Need-value-of-requires
-value-of-requires c κs = search needs
+children-of-requires : tie.Need-children-of-requires
+children-of-requires c κs = search needs
 
 add-new : tie.Need-add-new
 add-new c = let p = c .before .before .before .before .before .before .before .pre in omega (arith, enough c, p .1 .0 .2)
@@ -127,11 +127,11 @@ returns-2 c =
     let p = a .pre in
     let g = a .args in
     let h = p .1 .0 .3 in
-    let i : ℕ = g .top + n .value-of .result - 1 in
-    let at : suc i ≡ g .top + value (g .x) = omega (arith, n .value-of .ensures, p .0 .0) in
+    let i : ℕ = g .top + n .children-of .result - 1 in
+    let at : suc i ≡ g .top + children (g .x) = omega (arith, n .children-of .ensures, p .0 .0) in
     let low : i < length (g .firsts .now) = omega (arith, enough n, p .0 .0) in
     let room : r .result .end ≤ length (r .last .1 .1 .1 .0) = omega (arith, r .ensures .1 .0, r .kept .1 .1 .1 .0, p .1 .0 .0, p .1 .0 .1) in
-    let w = pushed h (value (g .x)) i (r .result .first) (r .last .1 .1 .1 .0) (r .result .end) at low room (r .ensures .0) in
+    let w = pushed h (children (g .x)) i (r .result .first) (r .last .1 .1 .1 .0) (r .result .end) at low room (r .ensures .0) in
     ((omega (arith, r .ensures .1 .0), w .0, r .ensures .1 .1), λ q. w .1 q ∙ at-inner (tried (g .failed .now) q) (g .x) q (take (g .end) (g .places .now)) (drop (g .top) (g .firsts .now)) (inner (n .before)))
 
 pub read-node-spec : {M : Type 1} → statement M
@@ -147,7 +147,7 @@ read-node-spec =
     same-length
     same-length-2
     returns
-    value-of-requires
+    children-of-requires
     add-new
     sub-new-2
     read-group-requires

@@ -5,6 +5,7 @@ use mathlib.Core.Path.{_≡_, sym, _∙_}
 use native.Mathlib.Omega.{arith}
 use borrow.Author.Needs.{needs}
 use borrow.Author.Tests.{not-true, not-false}
+use Rattle.model.specs.Limits.{code-length}
 use Rattle.model.specs.Book.{code-ok, codes-ok, pieces}
 use Rattle.codes.specs.Places.{code-at}
 use Rattle.codes.proofs.Laws.{from-first}
@@ -14,12 +15,12 @@ use Rattle.chains.proofs.are_codes.Statement.{statement}
 use Rattle.chains.proofs.are_codes.Tie as tie
 
 abbrev Inv-loop : tie.InvT-loop
-Inv-loop s n i₀ i = (i ≤ n) × (codes-ok (pieces 13 n s) ≡ ok-from n s i)
+Inv-loop s n i₀ i = (i ≤ n) × (codes-ok (pieces code-length n s) ≡ ok-from n s i)
 
 abbrev μ-loop : tie.MeasureT-loop
 μ-loop s n i₀ i = n - i
 
-turn : (c : tie.In-loop Inv-loop μ-loop) → let n = c .before in let a = n .before .before .args in codes-ok (pieces 13 (a .n) (a .s .now)) ≡ code-ok (code-at (a .s .now) (n .loop .i)) && not (comes-after (a .n) (a .s .now) (n .loop .i)) && ok-from (a .n) (a .s .now) (n .loop .i + 1)
+turn : (c : tie.In-loop Inv-loop μ-loop) → let n = c .before in let a = n .before .before .args in codes-ok (pieces code-length (a .n) (a .s .now)) ≡ code-ok (code-at (a .s .now) (n .loop .i)) && not (comes-after (a .n) (a .s .now) (n .loop .i)) && ok-from (a .n) (a .s .now) (n .loop .i + 1)
 turn c = let n = c .before in let a = n .before .before .args in n .loop .inv .1 ∙ ok-more (a .n) (a .s .now) (n .loop .i) (omega arith)
 
 loop-holds : tie.Need-loop-holds Inv-loop μ-loop

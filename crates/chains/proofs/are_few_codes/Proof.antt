@@ -4,6 +4,8 @@ use Prim.Native.Nat.{_-_}
 use native.Mathlib.Omega.{arith}
 use borrow.Author.Needs.{needs}
 use borrow.Author.Tests.{not-true, not-false}
+use Rattle.model.specs.Limits.{most-options}
+use Rattle.chains.specs.Chains.{buckets}
 use Rattle.chains.proofs.Laws.{ok-more}
 use Rattle.chains.proofs.Chains.{Entered, entered-none, entered-before, entered-more, entered-all, walk, bad-from}
 use Rattle.chains.proofs.are_few_codes.Statement.{statement}
@@ -16,7 +18,7 @@ abbrev μ-loop : tie.MeasureT-loop
 μ-loop s n first₀ next₀ i₀ first next i = i
 
 loop-holds : tie.Need-loop-holds Inv-loop μ-loop
-loop-holds c = entered-none (c .before .args .n) (c .before .args .s .now) 1024 512 refl refl (omega arith)
+loop-holds c = entered-none (c .before .args .n) (c .before .args .s .now) buckets most-options refl refl (omega arith)
 
 sub-i : tie.Need-sub-i Inv-loop μ-loop
 sub-i c = search needs

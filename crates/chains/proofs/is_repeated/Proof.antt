@@ -8,6 +8,7 @@ use borrow.Author.Needs.{needs}
 use borrow.Rule.Slice.PartAt.{part-to-end}
 use lib.ListN.{take, drop}
 use Rattle.model.specs.Base.{any}
+use Rattle.model.specs.Limits.{code-length}
 use Rattle.model.specs.Book.{same-code, pieces}
 use Rattle.codes.specs.Places.{code-at}
 use Rattle.chains.specs.Chains.{comes-from}
@@ -17,19 +18,19 @@ use Rattle.chains.proofs.is_repeated.Tie as tie
 
 -- Some code after the first is the first one again.
 abbrev again : ℕ → List ℕ → Bool
-again n s = any (same-code (take 13 s)) (pieces 13 (n - 1) (drop 13 s))
+again n s = any (same-code (take code-length s)) (pieces code-length (n - 1) (drop code-length s))
 
 abbrev Inv-loop : tie.InvT-loop
-Inv-loop s n i₀ i = (i ≤ n) × (again n s ≡ comes-from (take 13 s) n s i)
+Inv-loop s n i₀ i = (i ≤ n) × (again n s ≡ comes-from (take code-length s) n s i)
 
 abbrev μ-loop : tie.MeasureT-loop
 μ-loop s n i₀ i = n - i
 
-turn : (c : tie.In-loop Inv-loop μ-loop) → let n = c .before in let a = n .before .before .args in again (a .n) (a .s .now) ≡ same-code (take 13 (a .s .now)) (code-at (a .s .now) (n .loop .i)) || comes-from (take 13 (a .s .now)) (a .n) (a .s .now) (n .loop .i + 1)
-turn c = let n = c .before in let a = n .before .before .args in n .loop .inv .1 ∙ comes-more (a .n) (a .s .now) (take 13 (a .s .now)) (n .loop .i) (omega arith)
+turn : (c : tie.In-loop Inv-loop μ-loop) → let n = c .before in let a = n .before .before .args in again (a .n) (a .s .now) ≡ same-code (take code-length (a .s .now)) (code-at (a .s .now) (n .loop .i)) || comes-from (take code-length (a .s .now)) (a .n) (a .s .now) (n .loop .i + 1)
+turn c = let n = c .before in let a = n .before .before .args in n .loop .inv .1 ∙ comes-more (a .n) (a .s .now) (take code-length (a .s .now)) (n .loop .i) (omega arith)
 
 loop-holds : tie.Need-loop-holds Inv-loop μ-loop
-loop-holds c = (omega arith, rw (part-to-end (c .before .args .s .now) 13))
+loop-holds c = (omega arith, rw (part-to-end (c .before .args .s .now) code-length))
 
 mul-at : tie.Need-mul-at Inv-loop μ-loop
 mul-at c = omega arith
@@ -62,7 +63,7 @@ returns-2 : tie.Need-returns-2 Inv-loop μ-loop
 returns-2 c =
     let n = c .before in
     let a = n .before .before .args in
-    sym (n .loop .inv .1 ∙ comes-past (a .n) (a .s .now) (take 13 (a .s .now)) (n .loop .i) (omega arith))
+    sym (n .loop .inv .1 ∙ comes-past (a .n) (a .s .now) (take code-length (a .s .now)) (n .loop .i) (omega arith))
 
 pub is-repeated-spec : {M : Type 1} → statement M
 is-repeated-spec =

@@ -9,7 +9,7 @@ use lib.ListN.{length-drop}
 use borrow.Rule.Slice.PartAt.{part-to-end}
 use Rattle.model.specs.Code.{weight}
 use Rattle.model.specs.Sheet.{is-sheet, options-in, nodes-in}
-use Rattle.theory.specs.Sheets.{sheet-weight}
+use Rattle.theory.specs.Sheets.{sheet-weight, sheet-formed}
 use Rattle.choices.proofs.Laws.{weight-counted, no-sheet, no-option, no-room, accepted-choice, sheet-first}
 use Rattle.choices.proofs.choose.Statement.{statement}
 use Rattle.choices.proofs.choose.Tie as tie
@@ -82,7 +82,7 @@ returns-3 c =
 
 append-requires : tie.Need-append-requires
 append-requires c κs =
-    (good (c .before .before .before .before .before .before .before .before .before), (known (c .before .before .before .before .before .before .before), omega (arith, counted (c .before .before), c .before .if3 .left)))
+    (sheet-formed _ (good (c .before .before .before .before .before .before .before .before .before)), (known (c .before .before .before .before .before .before .before), omega (arith, counted (c .before .before), c .before .if3 .left)))
 
 same-length-4 : tie.Need-same-length-4
 same-length-4 c = search needs

@@ -7,6 +7,7 @@ use native.Mathlib.Numerals.{add-one}
 use native.Mathlib.Omega.{arith}
 use borrow.Author.Needs.{needs}
 use Rattle.model.specs.Base.{pick}
+use Rattle.model.specs.Limits.{code-length}
 use Rattle.model.specs.Book.{same-code, characters, option-of-code, pieces}
 use Rattle.codes.specs.Places.{code-at, codes-from}
 use Rattle.codes.proofs.Laws.{from-first, from-cons, from-next, from-past}
@@ -29,7 +30,7 @@ unfolding option-of-code
 nowhere given n s i h = rw (from-past n s i h)
 
 abbrev Inv-loop : tie.InvT-loop
-Inv-loop s n given i₀ i = (i ≤ n) × (option-of-code given 0 (pieces 13 n s) ≡ found-from given n s i)
+Inv-loop s n given i₀ i = (i ≤ n) × (option-of-code given 0 (pieces code-length n s) ≡ found-from given n s i)
 
 abbrev μ-loop : tie.MeasureT-loop
 μ-loop s n given i₀ i = n - i
@@ -54,7 +55,7 @@ part-is-spelled-end c = omega arith
 is-spelled-requires : tie.Need-is-spelled-requires Inv-loop μ-loop
 is-spelled-requires c κs = search needs
 
-turn : (c : tie.In-loop Inv-loop μ-loop) → let a = c .before .before .before .before .args in option-of-code (a .given .now) 0 (pieces 13 (a .n) (a .s .now)) ≡ found-by (a .given .now) (a .n) (a .s .now) (c .before .loop .i)
+turn : (c : tie.In-loop Inv-loop μ-loop) → let a = c .before .before .before .before .args in option-of-code (a .given .now) 0 (pieces code-length (a .n) (a .s .now)) ≡ found-by (a .given .now) (a .n) (a .s .now) (c .before .loop .i)
 turn c = let n = c .before in let a = n .before .before .before .args in n .loop .inv .1 ∙ more (a .given .now) (a .n) (a .s .now) (n .loop .i) (omega arith)
 
 returns : tie.Need-returns Inv-loop μ-loop

@@ -10,6 +10,7 @@ use lib.ListN.{length, take, getD}
 use lib.Seq.{slice, slice-empty}
 use lib.Dec.{eqb}
 use Rattle.model.specs.Base.{all, pick}
+use Rattle.model.specs.Limits.{code-length}
 use Rattle.model.specs.Book.{character, then-zeros, code-ok}
 use Rattle.codes.proofs.Laws.{byte-more}
 use Rattle.codes.proofs.is_code.Statement.{statement}
@@ -17,18 +18,18 @@ use Rattle.codes.proofs.is_code.Tie as tie
 
 -- A code is characters, then zeros, from byte k on; the same, told by byte k and those after it.
 abbrev ok-from : List ℕ → ℕ → Bool
-ok-from s k = then-zeros (slice k 13 s)
+ok-from s k = then-zeros (slice k code-length s)
 
 abbrev ok-by : List ℕ → ℕ → Bool
-ok-by s k = pick (character (getD s k 0)) (ok-from s (k + 1)) (all (eqb 0) (slice k 13 s))
+ok-by s k = pick (character (getD s k 0)) (ok-from s (k + 1)) (all (eqb 0) (slice k code-length s))
 
-more : (s : List ℕ) (k : ℕ) → k < 13 → 13 ≤ length s → ok-from s k ≡ ok-by s k
+more : (s : List ℕ) (k : ℕ) → k < code-length → code-length ≤ length s → ok-from s k ≡ ok-by s k
 unfolding then-zeros
 more s k h l = rw (byte-more k s h l)
 
-none : (s : List ℕ) → ok-from s 13 ≡ true
+none : (s : List ℕ) → ok-from s code-length ≡ true
 unfolding then-zeros
-none s = rw (slice-empty 13 s)
+none s = rw (slice-empty code-length s)
 
 -- A test that is asked twice.
 twice : (b x y : Bool) → (b && pick b x y) ≡ (b && x)
@@ -36,17 +37,17 @@ unfolding pick
 twice true x y = refl
 twice false x y = refl
 
-first : (s : List ℕ) → 13 ≤ length s → code-ok (take 13 s) ≡ (character (getD s 0 0) && ok-from s 1)
+first : (s : List ℕ) → code-length ≤ length s → code-ok (take code-length s) ≡ (character (getD s 0 0) && ok-from s 1)
 unfolding code-ok then-zeros
 first s l = rw (byte-more 0 s (omega arith) l) (twice (character (getD s 0 0)) _ _)
 
 abbrev Inv-loop : tie.InvT-loop
-Inv-loop s k₀ k = (k ≤ 13) × (code-ok (take 13 s) ≡ ok-from s k)
+Inv-loop s k₀ k = (k ≤ code-length) × (code-ok (take code-length s) ≡ ok-from s k)
 
 abbrev μ-loop : tie.MeasureT-loop
-μ-loop s k₀ k = 13 - k
+μ-loop s k₀ k = code-length - k
 
-turn : (c : tie.In-loop Inv-loop μ-loop) → let n = c .before in let s = n .before .before .before .before .before .args .s .now in code-ok (take 13 s) ≡ ok-by s (n .loop .k)
+turn : (c : tie.In-loop Inv-loop μ-loop) → let n = c .before in let s = n .before .before .before .before .before .args .s .now in code-ok (take code-length s) ≡ ok-by s (n .loop .k)
 turn c = let n = c .before in n .loop .inv .1 ∙ more (n .before .before .before .before .before .args .s .now) (n .loop .k) (omega arith) (omega arith)
 
 shared-slice-read-is-character : tie.Need-shared-slice-read-is-character Inv-loop μ-loop
@@ -95,7 +96,7 @@ loop-again c =
 returns-3 : tie.Need-returns-3 Inv-loop μ-loop
 returns-3 c =
     let n = c .before in
-    let e : n .loop .k ≡ 13 = omega arith in
+    let e : n .loop .k ≡ code-length = omega arith in
     sym (n .loop .inv .1 ∙ rw e (none (n .before .before .before .before .before .args .s .now)))
 
 pub is-code-spec : {M : Type 1} → statement M

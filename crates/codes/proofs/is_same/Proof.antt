@@ -9,6 +9,7 @@ use lib.ListN.{length, getD, take}
 use lib.Seq.{slice, slice-empty}
 use lib.Dec.{eqb}
 use Rattle.model.specs.Base.{same-list}
+use Rattle.model.specs.Limits.{code-length}
 use Rattle.model.specs.Book.{same-code}
 use Rattle.codes.proofs.Laws.{byte-more}
 use Rattle.codes.proofs.is_same.Statement.{statement}
@@ -16,26 +17,26 @@ use Rattle.codes.proofs.is_same.Tie as tie
 
 -- Two codes agree from byte k on; the same, told by byte k and those after it.
 abbrev same-from : List ℕ → List ℕ → ℕ → Bool
-same-from s t k = same-list (slice k 13 s) (slice k 13 t)
+same-from s t k = same-list (slice k code-length s) (slice k code-length t)
 
 abbrev same-by : List ℕ → List ℕ → ℕ → Bool
 same-by s t k = eqb (getD s k 0) (getD t k 0) && same-from s t (k + 1)
 
-more : (s t : List ℕ) (k : ℕ) → k < 13 → 13 ≤ length s → 13 ≤ length t → same-from s t k ≡ same-by s t k
+more : (s t : List ℕ) (k : ℕ) → k < code-length → code-length ≤ length s → code-length ≤ length t → same-from s t k ≡ same-by s t k
 unfolding same-list
 more s t k h l m = rw (byte-more k s h l, byte-more k t h m)
 
-none : (s t : List ℕ) → same-from s t 13 ≡ true
+none : (s t : List ℕ) → same-from s t code-length ≡ true
 unfolding same-list
-none s t = rw (slice-empty 13 s, slice-empty 13 t)
+none s t = rw (slice-empty code-length s, slice-empty code-length t)
 
 abbrev Inv-loop : tie.InvT-loop
-Inv-loop s t k₀ k = (k ≤ 13) × (same-code (take 13 s) (take 13 t) ≡ same-from s t k)
+Inv-loop s t k₀ k = (k ≤ code-length) × (same-code (take code-length s) (take code-length t) ≡ same-from s t k)
 
 abbrev μ-loop : tie.MeasureT-loop
-μ-loop s t k₀ k = 13 - k
+μ-loop s t k₀ k = code-length - k
 
-turn : (c : tie.In-loop Inv-loop μ-loop) → let n = c .before in let a = n .before .args in same-code (take 13 (a .s .now)) (take 13 (a .t .now)) ≡ same-by (a .s .now) (a .t .now) (n .loop .k)
+turn : (c : tie.In-loop Inv-loop μ-loop) → let n = c .before in let a = n .before .args in same-code (take code-length (a .s .now)) (take code-length (a .t .now)) ≡ same-by (a .s .now) (a .t .now) (n .loop .k)
 turn c = let n = c .before in let a = n .before .args in n .loop .inv .1 ∙ more (a .s .now) (a .t .now) (n .loop .k) (omega arith) (omega arith) (omega arith)
 
 loop-holds : tie.Need-loop-holds Inv-loop μ-loop
@@ -63,7 +64,7 @@ loop-again c = (omega arith, turn (c .before .before .before) ∙ rw (eq-eqb _ _
 returns-2 : tie.Need-returns-2 Inv-loop μ-loop
 returns-2 c =
     let n = c .before in
-    let e : n .loop .k ≡ 13 = omega arith in
+    let e : n .loop .k ≡ code-length = omega arith in
     sym (n .loop .inv .1 ∙ rw e (none (n .before .args .s .now) (n .before .args .t .now)))
 
 pub is-same-spec : {M : Type 1} → statement M

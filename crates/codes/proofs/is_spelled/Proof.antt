@@ -10,6 +10,7 @@ use lib.ListN.{length, take, drop, getD}
 use lib.Seq.{slice, slice-empty, drop-cons, drop-length, length-take-le}
 use lib.Dec.{eqb}
 use Rattle.model.specs.Base.{pick, same-list}
+use Rattle.model.specs.Limits.{code-length}
 use Rattle.model.specs.Book.{characters, same-code}
 use Rattle.codes.proofs.Laws.{byte-more}
 use Rattle.codes.proofs.is_spelled.Statement.{statement}
@@ -41,26 +42,26 @@ too-long (x ∷ a) (y ∷ l) h = rw (beside-some (eqb y 0) x y a (characters l),
 
 -- The characters given are those of the code from place j on; the same, told by the byte there and those after it.
 abbrev agree-from : List ℕ → List ℕ → ℕ → Bool
-agree-from s given j = same-list (drop j given) (characters (slice j 13 s))
+agree-from s given j = same-list (drop j given) (characters (slice j code-length s))
 
 abbrev agree-by : List ℕ → List ℕ → ℕ → Bool
 agree-by s given j = pick (eqb (getD s j 0) 0) false (eqb (getD given j 0) (getD s j 0) && agree-from s given (j + 1))
 
-module _ (s given : List ℕ) (l : 13 ≤ length s) where
-  more : (j : ℕ) → j < length given → j < 13 → agree-from s given j ≡ agree-by s given j
+module _ (s given : List ℕ) (l : code-length ≤ length s) where
+  more : (j : ℕ) → j < length given → j < code-length → agree-from s given j ≡ agree-by s given j
   unfolding characters
   more j h m = rw (drop-cons given j 0 h, byte-more j s m l, ← add-one j) (beside-some (eqb (getD s j 0) 0) (getD given j 0) (getD s j 0) _ _)
 
-  none : length given ≡ 13 → agree-from s given (length given) ≡ true
+  none : length given ≡ code-length → agree-from s given (length given) ≡ true
   unfolding characters same-list
-  none e = rw (drop-length given, e, slice-empty 13 s)
+  none e = rw (drop-length given, e, slice-empty code-length s)
 
-  last : length given < 13 → agree-from s given (length given) ≡ eqb (getD s (length given) 0) 0
+  last : length given < code-length → agree-from s given (length given) ≡ eqb (getD s (length given) 0) 0
   unfolding characters
   last h = rw (drop-length given, byte-more (length given) s h l) (beside-none (eqb (getD s (length given) 0) 0) _ _)
 
 abbrev Inv-loop : tie.InvT-loop
-Inv-loop s given n j₀ j = (j ≤ n) × (same-code given (characters (take 13 s)) ≡ agree-from s given j)
+Inv-loop s given n j₀ j = (j ≤ n) × (same-code given (characters (take code-length s)) ≡ agree-from s given j)
 
 abbrev μ-loop : tie.MeasureT-loop
 μ-loop s given n j₀ j = n - j
@@ -69,9 +70,9 @@ returns : tie.Need-returns Inv-loop μ-loop
 unfolding same-code
 returns c =
     let s = c .before .args .s .now in
-    sym (too-long (c .before .args .given .now) (take 13 s) (rw (length-take-le 13 s (omega arith)) (omega arith)))
+    sym (too-long (c .before .args .given .now) (take code-length s) (rw (length-take-le code-length s (omega arith)) (omega arith)))
 
-turn : (c : tie.In-loop Inv-loop μ-loop) → let n = c .before in let a = n .before .before .args in same-code (a .given .now) (characters (take 13 (a .s .now))) ≡ agree-by (a .s .now) (a .given .now) (n .loop .j)
+turn : (c : tie.In-loop Inv-loop μ-loop) → let n = c .before in let a = n .before .before .args in same-code (a .given .now) (characters (take code-length (a .s .now))) ≡ agree-by (a .s .now) (a .given .now) (n .loop .j)
 turn c = let n = c .before in let a = n .before .before .args in n .loop .inv .1 ∙ more (a .s .now) (a .given .now) (omega arith) (n .loop .j) (omega arith) (omega arith)
 
 loop-holds : tie.Need-loop-holds Inv-loop μ-loop

@@ -8,6 +8,7 @@ use borrow.Author.Tests.{eq-eqb, ne-eqb}
 use lib.ListN.{length, getD}
 use lib.Seq.{slice, slice-empty}
 use lib.Dec.{eqb}
+use Rattle.model.specs.Limits.{code-length}
 use Rattle.model.specs.Base.{all}
 use Rattle.codes.proofs.Laws.{byte-more}
 use Rattle.codes.proofs.is_zero_from.Statement.{statement}
@@ -15,24 +16,24 @@ use Rattle.codes.proofs.is_zero_from.Tie as tie
 
 -- The bytes of a code are zero from byte k on; the same, told by byte k and those after it.
 abbrev zero-from : List ℕ → ℕ → Bool
-zero-from s k = all (eqb 0) (slice k 13 s)
+zero-from s k = all (eqb 0) (slice k code-length s)
 
 abbrev zero-by : List ℕ → ℕ → Bool
 zero-by s k = eqb 0 (getD s k 0) && zero-from s (k + 1)
 
-more : (s : List ℕ) (k : ℕ) → k < 13 → 13 ≤ length s → zero-from s k ≡ zero-by s k
+more : (s : List ℕ) (k : ℕ) → k < code-length → code-length ≤ length s → zero-from s k ≡ zero-by s k
 unfolding all
 more s k h l = rw (byte-more k s h l)
 
-none : (s : List ℕ) → zero-from s 13 ≡ true
+none : (s : List ℕ) → zero-from s code-length ≡ true
 unfolding all
-none s = rw (slice-empty 13 s)
+none s = rw (slice-empty code-length s)
 
 abbrev Inv-loop : tie.InvT-loop
-Inv-loop s from k₀ k = (k ≤ 13) × (zero-from s from ≡ zero-from s k)
+Inv-loop s from k₀ k = (k ≤ code-length) × (zero-from s from ≡ zero-from s k)
 
 abbrev μ-loop : tie.MeasureT-loop
-μ-loop s from k₀ k = 13 - k
+μ-loop s from k₀ k = code-length - k
 
 turn : (c : tie.In-loop Inv-loop μ-loop) → let n = c .before in let a = n .before .args in zero-from (a .s .now) (a .from) ≡ zero-by (a .s .now) (n .loop .k)
 turn c = let n = c .before in n .loop .inv .1 ∙ more (n .before .args .s .now) (n .loop .k) (omega arith) (omega arith)
@@ -58,7 +59,7 @@ loop-again c = (omega arith, turn (c .before .before) ∙ rw (eq-eqb 0 _ (sym (c
 returns-2 : tie.Need-returns-2 Inv-loop μ-loop
 returns-2 c =
     let n = c .before in
-    let e : n .loop .k ≡ 13 = omega arith in
+    let e : n .loop .k ≡ code-length = omega arith in
     sym (n .loop .inv .1 ∙ rw e (none (n .before .args .s .now)))
 
 pub is-zero-from-spec : {M : Type 1} → statement M

@@ -3,12 +3,13 @@ use Prim.Native.Nat.{_+_, _≤_, _<_}
 use native.Mathlib.Omega.{arith}
 use borrow.Author.Needs.{needs}
 use lib.ListN.{length}
+use Rattle.model.specs.Limits.{sheet-room}
 use Rattle.theory.specs.Children.{counted-child}
 use Rattle.commons.proofs.first_common.Statement.{statement}
 use Rattle.commons.proofs.first_common.Tie as tie
 
 -- The table of sizes has an entry for child i.
-child : (c : tie.Start) → (1 + c .args .i < length (c .args .sizes .now)) × (length (c .args .sizes .now) ≤ 4096)
+child : (c : tie.Start) → (1 + c .args .i < length (c .args .sizes .now)) × (length (c .args .sizes .now) ≤ sheet-room)
 child c =
     let w = counted-child (c .pre .0) (c .pre .1 .0) (c .pre .1 .1 .0) in
     (omega (arith, w .1, c .pre .1 .1 .1 .0), omega (arith, w .2, c .pre .1 .1 .1 .0))

@@ -6,6 +6,7 @@ use lib.ListN.{length-replicate}
 use Rattle.factor.proofs.Asking.{stretch-some}
 use Rattle.commons.proofs.first_held.Statement.{statement}
 use Rattle.commons.proofs.first_held.Tie as tie
+use Rattle.commons.specs.Held.{literal-numbers}
 
 slice-aggregate-hold-all : tie.Need-slice-aggregate-hold-all
 slice-aggregate-hold-all c = search needs
@@ -13,7 +14,7 @@ slice-aggregate-hold-all c = search needs
 hold-all-requires : tie.Need-hold-all-requires
 hold-all-requires c κs =
     let s = c .before .before .before in
-    ((stretch-some (s .pre .0) (s .pre .1 .0), s .pre .0 .short), (s .pre .1 .1 .1, length-replicate {A = ℕ} 8192 0))
+    ((stretch-some (s .pre .0) (s .pre .1 .0), s .pre .0 .short), (s .pre .1 .1 .1, length-replicate {A = ℕ} literal-numbers 0))
 
 slice-aggregate-first-sifted : tie.Need-slice-aggregate-first-sifted
 slice-aggregate-first-sifted c = search needs
@@ -22,7 +23,7 @@ first-sifted-requires : tie.Need-first-sifted-requires
 first-sifted-requires c κs =
     let s = c .before .before .before .before .before .before in
     let call = c .before .before .hold-all in
-    (s .pre .0, (s .pre .1 .0, (s .pre .1 .1 .0, (s .pre .1 .1 .1, (call .kept .1 .1 .0 ∙ length-replicate {A = ℕ} 8192 0, call .ensures)))))
+    (s .pre .0, (s .pre .1 .0, (s .pre .1 .1 .0, (s .pre .1 .1 .1, (call .kept .1 .1 .0 ∙ length-replicate {A = ℕ} literal-numbers 0, call .ensures)))))
 
 returns : tie.Need-returns
 returns c = search needs

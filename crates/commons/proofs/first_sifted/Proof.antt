@@ -10,7 +10,8 @@ use borrow.Author.Tests.{eqb-true, eqb-false, not-true, not-false}
 use lib.Dec.{eqb}
 use lib.ListN.{length, getD, drop}
 use Rattle.model.specs.Base.{is-some}
-use Rattle.model.specs.Code.{kind, value}
+use Rattle.model.specs.Limits.{sheet-room}
+use Rattle.model.specs.Code.{kind, children}
 use Rattle.model.specs.Rules.{rewrite}
 use Rattle.theory.specs.Spans.{arity, span, child-at}
 use Rattle.theory.specs.Stretches.{forest-in}
@@ -30,7 +31,7 @@ abbrev μ-loop : tie.MeasureT-loop
 μ-loop part sizes i held groups head m j₀ from₀ j from = m - j
 
 -- Child i begins within the stretch; how many children it announces.
-child : (c : tie.Start Inv-loop μ-loop) → (1 + c .args .i < length (c .args .part .now)) × (length (c .args .part .now) ≤ 4096)
+child : (c : tie.Start Inv-loop μ-loop) → (1 + c .args .i < length (c .args .part .now)) × (length (c .args .part .now) ≤ sheet-room)
 child c = let w = counted-child (c .pre .0) (c .pre .1 .0) (c .pre .1 .1 .0) in (w .1, w .2)
 
 counted : (c : tie.After-arity-of Inv-loop μ-loop) → let a = c .before .before .before .before .before .before .args in c .arity-of .result ≡ arity (getD (a .part .now) (1 + a .i) 0)
@@ -72,8 +73,8 @@ conjunction c =
     let k = c .before .kind-of .result in
     sym (c .before .kind-of .ensures ∙ ap kind (c .before .before .before .before .wide16 .ensures .0)) ∙ eqb-true k 3 (not-false (eqb k 3) (c .if2 .left))
 
-children : (c : tie.Else2 Inv-loop μ-loop) → let a = c .before .before .before .before .before .before .before .before .before .args in c .before .before .before .arity-of .result ≡ value (getD (a .part .now) (1 + a .i) 0)
-children c =
+announced : (c : tie.Else2 Inv-loop μ-loop) → let a = c .before .before .before .before .before .before .before .before .before .args in c .before .before .before .arity-of .result ≡ children (getD (a .part .now) (1 + a .i) 0)
+announced c =
     let a = c .before .before .before .before .before .before .before .before .before .args in
     counted (c .before .before .before) ∙ conjunction-arity (getD (a .part .now) (1 + a .i) 0) (conjunction c)
 
@@ -86,11 +87,11 @@ loop-holds c =
     (omega arith, omega (arith, inner-first (1 + a .i) (a .part .now)), λ k l. absurd (omega arith))
 
 -- The place of inner child j is within the stretch.
-inside : (c : tie.In-loop Inv-loop μ-loop) → let a = c .before .before .before .before .before .before .before .before .before .before .before .args in (c .before .loop .from < length (a .part .now)) × (length (a .part .now) ≤ 4096)
+inside : (c : tie.In-loop Inv-loop μ-loop) → let a = c .before .before .before .before .before .before .before .before .before .before .before .args in (c .before .loop .from < length (a .part .now)) × (length (a .part .now) ≤ sheet-room)
 inside c =
     let n = c .before in
     let s = n .before .before .before .before .before .before .before .before .before .before in
-    let room = inner-room (s .pre .0) (s .pre .1 .0) (s .args .i) (s .pre .1 .1 .0) (conjunction (n .before)) (n .loop .j) (omega (arith, children (n .before))) in
+    let room = inner-room (s .pre .0) (s .pre .1 .0) (s .args .i) (s .pre .1 .1 .0) (conjunction (n .before)) (n .loop .j) (omega (arith, announced (n .before))) in
     (omega (arith, room, n .loop .inv .1), child s .1)
 
 mul-wide16-2 : tie.Need-mul-wide16-2 Inv-loop μ-loop
@@ -175,7 +176,7 @@ returns-3 c =
     let s = n .before .before .before .before .before .before .before .before .before .before in
     let last : n .loop .j ≡ n .before .before .before .before .arity-of .result = omega arith in
     found-none (s .pre .0) (s .pre .1 .0) (s .args .i) (s .pre .1 .1 .0) (counted (n .before .before .before .before))
-    (rw last at (below-more (n .loop .j) (n .loop .inv .2) (past-none (s .pre .0) (s .pre .1 .0) (s .args .i) (s .pre .1 .1 .0) (n .loop .j) (omega (arith, children (n .before))))))
+    (rw last at (below-more (n .loop .j) (n .loop .inv .2) (past-none (s .pre .0) (s .pre .1 .0) (s .args .i) (s .pre .1 .1 .0) (n .loop .j) (omega (arith, announced (n .before))))))
 
 pub first-sifted-spec : {M : Type 1} → statement M
 first-sifted-spec =

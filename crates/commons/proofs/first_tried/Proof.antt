@@ -6,6 +6,7 @@ use native.Mathlib.Omega.{arith}
 use borrow.Author.Needs.{needs}
 use lib.ListN.{length, getD}
 use Rattle.model.specs.Base.{is-some}
+use Rattle.model.specs.Limits.{sheet-room}
 use Rattle.model.specs.Rules.{rewrite}
 use Rattle.theory.specs.Spans.{arity}
 use Rattle.theory.specs.Stretches.{forest-in}
@@ -22,7 +23,7 @@ abbrev μ-loop : tie.MeasureT-loop
 μ-loop part i m j₀ j = m + 1 - j
 
 -- Child i begins within the stretch.
-child : (c : tie.Start Inv-loop μ-loop) → (1 + c .args .i < length (c .args .part .now)) × (length (c .args .part .now) ≤ 4096)
+child : (c : tie.Start Inv-loop μ-loop) → (1 + c .args .i < length (c .args .part .now)) × (length (c .args .part .now) ≤ sheet-room)
 child c = let w = counted-child (c .pre .0) (c .pre .1 .0) (c .pre .1 .1) in (w .1, w .2)
 
 counted : (c : tie.After-arity-of Inv-loop μ-loop) → let a = c .before .before .before .before .args in c .arity-of .result ≡ arity (getD (a .part .now) (1 + a .i) 0)

@@ -7,9 +7,10 @@ use native.Mathlib.Omega.{arith}
 use borrow.Author.Needs.{needs}
 use borrow.Author.Tests.{ltb-true, ltb-false}
 use lib.ListN.{length, getD, drop}
-use Rattle.model.specs.Code.{value}
+use Rattle.model.specs.Code.{children}
 use Rattle.theory.specs.Scan.{is-literal}
 use Rattle.theory.specs.Spans.{span}
+use Rattle.commons.specs.Held.{literal-numbers}
 use Rattle.sizes.proofs.Laws.{span-one}
 use Rattle.commons.proofs.Held.{Holding, group-literal, group-inner, holding-more, holding-all}
 use Rattle.commons.proofs.hold.Statement.{statement}
@@ -18,8 +19,8 @@ use Rattle.commons.proofs.hold.Tie as tie
 abbrev Inv-loop : tie.InvT-loop
 Inv-loop part sizes at groups held₀ head left₀ from₀ held left from =
     (from ≤ length part)
-    × (length held ≡ 8192)
-    × Holding groups (value (getD part at 0)) (at + 1) part held₀ held left from
+    × (length held ≡ literal-numbers)
+    × Holding groups (children (getD part at 0)) (at + 1) part held₀ held left from
 
 abbrev μ-loop : tie.MeasureT-loop
 μ-loop part sizes at groups held₀ head left₀ from₀ held left from = left
@@ -46,8 +47,8 @@ returns c =
 inner : (c : tie.Else1 Inv-loop μ-loop) → let a = c .before .before .before .before .before .before .before .args in is-literal (getD (a .part .now) (a .at) 0) ≡ false
 inner c = ap is-literal (sym (c .before .before .wide16 .ensures .0)) ∙ sym (c .before .is-literal .ensures) ∙ c .if1 .left
 
-value-of-requires : tie.Need-value-of-requires Inv-loop μ-loop
-value-of-requires c κs = search needs
+children-of-requires : tie.Need-children-of-requires Inv-loop μ-loop
+children-of-requires c κs = search needs
 
 add-from : tie.Need-add-from Inv-loop μ-loop
 add-from c = search needs
@@ -55,7 +56,7 @@ add-from c = search needs
 loop-holds : tie.Need-loop-holds Inv-loop μ-loop
 loop-holds c =
     let s = c .before .before .before .before .before .before .before .before in
-    let counted = c .value-of .ensures ∙ ap value (c .before .before .before .wide16 .ensures .0) in
+    let counted = c .children-of .ensures ∙ ap children (c .before .before .before .wide16 .ensures .0) in
     (omega arith, s .pre .1 .1, λ x lit there reached. rw counted (inr (reached, there)))
 
 mul-wide16-2 : tie.Need-mul-wide16-2 Inv-loop μ-loop
@@ -110,7 +111,7 @@ loop-again c =
     let call = c .before .before .before .before .note in
     let inside : from < length l = omega (arith, ltb-true) in
     rw (hop c)
-    (omega (arith, span-one from l inside), call .kept .0 ∙ n .loop .inv .1, holding-more (a .groups) (value (getD l (a .at) 0)) (a .at + 1) l (a .held .now) (n .loop .held) (n .loop .left) from (n .loop .inv .2) (omega arith) inside (c .before .before .before .before .before .wide162 .ensures .0) (call .ensures))
+    (omega (arith, span-one from l inside), call .kept .0 ∙ n .loop .inv .1, holding-more (a .groups) (children (getD l (a .at) 0)) (a .at + 1) l (a .held .now) (n .loop .held) (n .loop .left) from (n .loop .inv .2) (omega arith) inside (c .before .before .before .before .before .wide162 .ensures .0) (call .ensures))
 
 add-result : tie.Need-add-result Inv-loop μ-loop
 add-result c = search needs
@@ -146,7 +147,7 @@ hold-spec =
     wide16-requires
     is-literal-requires
     returns
-    value-of-requires
+    children-of-requires
     add-from
     loop-holds
     mul-wide16-2

@@ -6,8 +6,9 @@ use native.Mathlib.Omega.{arith}
 use borrow.Author.Needs.{needs}
 use borrow.Author.Tests.{ltb-true, ltb-false}
 use lib.ListN.{length, getD, drop}
-use Rattle.model.specs.Code.{kind, value}
+use Rattle.model.specs.Code.{kind, children}
 use Rattle.theory.specs.Spans.{span}
+use Rattle.commons.specs.Held.{literal-numbers}
 use Rattle.sizes.proofs.Laws.{span-one}
 use Rattle.commons.proofs.Held.{group-small}
 use Rattle.commons.proofs.Passing.{Passing, passing-none, passing-more, passing-all, passing-other}
@@ -16,7 +17,7 @@ use Rattle.commons.proofs.hold_all.Tie as tie
 
 abbrev Inv-loop : tie.InvT-loop
 Inv-loop part sizes held₀ groups₀ at₀ left₀ held groups at left =
-    (groups < at) × (at ≤ length part) × (length held ≡ 8192) × Passing groups part held left at
+    (groups < at) × (at ≤ length part) × (length held ≡ literal-numbers) × Passing groups part held left at
 
 abbrev μ-loop : tie.MeasureT-loop
 μ-loop part sizes held₀ groups₀ at₀ left₀ held groups at left = left
@@ -27,13 +28,13 @@ shared-slice-read-wide16 c = search needs
 wide16-requires : tie.Need-wide16-requires Inv-loop μ-loop
 wide16-requires c κs = search needs
 
-value-of-requires : tie.Need-value-of-requires Inv-loop μ-loop
-value-of-requires c κs = search needs
+children-of-requires : tie.Need-children-of-requires Inv-loop μ-loop
+children-of-requires c κs = search needs
 
 loop-holds : tie.Need-loop-holds Inv-loop μ-loop
 loop-holds c =
     let s = c .before .before .before .before .before .before in
-    let counted = c .value-of .ensures ∙ ap value (c .before .wide16 .ensures .0) in
+    let counted = c .children-of .ensures ∙ ap children (c .before .wide16 .ensures .0) in
     (omega arith, s .pre .0 .0, s .pre .1 .1, rw counted (passing-none (s .args .part .now) (s .args .held .now)))
 
 mul-wide16 : tie.Need-mul-wide16 Inv-loop μ-loop
@@ -122,7 +123,7 @@ hold-all-spec =
     μ-loop
     shared-slice-read-wide16
     wide16-requires
-    value-of-requires
+    children-of-requires
     loop-holds
     mul-wide16
     shared-slice-read-wide16-2

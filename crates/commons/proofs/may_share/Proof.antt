@@ -1,8 +1,9 @@
 -- `commons::may_share` meets its contract.
 use mathlib.Core.Path.{sym, _∙_}
-use Prim.Native.Nat.{_≤_, _<_}
+use Prim.Native.Nat.{_≤_, _<_, _*_}
 use native.Mathlib.Omega.{arith}
 use borrow.Author.Needs.{needs}
+use Rattle.model.specs.Limits.{kind-factor}
 use Rattle.theory.specs.Logic.{true-false}
 use Rattle.theory.specs.Scan.{is-literal}
 use Rattle.commons.proofs.Held.{literal-bounds}
@@ -13,7 +14,7 @@ is-literal-requires : tie.Need-is-literal-requires
 is-literal-requires c κs = search needs
 
 -- A literal's number, so the table has an entry for it.
-bounds : (c : tie.Then1) → let x = c .before .before .before .args .x in (4096 ≤ x) × (x < 12288)
+bounds : (c : tie.Then1) → let x = c .before .before .before .args .x in (kind-factor ≤ x) × (x < 3 * kind-factor)
 bounds c = literal-bounds (c .before .before .before .args .x) (sym (c .before .is-literal .ensures) ∙ c .if1 .taken)
 
 sub-result : tie.Need-sub-result

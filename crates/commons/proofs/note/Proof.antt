@@ -1,10 +1,11 @@
 -- `commons::note` meets its contract.
 use mathlib.Core.Bool.{true}
 use mathlib.Core.Path.{_≡_, sym, _∙_}
-use Prim.Native.Nat.{_≤_, _<_}
+use Prim.Native.Nat.{_≤_, _<_, _*_}
 use native.Mathlib.Omega.{arith}
 use borrow.Author.Needs.{needs}
 use borrow.Author.Tests.{not-true, not-false}
+use Rattle.model.specs.Limits.{kind-factor}
 use Rattle.theory.specs.Scan.{is-literal}
 use Rattle.commons.proofs.Held.{literal-bounds, noted-other, noted-literal}
 use Rattle.commons.proofs.note.Statement.{statement}
@@ -21,7 +22,7 @@ returns c =
 literal : (c : tie.Else1) → is-literal (c .before .before .before .args .x) ≡ true
 literal c = sym (c .before .is-literal .ensures) ∙ not-false (c .before .is-literal .result) (c .if1 .left)
 
-bounds : (c : tie.Else1) → let x = c .before .before .before .args .x in (4096 ≤ x) × (x < 12288)
+bounds : (c : tie.Else1) → let x = c .before .before .before .args .x in (kind-factor ≤ x) × (x < 3 * kind-factor)
 bounds c = literal-bounds (c .before .before .before .args .x) (literal c)
 
 sub-k : tie.Need-sub-k

@@ -2,7 +2,8 @@
 use native.Mathlib.Omega.{arith}
 use borrow.Author.Needs.{needs}
 use Rattle.evaluation.specs.Reading.{place-at}
-use Rattle.evaluation.proofs.Nodes.{literal-kind, value-small}
+use Rattle.theory.specs.Numbers.{value-small}
+use Rattle.evaluation.proofs.Nodes.{literal-kind}
 use Rattle.evaluation.proofs.place_of.Statement.{statement}
 use Rattle.evaluation.proofs.place_of.Tie as tie
 

@@ -6,7 +6,8 @@ use borrow.Author.Needs.{needs}
 use lib.Dec.{leb}
 use lib.ListN.{length, getD, take, drop, length-drop}
 use Rattle.lists.proofs.Lent.{lent-part}
-use Rattle.model.specs.Code.{kind, value}
+use Rattle.model.specs.Code.{kind, children}
+use Rattle.theory.specs.Numbers.{children-small}
 use Rattle.theory.specs.Spans.{child-at}
 use Rattle.factor.specs.Walks.{unit-of}
 use Rattle.factor.proofs.Asking.{stretch-some, child-inside, conjunction-room, conjunction-there, asks-late, asks-other, asks-nothing, asks-shared}
@@ -14,8 +15,7 @@ use Rattle.factor.proofs.asks.Statement.{statement}
 use Rattle.factor.proofs.asks.Tie as tie
 
 add-if1 : tie.Need-add-if1
-unfolding value
-add-if1 c = omega (arith, c .before .pre .1 .1 .0)
+add-if1 c = let s = c .before in omega (arith, s .pre .1 .1 .0, children-small (getD (s .args .part .now) 0 0))
 
 returns : tie.Need-returns
 returns c =
@@ -89,11 +89,11 @@ shared-slice-read-wide16-2 c = let s = c .before .before .before .before .before
 wide16-requires-2 : tie.Need-wide16-requires-2
 wide16-requires-2 c κs = search needs
 
-value-of-requires : tie.Need-value-of-requires
-value-of-requires c κs = search needs
+children-of-requires : tie.Need-children-of-requires
+children-of-requires c κs = search needs
 
-counted : (c : tie.After-value-of) → c .value-of .result ≡ value (getD (c .before .before .before .before .before .before .before .before .before .before .before .before .args .part .now) 0 0)
-counted c = c .value-of .ensures ∙ ap value (c .before .wide162 .ensures .0)
+counted : (c : tie.After-children-of) → c .children-of .result ≡ children (getD (c .before .before .before .before .before .before .before .before .before .before .before .before .args .part .now) 0 0)
+counted c = c .children-of .ensures ∙ ap children (c .before .wide162 .ensures .0)
 
 sub-sharing-groups : tie.Need-sub-sharing-groups
 sub-sharing-groups c = let s = c .before .before .before .before .before .before .before .before .before .before .before .before in stretch-some (s .pre .0) (s .pre .1 .0)
@@ -105,11 +105,10 @@ part-sharing-groups-end : tie.Need-part-sharing-groups-end
 part-sharing-groups-end c = search needs
 
 sharing-groups-requires : tie.Need-sharing-groups-requires
-unfolding value
 sharing-groups-requires c κs =
     let s = c .before .before .before .before .before .before .before .before .before .before .before .before .before in
     let l = s .args .part .now in
-    rw (lent-part 1 l) (omega (arith, length-drop 1 l, s .pre .0 .short), omega (arith, counted (c .before)))
+    rw (lent-part 1 l) (omega (arith, length-drop 1 l, s .pre .0 .short), omega (arith, counted (c .before), children-small (getD l 0 0)))
 
 returns-4 : tie.Need-returns-4
 returns-4 c =
@@ -138,7 +137,7 @@ asks-spec =
     returns-3
     shared-slice-read-wide16-2
     wide16-requires-2
-    value-of-requires
+    children-of-requires
     sub-sharing-groups
     part-sharing-groups-start
     part-sharing-groups-end

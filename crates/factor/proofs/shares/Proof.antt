@@ -5,7 +5,8 @@ use borrow.Author.Needs.{needs}
 use lib.Dec.{ltb}
 use lib.ListN.{length, getD, length-drop}
 use Rattle.lists.proofs.Lent.{lent-part}
-use Rattle.model.specs.Code.{kind, value}
+use Rattle.model.specs.Code.{kind, children}
+use Rattle.theory.specs.Numbers.{children-small}
 use Rattle.theory.specs.Scan.{is-literal}
 use Rattle.factor.proofs.Here.{shares-literal, shares-not, shares-among}
 use Rattle.factor.proofs.shares.Statement.{statement}
@@ -27,8 +28,8 @@ literal c = c .is-literal .ensures ∙ ap is-literal (c .before .wide16 .ensures
 kinded : (c : tie.After-kind-of) → c .kind-of .result ≡ kind (getD (c .before .before .before .before .before .before .args .part .now) 0 0)
 kinded c = c .kind-of .ensures ∙ ap kind (c .before .before .before .wide16 .ensures .0)
 
-counted : (c : tie.After-value-of) → c .value-of .result ≡ value (getD (c .before .before .before .before .before .before .before .before .args .part .now) 0 0)
-counted c = c .value-of .ensures ∙ ap value (c .before .before .before .before .before .wide16 .ensures .0)
+counted : (c : tie.After-children-of) → c .children-of .result ≡ children (getD (c .before .before .before .before .before .before .before .before .args .part .now) 0 0)
+counted c = c .children-of .ensures ∙ ap children (c .before .before .before .before .before .wide16 .ensures .0)
 
 returns : tie.Need-returns
 returns c = sym (shares-literal _ _ (sym (literal (c .before)) ∙ c .if1 .taken))
@@ -39,8 +40,8 @@ kind-of-requires c κs = search needs
 returns-2 : tie.Need-returns-2
 returns-2 c = sym (shares-not _ _ (sym (literal (c .before .before .before)) ∙ c .before .before .if1 .left) (λ e. c .if2 .taken (kinded (c .before) ∙ e)))
 
-value-of-requires : tie.Need-value-of-requires
-value-of-requires c κs = search needs
+children-of-requires : tie.Need-children-of-requires
+children-of-requires c κs = search needs
 
 sub-unit-place : tie.Need-sub-unit-place
 sub-unit-place c = search needs
@@ -64,10 +65,9 @@ part-span-of-end : tie.Need-part-span-of-end
 part-span-of-end c = search needs
 
 span-of-requires : tie.Need-span-of-requires
-unfolding value
 span-of-requires c κs =
     let l = c .before .before .before .before .before .before .before .before .before .before .before .args .part .now in
-    omega (arith, counted (c .before .before .before), ap length (lent-part 1 l), length-drop 1 l)
+    omega (arith, counted (c .before .before .before), children-small (getD l 0 0), ap length (lent-part 1 l), length-drop 1 l)
 
 returns-3 : tie.Need-returns-3
 returns-3 c =
@@ -86,7 +86,7 @@ shares-spec =
     returns
     kind-of-requires
     returns-2
-    value-of-requires
+    children-of-requires
     sub-unit-place
     part-unit-place-start
     part-unit-place-end

@@ -7,7 +7,8 @@ use borrow.Author.Needs.{needs}
 use borrow.Author.Tests.{not-true, not-false}
 use lib.ListN.{length, getD, drop, length-drop}
 use Rattle.lists.proofs.Lent.{lent-part}
-use Rattle.model.specs.Code.{value}
+use Rattle.model.specs.Code.{children}
+use Rattle.theory.specs.Numbers.{children-small}
 use Rattle.theory.specs.Scan.{is-literal}
 use Rattle.theory.specs.Spans.{span, child-at}
 use Rattle.factor.specs.Walks.{unit-place}
@@ -21,12 +22,12 @@ shared-slice-read-wide16 c = search needs
 wide16-requires : tie.Need-wide16-requires
 wide16-requires c κs = search needs
 
-value-of-requires : tie.Need-value-of-requires
-value-of-requires c κs = search needs
+children-of-requires : tie.Need-children-of-requires
+children-of-requires c κs = search needs
 
 -- The number of children.
-counted : (c : tie.After-value-of) → c .value-of .result ≡ value (getD (c .before .before .before .before .args .part .now) 0 0)
-counted c = c .value-of .ensures ∙ ap value (c .before .wide16 .ensures .0)
+counted : (c : tie.After-children-of) → c .children-of .result ≡ children (getD (c .before .before .before .before .args .part .now) 0 0)
+counted c = c .children-of .ensures ∙ ap children (c .before .wide16 .ensures .0)
 
 returns : tie.Need-returns
 returns c = sym (unit-past _ _ (omega (arith, counted (c .before))))
@@ -41,13 +42,12 @@ part-span-of-end : tie.Need-part-span-of-end
 part-span-of-end c = search needs
 
 span-of-requires : tie.Need-span-of-requires
-unfolding value
 span-of-requires c κs =
     let l = c .before .before .before .before .before .before .args .part .now in
-    omega (arith, counted (c .before .before), ap length (lent-part 1 l), length-drop 1 l)
+    omega (arith, counted (c .before .before), children-small (getD l 0 0), ap length (lent-part 1 l), length-drop 1 l)
 
 -- Child j is there; where it stands, what is read there, and where its first copy stands.
-there : (c : tie.After-span-of) → let a = c .before .before .before .before .before .before .before .args in a .j < value (getD (a .part .now) 0 0)
+there : (c : tie.After-span-of) → let a = c .before .before .before .before .before .before .before .args in a .j < children (getD (a .part .now) 0 0)
 there c = omega (arith, counted (c .before .before .before))
 
 before : (c : tie.After-span-of) → let a = c .before .before .before .before .before .before .before .args in c .span-of .result ≡ span (a .j) (drop 1 (a .part .now))
@@ -116,7 +116,7 @@ unit-of-spec =
     (tie.spec
     shared-slice-read-wide16
     wide16-requires
-    value-of-requires
+    children-of-requires
     returns
     sub-span-of
     part-span-of-start

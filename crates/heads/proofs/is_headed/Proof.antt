@@ -1,8 +1,8 @@
--- `heads::is_headed` meets its contract: the two columns of the table, against the kind and the value of the first number.
+-- `heads::is_headed` meets its contract: the two columns of the table, against the kind and the children of the first number.
 use mathlib.Core.Path.{sym, ap, _∙_}
 use borrow.Author.Needs.{needs}
 use borrow.Author.Tests.{eq-eqb, ne-eqb}
-use Rattle.model.specs.Code.{kind, value}
+use Rattle.model.specs.Code.{kind, children}
 use Rattle.heads.specs.Headings.{headed}
 use Rattle.heads.proofs.is_headed.Statement.{statement}
 use Rattle.heads.proofs.is_headed.Tie as tie
@@ -28,8 +28,8 @@ returns c =
 fewest-for-requires : tie.Need-fewest-for-requires
 fewest-for-requires c κs = search needs
 
-value-of-requires : tie.Need-value-of-requires
-value-of-requires c κs = search needs
+children-of-requires : tie.Need-children-of-requires
+children-of-requires c κs = search needs
 
 returns-2 : tie.Need-returns-2
 unfolding headed
@@ -37,7 +37,7 @@ returns-2 c =
     let d = c .before .before .before in
     let w = d .before .before .wide16 .ensures .0 in
     let k = d .before .kind-of .ensures ∙ ap kind w in
-    let v = c .value-of .ensures ∙ ap value w in
+    let v = c .children-of .ensures ∙ ap children w in
     rw (sym k, sym (d .kind-for .ensures), sym v, sym (c .before .fewest-for .ensures), eq-eqb (d .before .kind-of .result) (d .kind-for .result) (c .before .before .if1 .left))
 
 pub is-headed-spec : {M : Type 1} → statement M
@@ -50,5 +50,5 @@ is-headed-spec =
     kind-for-requires
     returns
     fewest-for-requires
-    value-of-requires
+    children-of-requires
     returns-2)

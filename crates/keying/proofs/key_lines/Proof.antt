@@ -5,7 +5,7 @@ use native.Mathlib.Omega.{arith}
 use borrow.Author.Needs.{needs}
 use lib.ListN.{length, drop}
 use lib.Seq.{drop-length}
-use Rattle.model.specs.Desk.{lines, all-keyed}
+use Rattle.calls.specs.Desk.{lines, all-keyed}
 use Rattle.answers.specs.Meaning.{doneOf}
 use Rattle.keying.proofs.Laws.{keyed-stop, keyed-on, keyed-last}
 use Rattle.keying.proofs.key_lines.Statement.{statement}

@@ -9,20 +9,21 @@ use lib.Dec.{eqb}
 use lib.ListN.{length, getD, take, drop, length-drop}
 use Rattle.lists.proofs.Lent.{lent-part}
 use Rattle.model.specs.Base.{is-some}
-use Rattle.model.specs.Code.{kind, value}
+use Rattle.model.specs.Limits.{sheet-room}
+use Rattle.model.specs.Code.{kind, children}
 use Rattle.model.specs.Forest.{Forest, size, after, conjunction-at}
 use Rattle.theory.specs.Logic.{is-some-of}
 use Rattle.theory.specs.Spans.{child-at}
-use Rattle.theory.specs.Children.{Group, headed-group, counted-child, group-value, group-long, child-room, child-conjunction}
+use Rattle.theory.specs.Children.{Group, headed-group, counted-child, group-children, group-long, child-room, child-conjunction}
 use Rattle.lift.proofs.Laws.{asks-nothing, conjunction-group, asks-literal, asks-others-none, asks-others}
 use Rattle.lift.proofs.asks.Statement.{statement}
 use Rattle.lift.proofs.asks.Tie as tie
 
 -- The group that the stretch begins with; that child i is one of its children, where it begins, and what is left from there on.
-group : (c : tie.Start) → let h = c .pre .1 .1 .0 in Group (c .args .part .now) (h .row .conn) (h .children) (h .rest) (h .zeros)
+group : (c : tie.Start) → let h = c .pre .1 .1 .0 in Group (c .args .part .now) (h .conn) (h .children) (h .rest) (h .zeros)
 group c = headed-group (c .pre .1 .0) (c .pre .1 .1 .0)
 
-child : (c : tie.Start) → (c .args .i < size (c .pre .1 .1 .0 .children)) × (c .args .at < length (c .args .part .now)) × (length (c .args .part .now) ≤ 4096)
+child : (c : tie.Start) → (c .args .i < size (c .pre .1 .1 .0 .children)) × (c .args .at < length (c .args .part .now)) × (length (c .args .part .now) ≤ sheet-room)
 child c = counted-child (c .pre .1 .0) (c .pre .1 .1 .0) (c .pre .1 .1 .1)
 
 left : (c : tie.Start) → let l = c .args .part .now in take (length l - c .args .at) (drop (c .args .at) l) ≡ drop (child-at (c .args .i) l) l
@@ -63,12 +64,12 @@ shared-slice-read-wide16-2 c = group-long (group (c .before .before .before .bef
 wide16-requires-2 : tie.Need-wide16-requires-2
 wide16-requires-2 c κs = search needs
 
-value-of-requires : tie.Need-value-of-requires
-value-of-requires c κs = search needs
+children-of-requires : tie.Need-children-of-requires
+children-of-requires c κs = search needs
 
 -- The number of the children.
-counted : (c : tie.After-value-of) → c .value-of .result ≡ size (c .before .before .before .before .before .before .before .before .before .pre .1 .1 .0 .children)
-counted c = c .value-of .ensures ∙ ap value (c .before .wide162 .ensures .0) ∙ group-value (group (c .before .before .before .before .before .before .before .before .before))
+counted : (c : tie.After-children-of) → c .children-of .result ≡ size (c .before .before .before .before .before .before .before .before .before .pre .1 .1 .0 .children)
+counted c = c .children-of .ensures ∙ ap children (c .before .wide162 .ensures .0) ∙ group-children (group (c .before .before .before .before .before .before .before .before .before))
 
 are-others-literals-requires : tie.Need-are-others-literals-requires
 are-others-literals-requires c κs =
@@ -110,7 +111,7 @@ is-literal-child-requires c κs =
     let a = e .before .before .before .before .before in
     let g = conjunction-group (a .pre .1 .0) (a .pre .1 .1 .0) (a .args .i) (a .args .j) (conjunction e .1) in
     rw (left a)
-    ((group-long g, omega (arith, length-drop (child-at (a .args .i) (a .args .part .now)) (a .args .part .now), a .pre .1 .0 .short)), λ n. omega (arith, group-value g, child-room g (a .args .j) (omega (arith, group-value g))))
+    ((group-long g, omega (arith, length-drop (child-at (a .args .i) (a .args .part .now)) (a .args .part .now), a .pre .1 .0 .short)), λ n. omega (arith, group-children g, child-room g (a .args .j) (omega (arith, group-children g))))
 
 returns-4 : tie.Need-returns-4
 returns-4 c =
@@ -130,7 +131,7 @@ asks-spec =
     returns
     shared-slice-read-wide16-2
     wide16-requires-2
-    value-of-requires
+    children-of-requires
     are-others-literals-requires
     returns-2
     returns-3

@@ -4,7 +4,8 @@ use native.Mathlib.Omega.{arith}
 use borrow.Author.Needs.{needs}
 use borrow.Author.Tests.{lt-ltb, le-ltb}
 use lib.ListN.{getD}
-use Rattle.model.specs.Code.{value}
+use Rattle.model.specs.Code.{children}
+use Rattle.theory.specs.Numbers.{children-small}
 use Rattle.theory.specs.Scan.{is-literal}
 use Rattle.lift.specs.Asked.{literalChild}
 use Rattle.lift.proofs.is_literal_child.Statement.{statement}
@@ -16,22 +17,23 @@ shared-slice-read-wide16 c = search needs
 wide16-requires : tie.Need-wide16-requires
 wide16-requires c κs = search needs
 
-value-of-requires : tie.Need-value-of-requires
-value-of-requires c κs = search needs
+children-of-requires : tie.Need-children-of-requires
+children-of-requires c κs = search needs
 
 -- The number of children.
-counted : (c : tie.After-value-of) → c .value-of .result ≡ value (getD (c .before .before .before .before .args .part .now) 0 0)
-counted c = c .value-of .ensures ∙ ap value (c .before .wide16 .ensures .0)
+counted : (c : tie.After-children-of) → c .children-of .result ≡ children (getD (c .before .before .before .before .args .part .now) 0 0)
+counted c = c .children-of .ensures ∙ ap children (c .before .wide16 .ensures .0)
 
 returns : tie.Need-returns
 unfolding literalChild
 returns c =
     let n = c .before in
-    rw (le-ltb (n .before .before .before .before .args .j) (value (getD (n .before .before .before .before .args .part .now) 0 0)) (omega (arith, counted n)))
+    rw (le-ltb (n .before .before .before .before .args .j) (children (getD (n .before .before .before .before .args .part .now) 0 0)) (omega (arith, counted n)))
 
 child-at-requires : tie.Need-child-at-requires
-unfolding value
-child-at-requires c κs = omega (arith, counted (c .before))
+child-at-requires c κs =
+    let l = c .before .before .before .before .before .args .part .now in
+    omega (arith, counted (c .before), children-small (getD l 0 0))
 
 mul-wide16 : tie.Need-mul-wide16
 mul-wide16 c = search needs
@@ -53,7 +55,7 @@ unfolding literalChild
 returns-2 c =
     let d = c .before .before .before in
     let n = d .before .before in
-    rw (lt-ltb (n .before .before .before .before .args .j) (value (getD (n .before .before .before .before .args .part .now) 0 0)) (omega (arith, counted n)), ← d .child-at .ensures .0)
+    rw (lt-ltb (n .before .before .before .before .args .j) (children (getD (n .before .before .before .before .args .part .now) 0 0)) (omega (arith, counted n)), ← d .child-at .ensures .0)
     (c .is-literal .ensures ∙ ap is-literal (c .before .wide162 .ensures .0))
 
 pub is-literal-child-spec : {M : Type 1} → statement M
@@ -62,7 +64,7 @@ is-literal-child-spec =
     (tie.spec
     shared-slice-read-wide16
     wide16-requires
-    value-of-requires
+    children-of-requires
     returns
     child-at-requires
     mul-wide16

@@ -1,15 +1,17 @@
 -- `lift::turn` meets its contract: the conjunction's head goes and its children stay, or one number moves to before it.
 use mathlib.Core.Option.{some}
 use mathlib.Core.Path.{_≡_, ap, _∙_}
-use Prim.Native.Nat.{ℕ, suc, _+_, _-_, _<_}
+use Prim.Native.Nat.{ℕ, suc, _+_, _-_, _*_, _≤_, _<_}
 use native.Mathlib.Omega.{arith}
 use borrow.Author.Needs.{needs}
 use lib.ListN.{length, getD, take, drop, set, length-set, length-drop}
 use lib.Seq.{getD-set-other}
 use Rattle.lists.proofs.Lent.{lent-part}
-use Rattle.model.specs.Code.{value}
+use Rattle.model.specs.Code.{children}
 use Rattle.model.specs.Forest.{and, Forest, _⊕_, size, after, conjunction-at}
+use Rattle.model.specs.Limits.{kind-factor}
 use Rattle.theory.specs.Forests.{conjunction-here}
+use Rattle.theory.specs.Numbers.{children-small}
 use Rattle.theory.specs.Spans.{child-at}
 use Rattle.theory.specs.Children.{first-left, Group, headed-group, group-bounds, group-few, group-long, child-within, child-room}
 use Rattle.lift.proofs.Laws.{conjunction-group, conjunction-there, literal-within, turns-merge, turns-lift}
@@ -17,7 +19,7 @@ use Rattle.lift.proofs.turn.Statement.{statement}
 use Rattle.lift.proofs.turn.Tie as tie
 
 -- The group that the stretch begins with, and the conjunction that is its child i.
-group : (c : tie.Start) → let h = c .pre .1 .1 .0 in Group (c .args .part .now) (h .row .conn) (h .children) (h .rest) (h .zeros)
+group : (c : tie.Start) → let h = c .pre .1 .1 .0 in Group (c .args .part .now) (h .conn) (h .children) (h .rest) (h .zeros)
 group c = headed-group (c .pre .1 .0) (c .pre .1 .1 .0)
 
 conjunction : (c : tie.Start) → (m : Forest) × (conjunction-at (after (c .args .i) (c .pre .1 .1 .0 .children)) ≡ some m)
@@ -70,37 +72,66 @@ child-at-requires c κs =
     let g = group a in
     (group-long g, a .pre .1 .0 .short, omega (arith, there a, group-few g))
 
-slice-read-part : tie.Need-slice-read-part
-slice-read-part c = omega (arith, inside (c .before .before))
+slice-read-wide16 : tie.Need-slice-read-wide16
+slice-read-wide16 c = search needs
 
-mul-part : tie.Need-mul-part
-mul-part c = search needs
+wide16-requires : tie.Need-wide16-requires
+wide16-requires c κs = search needs
 
-slice-read-part-2 : tie.Need-slice-read-part-2
-slice-read-part-2 c = inside (c .before .before .before)
+mul-wide16 : tie.Need-mul-wide16
+mul-wide16 c = search needs
+
+slice-read-wide16-2 : tie.Need-slice-read-wide16-2
+slice-read-wide16-2 c = inside (c .before .before .before .before)
+
+wide16-requires-2 : tie.Need-wide16-requires-2
+wide16-requires-2 c κs = search needs
+
+children-of-requires : tie.Need-children-of-requires
+children-of-requires c κs = search needs
+
+-- The head of the stretch, and the number of children of the conjunction.
+headed : (c : tie.After-children-of) → c .before .before .before .wide16 .result ≡ getD (c .before .before .before .before .before .before .before .before .before .args .part .now) 0 0
+headed c = c .before .before .before .wide16 .ensures .0
+
+counted : (c : tie.After-children-of) → let a = c .before .before .before .before .before .before .before .before .before in let l = a .args .part .now in c .children-of .result ≡ children (getD l (child-at (a .args .i) l) 0)
+counted c =
+    let e = c .before .before .before .before .before .before in
+    let l = e .before .before .before .args .part .now in
+    c .children-of .ensures ∙ ap children (c .before .wide162 .ensures .0 ∙ ap (λ n. getD l n 0) (e .child-at .ensures .0))
+
+small : (c : tie.After-children-of) → (3 * kind-factor ≤ c .before .before .before .wide16 .result) × (c .before .before .before .wide16 .result < 6 * kind-factor) × (c .children-of .result < kind-factor)
+small c =
+    let bounds = group-bounds (group (c .before .before .before .before .before .before .before .before .before)) in
+    let few = children-small (c .before .wide162 .result) in
+    (omega (arith, headed c), omega (arith, headed c), omega (arith, c .children-of .ensures))
 
 add-part : tie.Need-add-part
-add-part c = omega (arith, group-bounds (group (c .before .before .before .before .before .before)))
+add-part c = omega (arith, small c)
 
 sub-part : tie.Need-sub-part
-sub-part c = omega (arith, group-bounds (group (c .before .before .before .before .before .before)))
+sub-part c = omega (arith, small c)
+
+cast-part : tie.Need-cast-part
+cast-part c = omega (arith, small c)
 
 slice-write-part : tie.Need-slice-write-part
-slice-write-part c = omega (arith, inside (c .before .before .before))
+slice-write-part c = search needs
 
 remove-requires : tie.Need-remove-requires
-remove-requires c κs = simp length-set (omega (arith, inside (c .before .before .before .before)))
+remove-requires c κs =
+    simp length-set (omega (arith, inside (c .before .before .before .before .before .before .before)))
 
 same-length : tie.Need-same-length
 same-length c = c .before .before .remove .kept .0 ∙ simp length-set
 
 returns : tie.Need-returns
-unfolding value
 returns c =
     let d = c .before .before in
-    let e = d .before .before .before .before .before in
+    let k = d .before .before in
+    let e = k .before .before .before .before .before .before in
     let a = e .before .before .before in
-    turns-merge (a .pre .1 .0) (a .pre .1 .1 .0) (a .args .i) (a .args .j) (a .pre .1 .1 .1) (omega arith) (same-length c) (rw (e .child-at .ensures .0) at (d .remove .ensures))
+    turns-merge (a .pre .1 .0) (a .pre .1 .1 .0) (a .args .i) (a .args .j) (a .pre .1 .1 .1) (omega arith) (same-length c) (rw (e .child-at .ensures .0, headed k, counted k) at (d .remove .ensures))
 
 mul-child-at : tie.Need-mul-child-at
 mul-child-at c = search needs
@@ -125,8 +156,8 @@ child-at-requires-2 c κs =
 add-from : tie.Need-add-from
 add-from c = omega (arith, ended c)
 
-slice-read-part-3 : tie.Need-slice-read-part-3
-slice-read-part-3 c = omega (arith, inside (c .before .before .before .before .before))
+slice-read-part : tie.Need-slice-read-part
+slice-read-part c = omega (arith, inside (c .before .before .before .before .before))
 
 add-part-2 : tie.Need-add-part-2
 add-part-2 c = omega (arith, group-bounds (group (c .before .before .before .before .before .before .before .before)))
@@ -134,11 +165,11 @@ add-part-2 c = omega (arith, group-bounds (group (c .before .before .before .bef
 slice-write-part-2 : tie.Need-slice-write-part-2
 slice-write-part-2 c = omega (arith, inside (c .before .before .before .before .before))
 
-mul-part-2 : tie.Need-mul-part-2
-mul-part-2 c = search needs
+mul-part : tie.Need-mul-part
+mul-part c = search needs
 
-slice-read-part-4 : tie.Need-slice-read-part-4
-slice-read-part-4 c = simp length-set (inside (c .before .before .before .before .before .before))
+slice-read-part-2 : tie.Need-slice-read-part-2
+slice-read-part-2 c = simp length-set (inside (c .before .before .before .before .before .before))
 
 sub-part-2 : tie.Need-sub-part-2
 sub-part-2 c =
@@ -147,8 +178,8 @@ sub-part-2 c =
     let l = a .args .part .now in
     omega (arith, read d (getD l 0 0 + 1), first-left (child-at (a .args .i) l) l, group-bounds (inner a))
 
-mul-part-3 : tie.Need-mul-part-3
-mul-part-3 c = search needs
+mul-part-2 : tie.Need-mul-part-2
+mul-part-2 c = search needs
 
 slice-write-part-3 : tie.Need-slice-write-part-3
 slice-write-part-3 c = simp length-set (inside (c .before .before .before .before .before .before))
@@ -173,11 +204,15 @@ turn-spec =
     tie.close
     (tie.spec
     child-at-requires
-    slice-read-part
-    mul-part
-    slice-read-part-2
+    slice-read-wide16
+    wide16-requires
+    mul-wide16
+    slice-read-wide16-2
+    wide16-requires-2
+    children-of-requires
     add-part
     sub-part
+    cast-part
     slice-write-part
     remove-requires
     same-length
@@ -188,13 +223,13 @@ turn-spec =
     part-child-at-end
     child-at-requires-2
     add-from
-    slice-read-part-3
+    slice-read-part
     add-part-2
     slice-write-part-2
-    mul-part-2
-    slice-read-part-4
+    mul-part
+    slice-read-part-2
     sub-part-2
-    mul-part-3
+    mul-part-2
     slice-write-part-3
     move-before-requires
     same-length-2

@@ -68,21 +68,21 @@ returns-3 c =
     due k (some (trees k + 1))
     (joined-literal _ _ (trees k) (body (c .before .before)) literal ∙ ap some (sym (add-one (trees k))))
 
-value-of-requires : tie.Need-value-of-requires
-value-of-requires c κs = search needs
+children-of-requires : tie.Need-children-of-requires
+children-of-requires c κs = search needs
 
--- A connective takes as many trees as its value says.
-takes : (c : tie.After-value-of) (o : Option ℕ) → let k = c .before .before .before .before .before in let v = c .value-of .result in only-if (leb v (trees k)) (suc (trees k - v)) ≡ o → Due k o
+-- A connective takes as many trees as it has children.
+takes : (c : tie.After-children-of) (o : Option ℕ) → let k = c .before .before .before .before .before in let v = c .children-of .result in only-if (leb v (trees k)) (suc (trees k - v)) ≡ o → Due k o
 takes c o e =
     let k = c .before .before .before .before .before in
     let inner = sym (c .before .before .is-literal .ensures) ∙ c .before .if2 .left in
-    due k o (joined-inner _ _ (trees k) (body (c .before .before .before)) inner ∙ rw (← c .value-of .ensures) e)
+    due k o (joined-inner _ _ (trees k) (body (c .before .before .before)) inner ∙ rw (← c .children-of .ensures) e)
 
 returns-4 : tie.Need-returns-4
 unfolding only-if
 returns-4 c =
     let t = trees (c .before .before .before .before .before .before) in
-    takes (c .before) none (rw (lt-leb (c .before .value-of .result) t (c .if3 .taken)))
+    takes (c .before) none (rw (lt-leb (c .before .children-of .result) t (c .if3 .taken)))
 
 add-t11 : tie.Need-add-t11
 add-t11 c = omega (arith, few (c .before .before .before .before .before .before))
@@ -91,7 +91,7 @@ returns-5 : tie.Need-returns-5
 unfolding only-if
 returns-5 c =
     let t = trees (c .before .before .before .before .before .before) in
-    let v = c .before .value-of .result in
+    let v = c .before .children-of .result in
     takes (c .before) (some (t - v + 1)) (rw (le-leb v t (c .if3 .left), add-one))
 
 pub join-spec : {M : Type 1} → statement M
@@ -106,7 +106,7 @@ join-spec =
     is-literal-requires
     add-t9
     returns-3
-    value-of-requires
+    children-of-requires
     returns-4
     add-t11
     returns-5)

@@ -6,9 +6,10 @@ use native.Mathlib.Omega.{arith}
 use borrow.Author.Needs.{needs}
 use borrow.Author.Tests.{eqb-true}
 use lib.ListN.{length, getD, length-replicate}
+use Rattle.model.specs.Limits.{sheet-length}
 use Rattle.model.specs.Code.{kind}
 use Rattle.model.specs.Sheet.{used-in}
-use Rattle.theory.specs.Sheets.{Sheet-facts, sheet-facts}
+use Rattle.theory.specs.Sheets.{Formed}
 use Rattle.theory.specs.Spans.{span}
 use Rattle.parts.specs.Parts.{stretch}
 use Rattle.parts.proofs.Finding.{stretch-long, Finding, finding-none, finding-head, finding-part, part-some, part-within, parted}
@@ -22,13 +23,13 @@ abbrev μ-loop : tie.MeasureT-loop
 μ-loop sheet ends₀ homes₀ end i₀ ends homes i = end - i
 
 -- What the sheet holds, and that the place is one of its numbers.
-sheet : (c : tie.At-loop Inv-loop μ-loop) → Sheet-facts (c .before .before .before .before .before .before .args .sheet .now)
-sheet c = sheet-facts _ (c .before .before .before .before .before .before .pre .0)
+sheet : (c : tie.At-loop Inv-loop μ-loop) → Formed (c .before .before .before .before .before .before .args .sheet .now)
+sheet c = (c .before .before .before .before .before .before .pre .0)
 
 within : (c : tie.In-loop Inv-loop μ-loop) → c .before .loop .i < 2 + used-in (c .before .before .before .before .before .before .before .args .sheet .now)
 within c = rw (← c .before .loop .inv .0) (c .loop-test .taken)
 
-near : (c : tie.In-loop Inv-loop μ-loop) → c .before .loop .i < 4098
+near : (c : tie.In-loop Inv-loop μ-loop) → c .before .loop .i < sheet-length
 near c = let k = sheet (c .before) in omega (arith, within c, k .used)
 
 -- The node is a conjunction or the root.
@@ -47,11 +48,11 @@ spanned c = c .span-of .ensures .0 ∙ ap (λ e. span 1 (stretch (c .before .bef
 ends-within : (c : tie.After-span-of Inv-loop μ-loop) → c .before .before .before .before .before .before .before .before .loop .i + c .span-of .result ≤ 2 + used-in (c .before .before .before .before .before .before .before .before .before .before .before .before .before .before .args .sheet .now)
 ends-within c = part-within (c .before .before .before .before .before .before .before .before .before .before .before .before .before .before .pre .0) (c .before .before .before .before .before .before .before .before .loop .inv .1) (within (c .before .before .before .before .before .before .before)) (spanned c)
 
-near-end : (c : tie.After-span-of Inv-loop μ-loop) → c .before .before .before .before .before .before .before .before .loop .i + c .span-of .result ≤ 4098
+near-end : (c : tie.After-span-of Inv-loop μ-loop) → c .before .before .before .before .before .before .before .before .loop .i + c .span-of .result ≤ sheet-length
 near-end c = let k = sheet (c .before .before .before .before .before .before .before .before) in omega (arith, ends-within c, k .used)
 
 shared-slice-read-wide16 : tie.Need-shared-slice-read-wide16 Inv-loop μ-loop
-shared-slice-read-wide16 c = let k = sheet-facts _ (c .before .before .before .before .pre .0) in omega arith
+shared-slice-read-wide16 c = let k = (c .before .before .before .before .pre .0) in omega arith
 
 wide16-requires : tie.Need-wide16-requires Inv-loop μ-loop
 wide16-requires c κs = search needs
@@ -133,10 +134,10 @@ loop-again-2 c =
     (n .loop .inv .0, finding-part (c .before .before .before .before .before .before .before .before .before .before .before .before .before .before .before .before .before .before .pre .0) (n .loop .inv .1) (within (c .before .before .before .before .before .before .before .before .before .before .before)) (spanned (c .before .before .before .before)) (c .before .before .claim .ensures) (near (c .before .before .before .before .before .before .before .before .before .before .before)))
 
 same-length : tie.Need-same-length Inv-loop μ-loop
-same-length c = c .before .loop .inv .1 .wide ∙ sym (ap length (c .before .before .before .before .before .before .before .pre .1) ∙ length-replicate {A = ℕ} 4098 0)
+same-length c = c .before .loop .inv .1 .wide ∙ sym (ap length (c .before .before .before .before .before .before .before .pre .1) ∙ length-replicate {A = ℕ} sheet-length 0)
 
 same-length-2 : tie.Need-same-length-2 Inv-loop μ-loop
-same-length-2 c = c .before .loop .inv .1 .broad ∙ sym (ap length (c .before .before .before .before .before .before .before .pre .2) ∙ length-replicate {A = ℕ} 4098 0)
+same-length-2 c = c .before .loop .inv .1 .broad ∙ sym (ap length (c .before .before .before .before .before .before .before .pre .2) ∙ length-replicate {A = ℕ} sheet-length 0)
 
 returns : tie.Need-returns Inv-loop μ-loop
 returns c = parted (c .before .loop .inv .1) (rw (c .before .loop .inv .0) at (c .loop-test .left))

@@ -6,9 +6,10 @@ use Prim.Native.Nat.{ℕ, _+_, _-_, _<_}
 use native.Mathlib.Omega.{arith}
 use borrow.Author.Needs.{needs}
 use lib.ListN.{length, getD, length-replicate}
+use Rattle.model.specs.Limits.{sheet-length, most-literals}
 use Rattle.model.specs.Sheet.{used-in}
 use Rattle.theory.specs.Scan.{is-literal}
-use Rattle.theory.specs.Sheets.{Sheet-facts, sheet-facts}
+use Rattle.theory.specs.Sheets.{Formed}
 use Rattle.evaluation.specs.Reading.{place-at}
 use Rattle.parts.proofs.Tables.{literal-place, Linking, linking-none, linking-other, linking-more, linked}
 use Rattle.parts.proofs.link.Statement.{statement}
@@ -21,13 +22,13 @@ abbrev μ-loop : tie.MeasureT-loop
 μ-loop sheet last₀ earlier₀ end i₀ last earlier i = end - i
 
 -- What the sheet holds, and that the place is one of its numbers.
-sheet : (c : tie.At-loop Inv-loop μ-loop) → Sheet-facts (c .before .before .before .before .before .before .args .sheet .now)
-sheet c = sheet-facts _ (c .before .before .before .before .before .before .pre .0)
+sheet : (c : tie.At-loop Inv-loop μ-loop) → Formed (c .before .before .before .before .before .before .args .sheet .now)
+sheet c = (c .before .before .before .before .before .before .pre .0)
 
 within : (c : tie.In-loop Inv-loop μ-loop) → c .before .loop .i < 2 + used-in (c .before .before .before .before .before .before .before .args .sheet .now)
 within c = rw (← c .before .loop .inv .0) (c .loop-test .taken)
 
-near : (c : tie.In-loop Inv-loop μ-loop) → c .before .loop .i < 4098
+near : (c : tie.In-loop Inv-loop μ-loop) → c .before .loop .i < sheet-length
 near c = let k = sheet (c .before) in omega (arith, within c, k .used)
 
 -- Which literal it is, where it is one.
@@ -37,13 +38,13 @@ literal c = ap is-literal (sym (c .before .before .wide162 .ensures .0)) ∙ sym
 placed : (c : tie.After-place-of Inv-loop μ-loop) → c .place-of .result ≡ place-at (getD (c .before .before .before .before .before .before .before .before .before .before .before .before .args .sheet .now) (c .before .before .before .before .before .before .loop .i) 0)
 placed c = c .place-of .ensures ∙ ap place-at (c .before .before .before .wide162 .ensures .0)
 
-small : (c : tie.After-place-of Inv-loop μ-loop) → c .place-of .result < 1024
+small : (c : tie.After-place-of Inv-loop μ-loop) → c .place-of .result < most-literals
 small c =
     let n = c .before .before .before .before .before in
     rw (placed c) (literal-place _ (c .before .before .before .before .before .before .before .before .before .before .before .before .pre .0) (n .before .loop .i) (n .before .loop .inv .1 .from) (within n) (literal (c .before)))
 
 shared-slice-read-wide16 : tie.Need-shared-slice-read-wide16 Inv-loop μ-loop
-shared-slice-read-wide16 c = let k = sheet-facts _ (c .before .before .before .before .pre .0) in omega arith
+shared-slice-read-wide16 c = let k = (c .before .before .before .before .pre .0) in omega arith
 
 wide16-requires : tie.Need-wide16-requires Inv-loop μ-loop
 wide16-requires c κs = search needs
@@ -112,7 +113,7 @@ loop-again c =
     )
 
 same-length : tie.Need-same-length Inv-loop μ-loop
-same-length c = c .before .loop .inv .1 .wide ∙ sym (ap length (c .before .before .before .before .before .before .before .pre .1) ∙ length-replicate {A = ℕ} 1024 0)
+same-length c = c .before .loop .inv .1 .wide ∙ sym (ap length (c .before .before .before .before .before .before .before .pre .1) ∙ length-replicate {A = ℕ} most-literals 0)
 
 same-length-2 : tie.Need-same-length-2 Inv-loop μ-loop
 same-length-2 c = c .before .loop .inv .1 .broad ∙ sym (c .before .before .before .before .before .before .before .pre .2)

@@ -4,8 +4,8 @@ use native.Mathlib.Omega.{arith}
 use borrow.Author.Needs.{needs}
 use lib.ListN.{replicate}
 use lib.Seq.{length-take-le}
-use Rattle.model.specs.Desk.{decimal, line}
-use Rattle.printing.specs.Placed.{placed}
+use Rattle.calls.specs.Desk.{decimal, line}
+use Rattle.printing.specs.Placed.{filled}
 use Rattle.printing.proofs.Laws.{placed-count, placed-within, placed-start}
 use Rattle.printing.proofs.Decimals.{twenty-digits}
 use Rattle.printing.proofs.put_counted.Statement.{statement}
@@ -44,7 +44,7 @@ returns c =
     let word = start .args .word .now in
     let old = start .args .out .now in
     c .before .before .put-line .ensures
-    ∙ ap (λ digits. placed (line word digits) old) (placed-start (decimal (start .args .n)) (replicate 20 0) (call .ensures))
+    ∙ ap (λ digits. filled (line word digits) old) (placed-start (decimal (start .args .n)) (replicate 20 0) (call .ensures))
 
 pub put-counted-spec : {M : Type 1} → statement M
 put-counted-spec =

@@ -1,7 +1,7 @@
 -- `printing::put_first` meets its contract: each word in its case, and the count.
 use borrow.Author.Needs.{needs}
 use Rattle.model.specs.Base.{pick}
-use Rattle.model.specs.Desk.{first-line, contradiction-word, settled-word, stopped-word}
+use Rattle.calls.specs.Desk.{first-line, contradiction-word, settled-word, stopped-word}
 use Rattle.printing.proofs.put_first.Statement.{statement}
 use Rattle.printing.proofs.put_first.Tie as tie
 

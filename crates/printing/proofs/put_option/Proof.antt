@@ -6,7 +6,7 @@ use borrow.Author.Tests.{eq-eqb, ne-eqb}
 use lib.ListN.{length, take}
 use lib.Seq.{length-take-le}
 use Rattle.model.specs.Base.{pick}
-use Rattle.model.specs.Desk.{mark-word}
+use Rattle.calls.specs.Desk.{mark-word}
 use Rattle.printing.proofs.put_option.Statement.{statement}
 use Rattle.printing.proofs.put_option.Tie as tie
 

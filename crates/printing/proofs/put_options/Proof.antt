@@ -8,8 +8,9 @@ use borrow.Rule.Slice.PartMut.{midOf}
 use lib.ListN.{length, take, drop, getD, length-drop}
 use lib.Seq.{take-length}
 use Rattle.model.specs.Book.{characters, pieces}
-use Rattle.model.specs.Desk.{line, mark-word, option-lines}
-use Rattle.printing.specs.Placed.{after, placed}
+use Rattle.calls.specs.Desk.{line, mark-word, option-lines}
+use Rattle.model.specs.Base.{placed}
+use Rattle.printing.specs.Placed.{after, filled}
 use Rattle.printing.proofs.Laws.{placed-count}
 use Rattle.printing.proofs.Options.{options-more, option-short}
 use Rattle.printing.proofs.put_options.Statement.{statement}
@@ -20,13 +21,13 @@ Inv-loop codes marks out₀ at₀ i₀ out at i =
     (i ≤ length marks)
     × (at ≤ 19 * i)
     × (length out ≡ length out₀)
-    × (after at out ≡ placed (option-lines (pieces 13 i codes) (take i marks)) out₀)
+    × (after at out ≡ filled (option-lines (pieces 13 i codes) (take i marks)) out₀)
 
 abbrev μ-loop : tie.MeasureT-loop
 μ-loop codes marks out₀ at₀ i₀ out at i = length marks - i
 
 loop-holds : tie.Need-loop-holds Inv-loop μ-loop
-unfolding pieces option-lines placed
+unfolding pieces option-lines filled placed
 loop-holds c = (omega arith, omega arith, refl, refl)
 
 mul-code : tie.Need-mul-code Inv-loop μ-loop

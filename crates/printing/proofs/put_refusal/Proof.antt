@@ -1,6 +1,6 @@
 -- `printing::put_refusal` meets its contract: the word, and the number of the refusal.
 use borrow.Author.Needs.{needs}
-use Rattle.model.specs.Desk.{refused-word}
+use Rattle.calls.specs.Desk.{refused-word}
 use Rattle.printing.proofs.put_refusal.Statement.{statement}
 use Rattle.printing.proofs.put_refusal.Tie as tie
 

@@ -5,6 +5,7 @@ use native.Mathlib.Omega.{arith}
 use borrow.Author.Needs.{needs}
 use borrow.Author.Tests.{eq-eqb, ne-eqb}
 use lib.ListN.{getD}
+use Rattle.model.specs.Limits.{most-literals}
 use Rattle.model.specs.Base.{pick}
 use Rattle.propagation.specs.Trails.{fresh}
 use Rattle.breaking.proofs.Tables.{opposite-below}
@@ -12,11 +13,11 @@ use Rattle.propagation.proofs.Learning.{unset-fewer}
 use Rattle.propagation.proofs.learn.Statement.{statement}
 use Rattle.propagation.proofs.learn.Tie as tie
 
-inside : (c : tie.After-opposite-of) → c .opposite-of .result < 1024
+inside : (c : tie.After-opposite-of) → c .opposite-of .result < most-literals
 inside c = rw (c .opposite-of .ensures) (opposite-below (c .before .before .before .args .k) (c .before .before .before .pre .0))
 
 -- The trail has room.
-room : (c : tie.Else1) → c .before .before .before .before .before .args .known < 1024
+room : (c : tie.Else1) → c .before .before .before .before .before .args .known < most-literals
 room c =
     let a = c .before .before .before .before .before in
     let o = c .before .before .opposite-of in

@@ -1,17 +1,18 @@
 -- `propagation::look_again` meets its contract: the part is looked at, or not of the range, or was looked at since.
-use mathlib.Core.Logic.{inl, inr, ⊎-elim}
+use mathlib.Core.Logic.{⊎-elim}
 use Prim.Native.Nat.{_+_, _≤_}
 use native.Mathlib.Omega.{arith}
 use borrow.Author.Needs.{needs}
 use borrow.Author.Tests.{leb-true}
 use lib.ListN.{getD}
+use Rattle.model.specs.Limits.{most-literals}
 use Rattle.parts.specs.Parts.{Part}
-use Rattle.propagation.proofs.Watching.{watched-none, watched-looked, since-looked}
+use Rattle.propagation.proofs.Watching.{watched-none, looked-unless, since-looked}
 use Rattle.propagation.proofs.look_again.Statement.{statement}
 use Rattle.propagation.proofs.look_again.Tie as tie
 
--- What is known is on the trail, which has 1,024 places.
-short : (c : tie.After-wide16) → c .before .before .before .before .before .before .before .before .before .args .known ≤ 1024
+-- What is known is on the trail, which has a place for each literal.
+short : (c : tie.After-wide16) → c .before .before .before .before .before .before .before .before .before .args .known ≤ most-literals
 short c = omega (arith, c .before .before .before .before .before .before .before .before .before .pre .0 .2 .facts .room)
 
 -- The part.
@@ -40,7 +41,7 @@ returns : tie.Need-returns
 returns c =
     let a = c .before .before .before .before .before .before .before .before .before .before in
     let e = c .before .wide16 .ensures .0 in
-    (inl (watched-none (a .pre .0 .2)), λ d sized. absurd (⊎-elim (λ v. omega (arith, v .taken, sized .0)) (λ v. omega (arith, leb-true (a .args .from + a .args .limit) (c .before .wide16 .result) (v .1 .taken), sized .1)) (c .if1 .came)))
+    (watched-none (a .pre .0 .2), λ d sized. absurd (⊎-elim (λ v. omega (arith, v .taken, sized .0)) (λ v. omega (arith, leb-true (a .args .from + a .args .limit) (c .before .wide16 .result) (v .1 .taken), sized .1)) (c .if1 .came)))
 
 mul-wide16-2 : tie.Need-mul-wide16-2
 mul-wide16-2 c = search needs
@@ -54,7 +55,7 @@ wide16-requires-2 c κs = search needs
 returns-2 : tie.Need-returns-2
 returns-2 c =
     let a = c .before .before .before .before .before .before .before .before .before .before .before .before .before .before in
-    (inl (watched-none (a .pre .0 .2)), λ d sized. omega (arith, c .if3 .taken, c .before .wide162 .ensures .0))
+    (watched-none (a .pre .0 .2), λ d sized. omega (arith, c .if3 .taken, c .before .wide162 .ensures .0))
 
 cast-seen : tie.Need-cast-seen
 cast-seen c = omega (arith, short (c .before .before .before .before .before))
@@ -89,7 +90,8 @@ returns-3 : tie.Need-returns-3
 returns-3 c =
     let p = c .before .before .before .before .before .before .before .before .before .before .before .before .before .before .before .before .before .before .before .before .before .before .before .before .before .before .before .pre in
     let e = c .before .before .before .before .before .before .before .before .before .before .before .before .before .before .before .before .before .before .wide16 .ensures .0 in
-    (⊎-elim (λ v. inl (watched-looked (p .0 .0) (p .0 .1) (p .0 .2) (p .1 .0) (rw e at v))) (λ v. inr v) (c .before .before .before .before .before .before .before .before .look .ensures), since-looked (p .0 .0) (p .0 .1) (p .0 .2) (p .1 .0) (p .1 .4) _ _)
+    let call = c .before .before .before .before .before .before .before .before .look in
+    (looked-unless (p .0 .0) (p .0 .1) (p .0 .2) (p .1 .0) (call .last .1 .1 .1 .0) (call .last .1 .1 .1 .1 .0) (call .result) (rw e at (call .ensures)), since-looked (p .0 .0) (p .0 .1) (p .0 .2) (p .1 .0) (p .1 .4) _ _)
 
 pub look-again-spec : {M : Type 1} → statement M
 look-again-spec =

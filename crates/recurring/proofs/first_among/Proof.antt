@@ -4,7 +4,7 @@ use Prim.Native.Nat.{_-_, _≤_, _<_}
 use native.Mathlib.Omega.{arith}
 use borrow.Author.Needs.{needs}
 use lib.ListN.{length, getD, drop}
-use Rattle.model.specs.Code.{value}
+use Rattle.model.specs.Code.{children}
 use Rattle.theory.specs.Spans.{span}
 use Rattle.recurring.proofs.Hops.{Passed, passed-first, place-within, found-again, hop-within, passed-more, none-again}
 use Rattle.recurring.proofs.first_among.Statement.{statement}
@@ -16,11 +16,11 @@ Inv-loop part sizes end tally k i₀ at₀ i at = Passed end i at part
 abbrev μ-loop : tie.MeasureT-loop
 μ-loop part sizes end tally k i₀ at₀ i at = k - i
 
-counted : (c : tie.After-value-of Inv-loop μ-loop) → let a = c .before .before .before .before .before .before .args in c .value-of .result ≡ value (getD (a .part .now) 0 0)
-counted c = c .value-of .ensures ∙ ap value (c .before .wide16 .ensures .0)
+counted : (c : tie.After-children-of Inv-loop μ-loop) → let a = c .before .before .before .before .before .before .args in c .children-of .result ≡ children (getD (a .part .now) 0 0)
+counted c = c .children-of .ensures ∙ ap children (c .before .wide16 .ensures .0)
 
 -- Child i is there, and begins before the end.
-more : (c : tie.In-loop Inv-loop μ-loop) → let n = c .before in let a = n .before .before .before .before .before .before .before .args in n .loop .i < value (getD (a .part .now) 0 0)
+more : (c : tie.In-loop Inv-loop μ-loop) → let n = c .before in let a = n .before .before .before .before .before .before .before .args in n .loop .i < children (getD (a .part .now) 0 0)
 more c = omega (arith, counted (c .before .before))
 
 inside : (c : tie.In-loop Inv-loop μ-loop) → let n = c .before in let a = n .before .before .before .before .before .before .before .args in (1 ≤ n .loop .at) × (n .loop .at < a .end) × (a .end ≤ length (a .part .now))
@@ -42,8 +42,8 @@ shared-slice-read-wide16 c = let e = c .before .before .before .before .pre .0 i
 wide16-requires : tie.Need-wide16-requires Inv-loop μ-loop
 wide16-requires c κs = search needs
 
-value-of-requires : tie.Need-value-of-requires Inv-loop μ-loop
-value-of-requires c κs = search needs
+children-of-requires : tie.Need-children-of-requires Inv-loop μ-loop
+children-of-requires c κs = search needs
 
 loop-holds : tie.Need-loop-holds Inv-loop μ-loop
 loop-holds c = let a = c .before .before .before .before .before .before .args in passed-first (a .end) (a .part .now)
@@ -105,7 +105,7 @@ first-among-spec =
     μ-loop
     shared-slice-read-wide16
     wide16-requires
-    value-of-requires
+    children-of-requires
     loop-holds
     recurs-requires
     returns

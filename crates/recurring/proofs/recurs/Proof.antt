@@ -6,10 +6,11 @@ use borrow.Author.Needs.{needs}
 use lib.Dec.{eqb}
 use lib.ListN.{getD}
 use Rattle.model.specs.Code.{value}
+use Rattle.theory.specs.Numbers.{value-small}
 use Rattle.theory.specs.Scan.{is-literal}
 use Rattle.spread.specs.Assigning.{spreads-from}
 use Rattle.recurring.specs.Recurring.{Tallied}
-use Rattle.recurring.proofs.Tallies.{value-small, twice-spreads}
+use Rattle.recurring.proofs.Tallies.{twice-spreads}
 use Rattle.recurring.proofs.recurs.Statement.{statement}
 use Rattle.recurring.proofs.recurs.Tie as tie
 

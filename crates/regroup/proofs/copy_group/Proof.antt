@@ -7,7 +7,8 @@ use borrow.Author.Needs.{needs}
 use borrow.Author.Tests.{ltb-true}
 use lib.ListN.{length, getD, take, drop, length-set, length-append}
 use Rattle.lists.proofs.Lent.{lent-part}
-use Rattle.model.specs.Code.{kind, value}
+use Rattle.model.specs.Code.{kind, children}
+use Rattle.theory.specs.Numbers.{children-small}
 use Rattle.theory.specs.Spans.{span, child-at}
 use Rattle.factor.specs.Walks.{unit-place, among}
 use Rattle.regroup.specs.Kept.{less-unit}
@@ -22,12 +23,12 @@ shared-slice-read-wide16 c = search needs
 wide16-requires : tie.Need-wide16-requires
 wide16-requires c κs = search needs
 
-value-of-requires : tie.Need-value-of-requires
-value-of-requires c κs = search needs
+children-of-requires : tie.Need-children-of-requires
+children-of-requires c κs = search needs
 
 -- The number of children.
-counted : (c : tie.After-value-of) → c .value-of .result ≡ value (getD (c .before .before .before .before .before .args .part .now) 0 0)
-counted c = c .value-of .ensures ∙ ap value (c .before .wide16 .ensures .0)
+counted : (c : tie.After-children-of) → c .children-of .result ≡ children (getD (c .before .before .before .before .before .args .part .now) 0 0)
+counted c = c .children-of .ensures ∙ ap children (c .before .wide16 .ensures .0)
 
 sub-unit-place : tie.Need-sub-unit-place
 sub-unit-place c = search needs
@@ -45,8 +46,7 @@ add-p : tie.Need-add-p
 add-p c = search needs
 
 child-at-requires : tie.Need-child-at-requires
-unfolding value
-child-at-requires c κs = let a = c .before .before .before .before .before .before .before in (a .pre .0 .0, a .pre .0 .1, omega (arith, counted (c .before .before)))
+child-at-requires c κs = let a = c .before .before .before .before .before .before .before in (a .pre .0 .0, a .pre .0 .1, omega (arith, counted (c .before .before), children-small (getD (a .args .part .now) 0 0)))
 
 -- The numbers before the literal, and after it.
 abbrev before-it : tie.After-child-at → List ℕ
@@ -57,7 +57,7 @@ after-it c =
     let p = 1 + c .before .unit-place .result + 1 in
     take (c .child-at .result - p) (drop p (c .before .before .before .before .before .before .before .before .args .part .now))
 
-found : (c : tie.After-unit-place) → let a = c .before .before .before .before .before .before .before .args in c .unit-place .result ≡ unit-place (a .literal) (c .before .before .value-of .result) (drop 1 (a .part .now))
+found : (c : tie.After-unit-place) → let a = c .before .before .before .before .before .before .before .args in c .unit-place .result ≡ unit-place (a .literal) (c .before .before .children-of .result) (drop 1 (a .part .now))
 found c = rw (lent-part 1 (c .before .before .before .before .before .before .before .args .part .now)) at (c .unit-place .ensures .0)
 
 parts : (c : tie.After-child-at) → let a = c .before .before .before .before .before .before .before .before .args in less-unit (a .literal) (a .part .now) ≡ (getD (a .part .now) 0 0 - 1) ∷ (before-it c ++ after-it c)
@@ -75,7 +75,7 @@ unfolding among
 inside c =
     let s = c .before .before .before .before .before .before .before .before in
     let l = s .args .part .now in
-    let m = value (getD l 0 0) in
+    let m = children (getD l 0 0) in
     let u : c .before .unit-place .result ≡ unit-place (s .args .literal) m (drop 1 l) = rw (counted (c .before .before .before)) at (found (c .before)) in
     let e : c .child-at .result ≡ child-at m l = rw (counted (c .before .before .before)) at (c .child-at .ensures .0) in
     omega (arith, ltb-true (unit-place (s .args .literal) m (drop 1 l)) (span m (drop 1 l)) (s .pre .1 .1 .0))
@@ -144,7 +144,7 @@ copy-group-spec =
     (tie.spec
     shared-slice-read-wide16
     wide16-requires
-    value-of-requires
+    children-of-requires
     sub-unit-place
     part-unit-place-start
     part-unit-place-end

@@ -5,6 +5,7 @@ use native.Mathlib.Omega.{arith}
 use borrow.Author.Needs.{needs}
 use lib.ListN.{length, take, length-replicate}
 use lib.Seq.{length-take-le}
+use Rattle.model.specs.Limits.{sheet-room}
 use Rattle.factor.proofs.Asking.{Applied}
 use Rattle.regroup.specs.Kept.{step-after}
 use Rattle.regroup.proofs.Turning.{rule-found, step-room, turned}
@@ -17,19 +18,19 @@ slice-aggregate-write-step c = search needs
 write-step-requires : tie.Need-write-step-requires
 write-step-requires c κs =
     let s = c .before .before .before in
-    (s .pre .0, (s .pre .1 .0, (s .pre .1 .1, omega (arith, s .pre .0 .short, length-replicate {A = ℕ} 4096 0))))
+    (s .pre .0, (s .pre .1 .0, (s .pre .1 .1, omega (arith, s .pre .0 .short, length-replicate {A = ℕ} sheet-room 0))))
 
 -- What the rule asks holds; there is room for what it makes of the stretch.
 applies : (c : tie.Start) → Applied (c .args .i) (c .args .j) (c .pre .1 .0 .children)
 applies c = rule-found (c .pre .0) (c .pre .1 .0) (c .args .i) (c .args .j) (c .pre .1 .1)
 
-room : (c : tie.After-write-step) → let l = c .before .before .before .before .args .part .now in (c .write-step .result ≤ length l) × (length l ≤ 4096)
+room : (c : tie.After-write-step) → let l = c .before .before .before .before .args .part .now in (c .write-step .result ≤ length l) × (length l ≤ sheet-room)
 room c =
     let s = c .before .before .before .before in
     (omega (arith, c .write-step .ensures .end, step-room (s .pre .0) (s .pre .1 .0) (applies s)), s .pre .0 .short)
 
-wide : (c : tie.After-write-step) → length (c .write-step .last .0) ≡ 4096
-wide c = c .write-step .kept .0 ∙ length-replicate {A = ℕ} 4096 0
+wide : (c : tie.After-write-step) → length (c .write-step .last .0) ≡ sheet-room
+wide c = c .write-step .kept .0 ∙ length-replicate {A = ℕ} sheet-room 0
 
 taken : (c : tie.After-write-step) → length (take (c .write-step .result) (c .write-step .last .0)) ≡ c .write-step .result
 taken c = length-take-le (c .write-step .result) (c .write-step .last .0) (omega (arith, room c, wide c))

@@ -4,7 +4,8 @@ use Prim.Native.Nat.{_-_}
 use native.Mathlib.Omega.{arith}
 use borrow.Author.Needs.{needs}
 use lib.ListN.{length, getD, take, drop, length-append}
-use Rattle.model.specs.Code.{value}
+use Rattle.model.specs.Code.{children}
+use Rattle.theory.specs.Numbers.{children-small}
 use Rattle.theory.specs.Spans.{child-at}
 use Rattle.theory.specs.Stretches.{live}
 use Rattle.factor.proofs.Asking.{stretch-some}
@@ -23,20 +24,19 @@ shared-slice-read-wide16 c = let s = c .before .before .before .before .before .
 wide16-requires : tie.Need-wide16-requires
 wide16-requires c κs = search needs
 
-value-of-requires : tie.Need-value-of-requires
-value-of-requires c κs = search needs
+children-of-requires : tie.Need-children-of-requires
+children-of-requires c κs = search needs
 
 -- The number of children, and where the last one ends.
-counted : (c : tie.After-value-of) → c .value-of .result ≡ value (getD (c .before .before .before .before .before .before .before .before .before .args .part .now) 0 0)
-counted c = c .value-of .ensures ∙ ap value (c .before .wide16 .ensures .0)
+counted : (c : tie.After-children-of) → c .children-of .result ≡ children (getD (c .before .before .before .before .before .before .before .before .before .args .part .now) 0 0)
+counted c = c .children-of .ensures ∙ ap children (c .before .wide16 .ensures .0)
 
 child-at-requires : tie.Need-child-at-requires
-unfolding value
 child-at-requires c κs =
     let s = c .before .before .before .before .before .before .before .before .before in
-    (stretch-some (s .pre .0) (s .pre .1 .0), s .pre .0 .short, omega (arith, counted c))
+    (stretch-some (s .pre .0) (s .pre .1 .0), s .pre .0 .short, omega (arith, counted c, children-small (getD (s .args .part .now) 0 0)))
 
-ended : (c : tie.After-child-at) → let l = c .before .before .before .before .before .before .before .before .before .before .args .part .now in c .child-at .result ≡ child-at (value (getD l 0 0)) l
+ended : (c : tie.After-child-at) → let l = c .before .before .before .before .before .before .before .before .before .before .args .part .now in c .child-at .result ≡ child-at (children (getD l 0 0)) l
 ended c = rw (counted (c .before)) at (c .child-at .ensures .0)
 
 live-count-requires : tie.Need-live-count-requires
@@ -60,7 +60,7 @@ copy-requires c κs =
     let s = c .before .before .before .before .before .before .before .before .before .before .before .before .before in
     let a = s .args in
     let l = a .part .now in
-    let e = child-at (value (getD l 0 0)) l in
+    let e = child-at (children (getD l 0 0)) l in
     let w = c .before .before .before .before .before .before .before .before .before .write-tree in
     let room = step-room (s .pre .0) (s .pre .1 .0) (rule-found (s .pre .0) (s .pre .1 .0) (a .i) (a .j) (s .pre .1 .1 .0)) in
     rw (ended (c .before .before .before), c .before .before .live-count .ensures)
@@ -80,7 +80,7 @@ write-step-spec =
     write-tree-requires
     shared-slice-read-wide16
     wide16-requires
-    value-of-requires
+    children-of-requires
     child-at-requires
     live-count-requires
     mul-copy

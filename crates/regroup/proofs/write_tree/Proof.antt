@@ -5,7 +5,8 @@ use native.Mathlib.Omega.{arith}
 use borrow.Author.Needs.{needs}
 use lib.ListN.{length, getD, take, drop, length-drop}
 use Rattle.lists.proofs.Lent.{lent-part}
-use Rattle.model.specs.Code.{value}
+use Rattle.model.specs.Code.{children}
+use Rattle.theory.specs.Numbers.{children-small}
 use Rattle.theory.specs.Spans.{child-at}
 use Rattle.factor.specs.Walks.{unit-of, sharing}
 use Rattle.factor.proofs.Asking.{Applied, stretch-some, conjunction-index, conjunction-room}
@@ -27,12 +28,12 @@ shared-slice-read-wide16 c = some-there (c .before .before .before)
 wide16-requires : tie.Need-wide16-requires
 wide16-requires c κs = search needs
 
-value-of-requires : tie.Need-value-of-requires
-value-of-requires c κs = search needs
+children-of-requires : tie.Need-children-of-requires
+children-of-requires c κs = search needs
 
 -- The number of children, what is left from child i on, the literal, and the number of groups.
-counted : (c : tie.After-value-of) → c .value-of .result ≡ value (getD (c .before .before .before .before .before .args .part .now) 0 0)
-counted c = c .value-of .ensures ∙ ap value (c .before .wide16 .ensures .0)
+counted : (c : tie.After-children-of) → c .children-of .result ≡ children (getD (c .before .before .before .before .before .args .part .now) 0 0)
+counted c = c .children-of .ensures ∙ ap children (c .before .wide16 .ensures .0)
 
 child-at-requires : tie.Need-child-at-requires
 child-at-requires c κs =
@@ -76,13 +77,12 @@ part-sharing-groups-end : tie.Need-part-sharing-groups-end
 part-sharing-groups-end c = search needs
 
 sharing-groups-requires : tie.Need-sharing-groups-requires
-unfolding value
 sharing-groups-requires c κs =
     let s = c .before .before .before .before .before .before .before .before .before in
     let l = s .args .part .now in
-    rw (lent-part 1 l) (omega (arith, length-drop 1 l, s .pre .0 .short), omega (arith, counted (c .before .before .before .before)))
+    rw (lent-part 1 l) (omega (arith, length-drop 1 l, s .pre .0 .short), omega (arith, counted (c .before .before .before .before), children-small (getD l 0 0)))
 
-grouped : (c : tie.After-sharing-groups) → let a = c .before .before .before .before .before .before .before .before .before .before .args in c .sharing-groups .result ≡ sharing (c .before .before .unit-of .result) (c .before .before .before .before .before .value-of .result) (drop 1 (a .part .now))
+grouped : (c : tie.After-sharing-groups) → let a = c .before .before .before .before .before .before .before .before .before .before .args in c .sharing-groups .result ≡ sharing (c .before .before .unit-of .result) (c .before .before .before .before .before .children-of .result) (drop 1 (a .part .now))
 grouped c = rw (lent-part 1 (c .before .before .before .before .before .before .before .before .before .before .args .part .now)) at (c .sharing-groups .ensures)
 
 build-requires : tie.Need-build-requires
@@ -107,7 +107,7 @@ write-tree-spec =
     (tie.spec
     shared-slice-read-wide16
     wide16-requires
-    value-of-requires
+    children-of-requires
     child-at-requires
     mul-unit-of
     sub-unit-of

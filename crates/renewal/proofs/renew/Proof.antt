@@ -4,12 +4,13 @@ use Prim.Native.Nat.{_-_}
 use native.Mathlib.Omega.{arith}
 use borrow.Author.Needs.{needs}
 use lib.ListN.{length, getD, set, length-set}
+use Rattle.model.specs.Limits.{sheet-room}
 use Rattle.renewal.proofs.Laws.{Ones, gone, renewed}
 use Rattle.renewal.proofs.renew.Statement.{statement}
 use Rattle.renewal.proofs.renew.Tie as tie
 
 -- The table with the ones is as long as before, and they stand where they should.
-whole : (c : tie.After-put-ones) → length (c .put-ones .last .0) ≡ 4096
+whole : (c : tie.After-put-ones) → length (c .put-ones .last .0) ≡ sheet-room
 whole c =
     let d = c .before .before .before .before in
     let b = d .before .before .before in

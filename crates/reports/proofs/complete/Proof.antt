@@ -7,19 +7,23 @@ use borrow.Author.Needs.{needs}
 use borrow.Author.Tests.{not-true, not-false}
 use Rattle.model.specs.Base.{only-if}
 use Rattle.model.specs.Propagation as P
-use Rattle.model.specs.Sheet.{is-sheet}
-use Rattle.model.specs.Calls.{refused, accepted, sheet-refused, answer, report-in, completeOf}
+use Rattle.model.specs.Sheet.{is-sheet, report-in}
+use Rattle.calls.specs.Refusals.{sheet-refused}
+use Rattle.calls.specs.Outcomes.{refused, accepted, answer}
+use Rattle.calls.specs.Chains.{complete-refusal}
+use Rattle.calls.specs.Calls.{completeOf}
+use Rattle.theory.specs.Sheets.{sheet-formed}
 use Rattle.reports.proofs.complete.Statement.{statement}
 use Rattle.reports.proofs.complete.Tie as tie
 
 -- What is answered, by the test.
 module _ (s : List ℕ) where
   no-sheet : is-sheet s ≡ false → refused sheet-refused ≡ completeOf s
-  unfolding completeOf only-if answer
+  unfolding completeOf complete-refusal only-if answer
   no-sheet h = rw h
 
   done : is-sheet s ≡ true → {b : Bool} → b ≡ P.complete (report-in s) → accepted b ≡ completeOf s
-  unfolding completeOf only-if answer
+  unfolding completeOf complete-refusal only-if answer
   done h e = rw (h, e)
 
 is-sheet-requires : tie.Need-is-sheet-requires
@@ -35,7 +39,7 @@ sheet : (c : tie.Else1) → is-sheet (c .before .before .before .args .sheet .no
 sheet c = sym (c .before .is-sheet .ensures) ∙ not-false (c .before .is-sheet .result) (c .if1 .left)
 
 is-complete-requires : tie.Need-is-complete-requires
-is-complete-requires c κs = sheet c
+is-complete-requires c κs = sheet-formed _ (sheet c)
 
 returns-2 : tie.Need-returns-2
 returns-2 c = done _ (sheet (c .before .before)) (sym (c .if2 .taken) ∙ c .before .is-complete .ensures)

@@ -8,25 +8,28 @@ use borrow.Author.Needs.{needs}
 use borrow.Author.Tests.{eq-eqb, ne-eqb, not-true, not-false}
 use lib.ListN.{length}
 use Rattle.model.specs.Base.{only-if, first-of}
-use Rattle.model.specs.Sheet.{is-sheet, options-in}
-use Rattle.model.specs.Calls.{refused, accepted, sheet-refused, output-refused, outcome, report-in, reportOf}
+use Rattle.model.specs.Sheet.{is-sheet, options-in, report-in}
+use Rattle.calls.specs.Refusals.{sheet-refused, output-refused}
+use Rattle.calls.specs.Outcomes.{refused, accepted, outcome}
+use Rattle.calls.specs.Chains.{report-refusal}
+use Rattle.calls.specs.Calls.{reportOf}
 use Rattle.answers.specs.Meaning.{afterCall}
-use Rattle.theory.specs.Sheets.{sheet-facts}
+use Rattle.theory.specs.Sheets.{sheet-formed}
 use Rattle.reports.proofs.report.Statement.{statement}
 use Rattle.reports.proofs.report.Tie as tie
 
 -- What is answered, by the tests.
 module _ (s out : List ℕ) where
   no-sheet : is-sheet s ≡ false → afterCall (refused sheet-refused) out ≡ reportOf s out
-  unfolding reportOf only-if first-of outcome
+  unfolding reportOf report-refusal only-if first-of outcome
   no-sheet h = rw h
 
   no-room : is-sheet s ≡ true → (length out ≡ options-in s → ⊥) → afterCall (refused output-refused) out ≡ reportOf s out
-  unfolding reportOf only-if first-of outcome
+  unfolding reportOf report-refusal only-if first-of outcome
   no-room h d = rw (h, ne-eqb (length out) (options-in s) d)
 
   done : is-sheet s ≡ true → length out ≡ options-in s → {b : Bool} {marks : List ℕ} → b ≡ report-in s .contradictory → marks ≡ report-in s .marks → afterCall (accepted b) marks ≡ reportOf s out
-  unfolding reportOf only-if first-of outcome
+  unfolding reportOf report-refusal only-if first-of outcome
   done h e p q = rw (h, eq-eqb (length out) (options-in s) e, p, q)
 
 is-sheet-requires : tie.Need-is-sheet-requires
@@ -42,7 +45,7 @@ sheet : (c : tie.Else1) → is-sheet (c .before .before .before .before .args .s
 sheet c = sym (c .before .is-sheet .ensures) ∙ not-false (c .before .is-sheet .result) (c .if1 .left)
 
 shared-slice-read-wide16 : tie.Need-shared-slice-read-wide16
-shared-slice-read-wide16 c = let k = sheet-facts _ (sheet (c .before)) in omega arith
+shared-slice-read-wide16 c = let k = sheet-formed _ (sheet (c .before)) in omega arith
 
 wide16-requires : tie.Need-wide16-requires
 wide16-requires c κs = search needs
@@ -57,7 +60,7 @@ unfolding options-in
 room c = c .if2 .left ∙ c .before .wide16 .ensures .0
 
 put-report-requires : tie.Need-put-report-requires
-put-report-requires c κs = (sheet (c .before .before .before .before), room (c .before))
+put-report-requires c κs = (sheet-formed _ (sheet (c .before .before .before .before)), room (c .before))
 
 same-length : tie.Need-same-length
 same-length c = search needs

@@ -3,15 +3,15 @@ use mathlib.Core.Path.{_≡_, sym, ap, subst, _∙_}
 use native.Mathlib.Omega.{arith}
 use borrow.Author.Needs.{needs}
 use lib.ListN.{getD}
-use Rattle.model.specs.Code.{value}
+use Rattle.model.specs.Code.{children}
 use Rattle.theory.specs.Children.{headed-group, group-long}
 use Rattle.firsts.specs.Firsts.{First-child}
 use Rattle.search.proofs.Firsts.{single-first, single-none}
 use Rattle.search.proofs.first_beside.Statement.{statement}
 use Rattle.search.proofs.first_beside.Tie as tie
 
-counted : (c : tie.After-value-of) → let a = c .before .before .before .before .before .before .before .args in c .value-of .result ≡ value (getD (a .part .now) 0 0)
-counted c = c .value-of .ensures ∙ ap value (c .before .wide16 .ensures .0)
+counted : (c : tie.After-children-of) → let a = c .before .before .before .before .before .before .before .args in c .children-of .result ≡ children (getD (a .part .now) 0 0)
+counted c = c .children-of .ensures ∙ ap children (c .before .wide16 .ensures .0)
 
 first-constant-requires : tie.Need-first-constant-requires
 first-constant-requires c κs =
@@ -37,8 +37,8 @@ shared-slice-read-wide16 c =
 wide16-requires : tie.Need-wide16-requires
 wide16-requires c κs = search needs
 
-value-of-requires : tie.Need-value-of-requires
-value-of-requires c κs = search needs
+children-of-requires : tie.Need-children-of-requires
+children-of-requires c κs = search needs
 
 returns-3 : tie.Need-returns-3
 returns-3 c =
@@ -63,6 +63,6 @@ first-beside-spec =
     returns-2
     shared-slice-read-wide16
     wide16-requires
-    value-of-requires
+    children-of-requires
     returns-3
     returns-4)

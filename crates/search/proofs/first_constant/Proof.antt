@@ -4,7 +4,8 @@ use Prim.Native.Nat.{_-_, _≤_, _<_}
 use native.Mathlib.Omega.{arith}
 use borrow.Author.Needs.{needs}
 use lib.ListN.{length, getD, drop}
-use Rattle.model.specs.Code.{value}
+use Rattle.model.specs.Limits.{sheet-room}
+use Rattle.model.specs.Code.{children}
 use Rattle.theory.specs.Spans.{span}
 use Rattle.theory.specs.Children.{headed-group, group-long}
 use Rattle.sizes.proofs.Laws.{span-one}
@@ -19,14 +20,14 @@ Inv-loop part sizes rule constant k i₀ at₀ i at = Passed rule i at part
 abbrev μ-loop : tie.MeasureT-loop
 μ-loop part sizes rule constant k i₀ at₀ i at = k - i
 
-counted : (c : tie.After-value-of Inv-loop μ-loop) → let a = c .before .before .before .before .before .before .args in c .value-of .result ≡ value (getD (a .part .now) 0 0)
-counted c = c .value-of .ensures ∙ ap value (c .before .wide16 .ensures .0)
+counted : (c : tie.After-children-of Inv-loop μ-loop) → let a = c .before .before .before .before .before .before .args in c .children-of .result ≡ children (getD (a .part .now) 0 0)
+counted c = c .children-of .ensures ∙ ap children (c .before .wide16 .ensures .0)
 
 -- Child i is there, and begins within the stretch.
-here : (c : tie.In-loop Inv-loop μ-loop) → let a = c .before .before .before .before .before .before .before .before .args in c .before .loop .i < value (getD (a .part .now) 0 0)
+here : (c : tie.In-loop Inv-loop μ-loop) → let a = c .before .before .before .before .before .before .before .before .args in c .before .loop .i < children (getD (a .part .now) 0 0)
 here c = omega (arith, counted (c .before .before), c .loop-test .taken)
 
-inside : (c : tie.In-loop Inv-loop μ-loop) → let a = c .before .before .before .before .before .before .before .before .args in (c .before .loop .at < length (a .part .now)) × (length (a .part .now) ≤ 4096)
+inside : (c : tie.In-loop Inv-loop μ-loop) → let a = c .before .before .before .before .before .before .before .before .args in (c .before .loop .at < length (a .part .now)) × (length (a .part .now) ≤ sheet-room)
 inside c =
     let b = c .before .before .before .before .before .before .before .before in
     child-inside (b .pre .1 .0) (b .pre .1 .1 .0) (here c) (c .before .loop .inv .here)
@@ -42,8 +43,8 @@ shared-slice-read-wide16 c =
 wide16-requires : tie.Need-wide16-requires Inv-loop μ-loop
 wide16-requires c κs = search needs
 
-value-of-requires : tie.Need-value-of-requires Inv-loop μ-loop
-value-of-requires c κs = search needs
+children-of-requires : tie.Need-children-of-requires Inv-loop μ-loop
+children-of-requires c κs = search needs
 
 loop-holds : tie.Need-loop-holds Inv-loop μ-loop
 loop-holds c =
@@ -115,7 +116,7 @@ first-constant-spec =
     constant-for-requires
     shared-slice-read-wide16
     wide16-requires
-    value-of-requires
+    children-of-requires
     loop-holds
     mul-if1
     shared-slice-read-if1

@@ -4,7 +4,7 @@ use native.Mathlib.Omega.{arith}
 use borrow.Author.Needs.{needs}
 use borrow.Author.Tests.{not-true, not-false}
 use lib.ListN.{getD}
-use Rattle.model.specs.Code.{value}
+use Rattle.model.specs.Code.{children}
 use Rattle.theory.specs.Stretches.{forest-in}
 use Rattle.theory.specs.Heads.{Headed}
 use Rattle.heads.proofs.Laws.{head-right, head-wrong}
@@ -17,7 +17,7 @@ use Rattle.search.proofs.least_child.Tie as tie
 right : (c : tie.Else1) → let a = c .before .before .before .before .args in Headed (a .rule) (a .part .now)
 right c =
     let b = c .before .before .before .before in
-    head-right (b .args .rule) (b .pre .0 .0) (b .pre .0 .1) (b .pre .1 .0) (sym (c .before .is-headed .ensures) ∙ not-false (c .before .is-headed .result) (c .if1 .left))
+    head-right (b .args .rule) (b .pre .1 .0) (sym (c .before .is-headed .ensures) ∙ not-false (c .before .is-headed .result) (c .if1 .left))
 
 is-headed-requires : tie.Need-is-headed-requires
 is-headed-requires c κs = search needs
@@ -25,7 +25,7 @@ is-headed-requires c κs = search needs
 returns : tie.Need-returns
 returns c =
     let b = c .before .before .before .before in
-    λ p. i-never (b .args .rule) p (forest-in (b .args .part .now)) (head-wrong (b .args .rule) (b .pre .0 .0) (b .pre .0 .1) (b .pre .1 .0) (sym (c .before .is-headed .ensures) ∙ not-true (c .before .is-headed .result) (c .if1 .taken)))
+    λ p. i-never (b .args .rule) p (forest-in (b .args .part .now)) (head-wrong (b .args .rule) (b .pre .1 .0) (sym (c .before .is-headed .ensures) ∙ not-true (c .before .is-headed .result) (c .if1 .taken)))
 
 least-inside-requires : tie.Need-least-inside-requires
 least-inside-requires c κs =
@@ -48,12 +48,12 @@ shared-slice-read-wide16 c = c .before .before .before .before .before .before .
 wide16-requires : tie.Need-wide16-requires
 wide16-requires c κs = search needs
 
-value-of-requires : tie.Need-value-of-requires
-value-of-requires c κs = search needs
+children-of-requires : tie.Need-children-of-requires
+children-of-requires c κs = search needs
 
 -- The number of the children.
-counted : (c : tie.After-value-of) → let a = c .before .before .before .before .before .before .before .before .before .args in c .value-of .result ≡ value (getD (a .part .now) 0 0)
-counted c = c .value-of .ensures ∙ ap value (c .before .wide16 .ensures .0)
+counted : (c : tie.After-children-of) → let a = c .before .before .before .before .before .before .before .before .before .args in c .children-of .result ≡ children (getD (a .part .now) 0 0)
+counted c = c .children-of .ensures ∙ ap children (c .before .wide16 .ensures .0)
 
 returns-3 : tie.Need-returns-3
 returns-3 c =
@@ -82,6 +82,6 @@ least-child-spec =
     first-beside-requires
     shared-slice-read-wide16
     wide16-requires
-    value-of-requires
+    children-of-requires
     returns-3
     returns-4)

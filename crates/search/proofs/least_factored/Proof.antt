@@ -4,13 +4,14 @@ use Prim.Native.Nat.{_≤_, _<_}
 use native.Mathlib.Omega.{arith}
 use borrow.Author.Needs.{needs}
 use lib.ListN.{length, getD}
+use Rattle.model.specs.Limits.{sheet-room}
 use Rattle.theory.specs.Spans.{arity}
 use Rattle.theory.specs.Children.{counted-child, headed-group, group-few}
 use Rattle.search.proofs.Firsts.{late-none, inner-found, inner-over}
 use Rattle.search.proofs.least_factored.Statement.{statement}
 use Rattle.search.proofs.least_factored.Tie as tie
 
-child : (c : tie.Start) → (c .args .at < length (c .args .part .now)) × (length (c .args .part .now) ≤ 4096)
+child : (c : tie.Start) → (c .args .at < length (c .args .part .now)) × (length (c .args .part .now) ≤ sheet-room)
 child c = let w = counted-child (c .pre .0) (c .pre .1 .0) (c .pre .1 .1 .0) in (w .1, w .2)
 
 counted : (c : tie.After-arity-of) → let a = c .before .before .before .before .before .before .before .args in c .arity-of .result ≡ arity (getD (a .part .now) (a .at) 0)

@@ -5,7 +5,8 @@ use Prim.Native.Nat.{ℕ, _-_, _≤_, _<_}
 use native.Mathlib.Omega.{arith}
 use borrow.Author.Needs.{needs}
 use lib.ListN.{length, getD, drop}
-use Rattle.model.specs.Code.{value}
+use Rattle.model.specs.Limits.{sheet-room}
+use Rattle.model.specs.Code.{children}
 use Rattle.model.specs.Strategy.{least-j}
 use Rattle.theory.specs.Spans.{child-at, span}
 use Rattle.theory.specs.Stretches.{forest-in}
@@ -24,8 +25,8 @@ Inv-loop part sizes rule k i₀ at₀ i at =
 abbrev μ-loop : tie.MeasureT-loop
 μ-loop part sizes rule k i₀ at₀ i at = k - i
 
-counted : (c : tie.After-value-of Inv-loop μ-loop) → let a = c .before .before .before .before .before .args in c .value-of .result ≡ value (getD (a .part .now) 0 0)
-counted c = c .value-of .ensures ∙ ap value (c .before .wide16 .ensures .0)
+counted : (c : tie.After-children-of Inv-loop μ-loop) → let a = c .before .before .before .before .before .args in c .children-of .result ≡ children (getD (a .part .now) 0 0)
+counted c = c .children-of .ensures ∙ ap children (c .before .wide16 .ensures .0)
 
 shared-slice-read-wide16 : tie.Need-shared-slice-read-wide16 Inv-loop μ-loop
 shared-slice-read-wide16 c =
@@ -35,8 +36,8 @@ shared-slice-read-wide16 c =
 wide16-requires : tie.Need-wide16-requires Inv-loop μ-loop
 wide16-requires c κs = search needs
 
-value-of-requires : tie.Need-value-of-requires Inv-loop μ-loop
-value-of-requires c κs = search needs
+children-of-requires : tie.Need-children-of-requires Inv-loop μ-loop
+children-of-requires c κs = search needs
 
 loop-holds : tie.Need-loop-holds Inv-loop μ-loop
 loop-holds c =
@@ -66,7 +67,7 @@ enum-told : tie.Need-enum-told Inv-loop μ-loop
 enum-told c = search needs
 
 -- Child i begins within the stretch, and one hop leads to the next.
-inside : (c : tie.In-loop Inv-loop μ-loop) → let a = c .before .before .before .before .before .before .before .args in (c .before .loop .at < length (a .part .now)) × (length (a .part .now) ≤ 4096)
+inside : (c : tie.In-loop Inv-loop μ-loop) → let a = c .before .before .before .before .before .before .before .args in (c .before .loop .at < length (a .part .now)) × (length (a .part .now) ≤ sheet-room)
 inside c =
     let n = c .before in
     let v = n .before in
@@ -129,7 +130,7 @@ least-inside-spec =
     μ-loop
     shared-slice-read-wide16
     wide16-requires
-    value-of-requires
+    children-of-requires
     loop-holds
     least-inner-requires
     enum-known-spot

@@ -6,7 +6,8 @@ use native.Mathlib.Omega.{arith}
 use borrow.Author.Needs.{needs}
 use lib.ListN.{length, getD, drop}
 use Rattle.model.specs.Base.{is-some}
-use Rattle.model.specs.Code.{kind, value}
+use Rattle.model.specs.Limits.{sheet-room}
+use Rattle.model.specs.Code.{kind, children}
 use Rattle.model.specs.Rules.{rewrite}
 use Rattle.theory.specs.Scan.{is-literal}
 use Rattle.theory.specs.Spans.{child-at, span}
@@ -29,15 +30,15 @@ abbrev μ-loop : tie.MeasureT-loop
 μ-loop part sizes rule i at head m j₀ from₀ j from = m - j
 
 -- Child i begins within the stretch.
-child : (c : tie.Start Inv-loop μ-loop) → (c .args .at < length (c .args .part .now)) × (length (c .args .part .now) ≤ 4096)
+child : (c : tie.Start Inv-loop μ-loop) → (c .args .at < length (c .args .part .now)) × (length (c .args .part .now) ≤ sheet-room)
 child c = let w = counted-child (c .pre .1 .0) (c .pre .1 .1 .0) (c .pre .1 .1 .1 .0) in (w .1, w .2)
 
 -- It is a conjunction, past the test of its kind.
 conjunction : (c : tie.Else1 Inv-loop μ-loop) → let a = c .before .before .before .before .before .before .args in kind (getD (a .part .now) (a .at) 0) ≡ 3
 conjunction c = sym (c .before .kind-of .ensures ∙ ap kind (c .before .before .wide16 .ensures .0)) ∙ c .if1 .left
 
-counted : (c : tie.After-value-of Inv-loop μ-loop) → let a = c .before .before .before .before .before .before .before .args in c .value-of .result ≡ value (getD (a .part .now) (a .at) 0)
-counted c = c .value-of .ensures ∙ ap value (c .before .before .before .wide16 .ensures .0)
+counted : (c : tie.After-children-of Inv-loop μ-loop) → let a = c .before .before .before .before .before .before .before .args in c .children-of .result ≡ children (getD (a .part .now) (a .at) 0)
+counted c = c .children-of .ensures ∙ ap children (c .before .before .before .wide16 .ensures .0)
 
 mul-wide16 : tie.Need-mul-wide16 Inv-loop μ-loop
 mul-wide16 c = let w = child (c .before .before) in omega arith
@@ -57,8 +58,8 @@ returns c =
     let read = c .before .kind-of .ensures ∙ ap kind (c .before .before .wide16 .ensures .0) in
     lifts-nothing (b .pre .1 .0) (b .pre .1 .1 .0) (b .args .i) (b .pre .0 .0) (b .pre .0 .1) (b .pre .1 .1 .1 .0 .0) (b .pre .1 .1 .1 .0 .1) (λ e. c .if1 .taken (read ∙ e))
 
-value-of-requires : tie.Need-value-of-requires Inv-loop μ-loop
-value-of-requires c κs = search needs
+children-of-requires : tie.Need-children-of-requires Inv-loop μ-loop
+children-of-requires c κs = search needs
 
 add-from : tie.Need-add-from Inv-loop μ-loop
 add-from c = let w = child (c .before .before .before .before .before .before .before) in omega arith
@@ -69,7 +70,7 @@ loop-holds c =
     (omega arith, sym (inner-first (a .at) (a .part .now)), λ k l. absurd (omega arith))
 
 -- The place of inner child j is within the stretch, and its number says what the rule asks.
-inside : (c : tie.In-loop Inv-loop μ-loop) → let a = c .before .before .before .before .before .before .before .before .before .args in (c .before .loop .from < length (a .part .now)) × (length (a .part .now) ≤ 4096)
+inside : (c : tie.In-loop Inv-loop μ-loop) → let a = c .before .before .before .before .before .before .before .before .before .args in (c .before .loop .from < length (a .part .now)) × (length (a .part .now) ≤ sheet-room)
 inside c =
     let v = c .before .before in
     let b = v .before .before .before .before .before .before .before in
@@ -163,7 +164,7 @@ least-lifted-spec =
     wide16-requires
     kind-of-requires
     returns
-    value-of-requires
+    children-of-requires
     add-from
     loop-holds
     mul-wide16-2

@@ -8,9 +8,9 @@ use borrow.Rule.Slice.PartAt.{part-to-end}
 use borrow.Rule.Slice.PartMut.{midOf}
 use lib.ListN.{length, take, drop, length-drop}
 use Rattle.model.specs.Book.{codes-of, pieces}
-use Rattle.model.specs.Calls.{Ran}
-use Rattle.model.specs.Desk.{first-line, option-lines}
-use Rattle.printing.specs.Placed.{placed}
+use Rattle.calls.specs.Calls.{Ran}
+use Rattle.calls.specs.Desk.{first-line, option-lines}
+use Rattle.printing.specs.Placed.{filled}
 use Rattle.printing.proofs.Laws.{placed-count, placed-within, placed-then}
 use Rattle.sessions.proofs.Laws.{few-options, codes-fit, codes-lent, short-first}
 use Rattle.sessions.proofs.put_lines.Statement.{statement}
@@ -81,7 +81,7 @@ returns c =
     let ran : Ran = record { settled = start .args .settled; count = start .args .count } in
     let rest = midOf (call .put-first .result) (length out - call .put-first .result) out in
     placed-then (first-line false ran) (option-lines (codes-of book) marks) old (call .put-first .ensures) (placed-within (first-line false ran) old (call .put-first .ensures))
-    (c .before .before .put-options .ensures ∙ ap (λ cs. placed (option-lines cs marks) rest) (codes-lent book (length marks) (start .pre .1)))
+    (c .before .before .put-options .ensures ∙ ap (λ cs. filled (option-lines cs marks) rest) (codes-lent book (length marks) (start .pre .1)))
 
 pub put-lines-spec : {M : Type 1} → statement M
 put-lines-spec =

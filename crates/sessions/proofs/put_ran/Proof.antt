@@ -4,11 +4,12 @@ use Prim.Native.Nat.{ℕ, _≤_}
 use native.Mathlib.Omega.{arith}
 use borrow.Author.Needs.{needs}
 use lib.ListN.{length, take, replicate, length-replicate}
+use Rattle.model.specs.Limits.{most-options}
 use Rattle.model.specs.Book.{options-of}
-use Rattle.model.specs.Desk.{desk-budget}
+use Rattle.calls.specs.Desk.{desk-budget}
 use Rattle.answers.specs.Meaning.{afterCall}
 use Rattle.runs.specs.Meaning.{ranOf}
-use Rattle.printing.specs.Placed.{placed}
+use Rattle.printing.specs.Placed.{filled}
 use Rattle.sessions.proofs.Laws.{few-options, codes-fit, take-zeros, ran-accepted, ran-refused}
 use Rattle.sessions.proofs.put_ran.Statement.{statement}
 use Rattle.sessions.proofs.put_ran.Tie as tie
@@ -21,11 +22,11 @@ count-here : (c : tie.After-word-at) → c .word-at .result ≡ options-of (c .b
 unfolding options-of
 count-here c = c .word-at .ensures
 
-few-here : (c : tie.After-word-at) → c .word-at .result ≤ 512
+few-here : (c : tie.After-word-at) → c .word-at .result ≤ most-options
 few-here c = let start = c .before .before .before .before in omega (arith, count-here c, few-options (start .args .book .now) (start .pre .0))
 
-lent-here : (c : tie.After-word-at) → length {A = ℕ} (take (c .word-at .result) (replicate 512 0)) ≡ c .word-at .result
-lent-here c = ap length (take-zeros (c .word-at .result) 512 (few-here c)) ∙ length-replicate (c .word-at .result) 0
+lent-here : (c : tie.After-word-at) → length {A = ℕ} (take (c .word-at .result) (replicate most-options 0)) ≡ c .word-at .result
+lent-here c = ap length (take-zeros (c .word-at .result) most-options (few-here c)) ∙ length-replicate (c .word-at .result) 0
 
 array-borrow-prefix-room : tie.Need-array-borrow-prefix-room
 array-borrow-prefix-room c = few-here c
@@ -73,7 +74,7 @@ returns c =
     let sheet = run .last .0 in
     let answer = ap (λ t. afterCall (ranOf t) sheet) (sym (c .before .before .before .before .before .before .before .ran .given .1)) ∙ run .ensures in
     c .before .before .before .put-told .ensures
-    ∙ ap (λ l. placed l (start .args .out .now)) (ran-accepted (start .args .book .now) sheet _ _ (word .word-at .result) 512 (count-here word) (few-here word) answer)
+    ∙ ap (λ l. filled l (start .args .out .now)) (ran-accepted (start .args .book .now) sheet _ _ (word .word-at .result) most-options (count-here word) (few-here word) answer)
 
 same-length-3 : tie.Need-same-length-3
 same-length-3 c = search needs
@@ -90,7 +91,7 @@ returns-2 c =
     let sheet = run .last .0 in
     let answer = ap (λ t. afterCall (ranOf t) sheet) (sym (c .before .before .before .before .before .before .before .ran2 .given .1)) ∙ run .ensures in
     c .before .before .before .put-told2 .ensures
-    ∙ ap (λ l. placed l (start .args .out .now)) (ran-accepted (start .args .book .now) sheet _ _ (word .word-at .result) 512 (count-here word) (few-here word) answer)
+    ∙ ap (λ l. filled l (start .args .out .now)) (ran-accepted (start .args .book .now) sheet _ _ (word .word-at .result) most-options (count-here word) (few-here word) answer)
 
 same-length-5 : tie.Need-same-length-5
 same-length-5 c = search needs
@@ -106,7 +107,7 @@ returns-3 c =
     let sheet = run .last .0 in
     let answer = ap (λ t. afterCall (ranOf t) sheet) (sym (c .before .before .before .before .before .before .ran3 .given .1)) ∙ run .ensures in
     c .before .before .put-refusal .ensures
-    ∙ ap (λ l. placed l (start .args .out .now)) (ran-refused (start .args .book .now) sheet _ _ answer)
+    ∙ ap (λ l. filled l (start .args .out .now)) (ran-refused (start .args .book .now) sheet _ _ answer)
 
 pub put-ran-spec : {M : Type 1} → statement M
 put-ran-spec =

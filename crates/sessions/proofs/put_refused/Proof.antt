@@ -2,9 +2,10 @@
 use mathlib.Core.List.{[]}
 use mathlib.Core.Path.{sym, ap, _∙_}
 use borrow.Author.Needs.{needs}
-use Rattle.model.specs.Desk.{printed}
+use Rattle.model.specs.Base.{placed}
+use Rattle.calls.specs.Desk.{printed}
 use Rattle.answers.specs.Meaning.{doneOf}
-use Rattle.printing.specs.Placed.{placed}
+use Rattle.printing.specs.Placed.{filled}
 use Rattle.sessions.proofs.put_refused.Statement.{statement}
 use Rattle.sessions.proofs.put_refused.Tie as tie
 
@@ -15,10 +16,10 @@ enum-told : tie.Need-enum-told
 enum-told c = search needs
 
 returns : tie.Need-returns
-unfolding printed placed
+unfolding printed filled placed
 returns c =
     let out = c .before .before .before .args .out .now in
-    sym (ap (λ d. placed (printed (doneOf d) (λ u. [])) out) (c .enum-told .given .1))
+    sym (ap (λ d. filled (printed (doneOf d) (λ u. [])) out) (c .enum-told .given .1))
 
 put-refusal-requires : tie.Need-put-refusal-requires
 put-refusal-requires c κs = search needs
@@ -31,7 +32,7 @@ unfolding printed
 returns-2 c =
     let out = c .before .before .before .before .before .before .before .before .args .out .now in
     c .before .before .put-refusal .ensures
-    ∙ sym (ap (λ d. placed (printed (doneOf d) (λ u. [])) out) (c .before .before .before .before .before .answer .given .1))
+    ∙ sym (ap (λ d. filled (printed (doneOf d) (λ u. [])) out) (c .before .before .before .before .before .answer .given .1))
 
 pub put-refused-spec : {M : Type 1} → statement M
 put-refused-spec =

@@ -3,7 +3,7 @@ use mathlib.Core.Path.{sym, ap, _∙_}
 use borrow.Author.Needs.{needs}
 use Rattle.answers.specs.Meaning.{afterCall}
 use Rattle.reports.specs.Meaning.{reportedOf}
-use Rattle.printing.specs.Placed.{placed}
+use Rattle.printing.specs.Placed.{filled}
 use Rattle.sessions.proofs.Laws.{told-consistent, told-contradictory, told-refused}
 use Rattle.sessions.proofs.put_told.Statement.{statement}
 use Rattle.sessions.proofs.put_told.Tie as tie
@@ -42,7 +42,7 @@ returns c =
     let marks = report .last .1 .0 in
     let answer = ap (λ t. afterCall (reportedOf t) marks) (sym (c .before .before .before .before .before .enum-told .given .1)) ∙ report .ensures in
     c .before .before .put-lines .ensures
-    ∙ ap (λ l. placed l (start .args .out .now)) (told-consistent (start .args .book .now) _ marks _ answer)
+    ∙ ap (λ l. filled l (start .args .out .now)) (told-consistent (start .args .book .now) _ marks _ answer)
 
 same-length-3 : tie.Need-same-length-3
 same-length-3 c = search needs
@@ -57,7 +57,7 @@ returns-2 c =
     let marks = report .last .1 .0 in
     let answer = ap (λ t. afterCall (reportedOf t) marks) (sym (c .before .before .before .before .enum-told2 .given .1)) ∙ report .ensures in
     c .before .before .put-first .ensures
-    ∙ ap (λ l. placed l (start .args .out .now)) (told-contradictory (start .args .book .now) _ marks _ answer)
+    ∙ ap (λ l. filled l (start .args .out .now)) (told-contradictory (start .args .book .now) _ marks _ answer)
 
 same-length-5 : tie.Need-same-length-5
 same-length-5 c = search needs
@@ -72,7 +72,7 @@ returns-3 c =
     let marks = report .last .1 .0 in
     let answer = ap (λ t. afterCall (reportedOf t) marks) (sym (c .before .before .before .before .before .told .given .1)) ∙ report .ensures in
     c .before .before .put-refusal .ensures
-    ∙ ap (λ l. placed l (start .args .out .now)) (told-refused (start .args .book .now) _ marks _ _ answer)
+    ∙ ap (λ l. filled l (start .args .out .now)) (told-refused (start .args .book .now) _ marks _ _ answer)
 
 pub put-told-spec : {M : Type 1} → statement M
 put-told-spec =

@@ -4,6 +4,7 @@ use mathlib.Core.Path.{sym, ap, _∙_}
 use Prim.Native.Nat.{ℕ}
 use borrow.Author.Needs.{needs}
 use lib.ListN.{replicate, length-replicate}
+use Rattle.model.specs.Limits.{sheet-length}
 use Rattle.answers.specs.Meaning.{doneOf, afterCall}
 use Rattle.sessions.proofs.Laws.{load-refused, keys-refused, keys-accepted, loaded-good, session-short, session-printed}
 use Rattle.sessions.proofs.session.Statement.{statement}
@@ -77,7 +78,7 @@ put-ran-requires c κs =
     let book = test .before .before .before .before .args .book .now in
     let sheet = load .load .last .1 .0 in
     let answer = ap (λ d. afterCall (doneOf d) sheet) (sym (c .before .before .before .before .before .before .before .enum-told .given .1)) ∙ load .load .ensures in
-    (loaded-good book (replicate 4098 0) sheet (length-replicate {A = ℕ} 4098 0) answer, test .if1 .left)
+    (loaded-good book (replicate sheet-length 0) sheet (length-replicate {A = ℕ} sheet-length 0) answer, test .if1 .left)
 
 same-length-3 : tie.Need-same-length-3
 same-length-3 c = search needs

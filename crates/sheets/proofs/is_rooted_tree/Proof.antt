@@ -11,16 +11,16 @@ use lib.Dec.{eqb}
 use lib.ListN.{length, getD, take}
 use lib.Seq.{slice, slice-cons, slice-empty, length-slice}
 use Rattle.model.specs.Base.{maybe}
-use Rattle.model.specs.Code.{kind, value, node-of, one-tree}
+use Rattle.model.specs.Code.{kind, children, node-of, one-tree}
 use Rattle.model.specs.Sheet.{rooted}
 use Rattle.theory.specs.Scan.{scan, counted, scan-count, scan-before, rooted-scan}
 use Rattle.nodes.specs.Trees.{treesOf}
 use Rattle.sheets.proofs.is_rooted_tree.Statement.{statement}
 use Rattle.sheets.proofs.is_rooted_tree.Tie as tie
 
--- The head is of kind 5, and the numbers after it are as many trees as its value.
+-- The head is of kind 5, and the numbers after it are as many trees as it has children.
 module _ (n used : ℕ) (s : List ℕ) (some-used : 1 ≤ used) (within : used ≤ length s) where
-  head-and-rest : (rooted n (take used s) && one-tree (map node-of (take used s))) ≡ (eqb (kind (getD s 0 0)) 5 && maybe false (λ t. eqb t (value (getD s 0 0))) (scan n (slice 1 used s)))
+  head-and-rest : (rooted n (take used s) && one-tree (map node-of (take used s))) ≡ (eqb (kind (getD s 0 0)) 5 && maybe false (λ t. eqb t (children (getD s 0 0))) (scan n (slice 1 used s)))
   head-and-rest = ap (λ xs. rooted n xs && one-tree (map node-of xs)) (slice-cons 0 used s 0 some-used within) ∙ rooted-scan n (getD s 0 0) (slice 1 used s)
 
   -- There are no more trees than numbers.
@@ -91,8 +91,8 @@ loop-again c =
       c .join .ensures ∙ rw (n .loop .inv .2, c .before .wide162 .ensures .0) (sym (scan-before (a .n) i (a .used) s (omega arith) (omega arith) (omega arith))),
     )
 
--- After the loop the head's value decides, by the trees that were counted.
-decided : (c : tie.After-loop Inv-loop μ-loop) (o : Option ℕ) → treesOf (c .before .loop .trees) ≡ o → let a = c .before .before .before .before .before .before .before .args in let v = value (c .before .before .before .before .wide16 .result) in (rooted (a .n) (take (a .used) (a .s .now)) && one-tree (map node-of (take (a .used) (a .s .now)))) ≡ maybe false (λ t. eqb t v) o
+-- After the loop the head's number of children decides, by the trees that were counted.
+decided : (c : tie.After-loop Inv-loop μ-loop) (o : Option ℕ) → treesOf (c .before .loop .trees) ≡ o → let a = c .before .before .before .before .before .before .before .args in let v = children (c .before .before .before .before .wide16 .result) in (rooted (a .n) (take (a .used) (a .s .now)) && one-tree (map node-of (take (a .used) (a .s .now)))) ≡ maybe false (λ t. eqb t v) o
 decided c o e =
     let n = c .before in
     let a = n .before .before .before .before .before .before .args in
@@ -105,8 +105,8 @@ decided c o e =
 enum-known-trees : tie.Need-enum-known-trees Inv-loop μ-loop
 enum-known-trees c = search needs
 
-value-of-requires : tie.Need-value-of-requires Inv-loop μ-loop
-value-of-requires c κs = search needs
+children-of-requires : tie.Need-children-of-requires Inv-loop μ-loop
+children-of-requires c κs = search needs
 
 enum-told : tie.Need-enum-told Inv-loop μ-loop
 enum-told c = search needs
@@ -115,7 +115,7 @@ returns-2 : tie.Need-returns-2 Inv-loop μ-loop
 unfolding maybe
 returns-2 c =
     let w = c .before .before .trees .given in
-    rw (c .value-of .ensures) (sym (decided (c .before .before .before .before) (some (w .0 .0)) (ap treesOf (w .1))))
+    rw (c .children-of .ensures) (sym (decided (c .before .before .before .before) (some (w .0 .0)) (ap treesOf (w .1))))
 
 returns-3 : tie.Need-returns-3 Inv-loop μ-loop
 unfolding maybe
@@ -140,7 +140,7 @@ is-rooted-tree-spec =
     loop-less
     loop-again
     enum-known-trees
-    value-of-requires
+    children-of-requires
     enum-told
     returns-2
     returns-3)

@@ -11,6 +11,7 @@ use lib.Dec.{eqb, leb}
 use lib.ListN.{length, getD, take, drop, length-map, length-take, length-drop}
 use lib.Seq.{length-take-le, drop-drop}
 use Rattle.model.specs.Base.{all}
+use Rattle.model.specs.Limits.{most-options, most-weight, sheet-room, sheet-length}
 use Rattle.model.specs.Code.{literals, weight, node-of, one-tree}
 use Rattle.model.specs.Sheet.{options-in, used-in, numbers-in, nodes-in, rest-in, rooted, is-sheet}
 use Rattle.theory.specs.Scan.{literals-within}
@@ -23,9 +24,9 @@ tree-in s = rooted (options-in s) (numbers-in s) && one-tree (nodes-in s)
 
 module _ (s : List ℕ) where
   -- A list is a sheet by six tests, in the order of the code.
-  sheet-is : is-sheet s ≡ (eqb (length s) 4098 && leb (getD s 0 0) 512 && leb (getD s 1 0) 4096 && tree-in s && all (eqb 0) (rest-in s) && leb (weight (nodes-in s)) 4096)
+  sheet-is : is-sheet s ≡ (eqb (length s) sheet-length && leb (getD s 0 0) most-options && leb (getD s 1 0) sheet-room && tree-in s && all (eqb 0) (rest-in s) && leb (weight (nodes-in s)) most-weight)
   unfolding is-sheet options-in used-in
-  sheet-is = rw (and-assoc (eqb (length s) 4098 && leb (getD s 0 0) 512 && leb (getD s 1 0) 4096) (rooted (getD s 0 0) (numbers-in s)) (one-tree (nodes-in s)))
+  sheet-is = rw (and-assoc (eqb (length s) sheet-length && leb (getD s 0 0) most-options && leb (getD s 1 0) sheet-room) (rooted (getD s 0 0) (numbers-in s)) (one-tree (nodes-in s)))
 
   -- What the parts of the sheet that are lent tell.
   tree-is : {n used : ℕ} {r : Bool} → let part = take (length s - 2) (drop 2 s) in n ≡ getD s 0 0 → used ≡ getD s 1 0 → r ≡ (rooted n (take used part) && one-tree (map node-of (take used part))) → tree-in s ≡ r
@@ -63,7 +64,7 @@ told-clear c =
 returns : tie.Need-returns
 returns c =
     let s = c .before .before .args .s .now in
-    rw (sheet-is s, ne-eqb (length s) 4098 (c .if1 .taken))
+    rw (sheet-is s, ne-eqb (length s) sheet-length (c .if1 .taken))
 
 shared-slice-read-wide16 : tie.Need-shared-slice-read-wide16
 shared-slice-read-wide16 c = search needs
@@ -80,7 +81,7 @@ wide16-requires-2 c κs = search needs
 returns-2 : tie.Need-returns-2
 returns-2 c =
     let s = sheet (c .before) in
-    rw (sheet-is s, lt-leb (getD s 0 0) 512 (omega arith), and-false)
+    rw (sheet-is s, lt-leb (getD s 0 0) most-options (omega arith), and-false)
 
 returns-3 : tie.Need-returns-3
 unfolding options-in used-in numbers-in rooted
@@ -92,7 +93,7 @@ returns-3 c =
 returns-4 : tie.Need-returns-4
 returns-4 c =
     let s = sheet (c .before .before .before) in
-    rw (sheet-is s, lt-leb (getD s 1 0) 4096 (omega arith), and-false)
+    rw (sheet-is s, lt-leb (getD s 1 0) sheet-room (omega arith), and-false)
 
 sub-is-rooted-tree : tie.Need-sub-is-rooted-tree
 sub-is-rooted-tree c = search needs
@@ -156,9 +157,9 @@ returns-7 : tie.Need-returns-7
 returns-7 c =
     let k = c .before .before .before .before .before .before .before .before .before .before .before in
     let s = sheet k in
-    let whole = eq-eqb (length s) 4098 (omega arith) in
-    let few-options = le-leb (getD s 0 0) 512 (omega arith) in
-    let room = le-leb (getD s 1 0) 4096 (omega arith) in
+    let whole = eq-eqb (length s) sheet-length (omega arith) in
+    let few-options = le-leb (getD s 0 0) most-options (omega arith) in
+    let room = le-leb (getD s 1 0) sheet-room (omega arith) in
     let tree = told-tree (c .before .before .before .before .before .before) ∙ not-false _ (c .before .before .before .before .before .if5 .left) in
     let clear = told-clear (c .before .before .before) ∙ not-false _ (c .before .before .if6 .left) in
     rw (sheet-is s, whole, few-options, room, tree, clear, weight-is s (k .wide162 .ensures .0) (omega arith) (c .count-literals .ensures))

@@ -1,15 +1,15 @@
 -- `simplify::constant_for` meets its contract: the number is that of the constant in the rule's row.
 use mathlib.Core.Logic.{inl, inr, ⊎-elim}
-use Rattle.model.specs.Base.{maybe}
+use Rattle.model.specs.Base.{pick, maybe}
 use Rattle.model.specs.Code.{number, conn-kind}
 use Rattle.model.specs.Rules.{neutral, deciding, table, row-of}
-use Rattle.simplify.specs.Constants.{wanted, constantFor}
+use Rattle.simplify.specs.Constants.{wanted, group-of, constantFor}
 use Rattle.simplify.proofs.Laws.{constant-true}
 use Rattle.simplify.proofs.constant_for.Statement.{statement}
 use Rattle.simplify.proofs.constant_for.Tie as tie
 
 returns : tie.Need-returns
-unfolding constantFor row-of table maybe wanted neutral deciding conn-kind number
+unfolding constantFor row-of table maybe group-of pick wanted neutral deciding conn-kind number
 returns c = ⊎-elim (λ e. rw e) (⊎-elim (λ e. rw e) (λ e. rw e)) (c .match .keys1)
 
 returns-2 : tie.Need-returns-2

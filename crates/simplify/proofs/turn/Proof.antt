@@ -4,27 +4,27 @@ use Prim.Native.Nat.{_≤_, _<_}
 use native.Mathlib.Omega.{arith}
 use borrow.Author.Needs.{needs}
 use lib.ListN.{length-set}
-use Rattle.model.specs.Code.{value}
+use Rattle.model.specs.Code.{value, children}
 use Rattle.model.specs.Forest.{size}
 use Rattle.theory.specs.Spans.{child-at}
-use Rattle.theory.specs.Children.{Group, headed-group, group-value, group-bounds, group-few, group-long, child-later, child-room}
+use Rattle.theory.specs.Children.{Group, headed-group, group-children, group-bounds, group-few, group-long, child-later, child-room}
 use Rattle.simplify.proofs.Laws.{applied-here, turns-single, turns-omit, turns-absorb}
 use Rattle.simplify.proofs.turn.Statement.{statement}
 use Rattle.simplify.proofs.turn.Tie as tie
 
 -- The group that the stretch begins with; its child i; the number of its children.
-group : (c : tie.Start) → let h = c .pre .1 .1 .0 in Group (c .args .part .now) (h .row .conn) (h .children) (h .rest) (h .zeros)
+group : (c : tie.Start) → let h = c .pre .1 .1 .0 in Group (c .args .part .now) (h .conn) (h .children) (h .rest) (h .zeros)
 group c = headed-group (c .pre .1 .0) (c .pre .1 .1 .0)
 
 there : (c : tie.Start) → c .args .i < size (c .pre .1 .1 .0 .children)
 there c =
     applied-here (c .pre .1 .0) (c .pre .1 .1 .0) (c .args .i) (c .args .j) (c .pre .0 .1) (c .pre .1 .1 .1) .1
 
-counted : (c : tie.After-value-of) → c .value-of .result ≡ size (c .before .before .before .before .before .before .pre .1 .1 .0 .children)
+counted : (c : tie.After-children-of) → c .children-of .result ≡ size (c .before .before .before .before .before .before .pre .1 .1 .0 .children)
 counted c =
-    c .value-of .ensures
-    ∙ ap value (c .before .wide16 .ensures .0)
-    ∙ group-value (group (c .before .before .before .before .before .before))
+    c .children-of .ensures
+    ∙ ap children (c .before .wide16 .ensures .0)
+    ∙ group-children (group (c .before .before .before .before .before .before))
 
 ended : (c : tie.After-child-at2) → let a = c .before .before .before .before .before .before .before .before in c .child-at2 .result ≡ child-at (size (a .pre .1 .1 .0 .children)) (a .args .part .now)
 ended c =
@@ -85,8 +85,8 @@ slice-read-head c = group-long (group (c .before .before .before .before))
 wide16-requires : tie.Need-wide16-requires
 wide16-requires c κs = search needs
 
-value-of-requires : tie.Need-value-of-requires
-value-of-requires c κs = search needs
+children-of-requires : tie.Need-children-of-requires
+children-of-requires c κs = search needs
 
 child-at-requires-2 : tie.Need-child-at-requires-2
 child-at-requires-2 c κs =
@@ -147,7 +147,7 @@ turn-spec =
     returns-2
     slice-read-head
     wide16-requires
-    value-of-requires
+    children-of-requires
     child-at-requires-2
     sub-part-2
     add-part

@@ -1,4 +1,4 @@
--- `spans::arity_of` meets its contract: no child for a literal, and else as many as the node's value.
+-- `spans::arity_of` meets its contract: no child for a literal, and else as many as the node's number says.
 use mathlib.Core.Path.{sym, _∙_}
 use native.Mathlib.Omega.{arith}
 use borrow.Author.Needs.{needs}
@@ -14,8 +14,8 @@ returns c =
     let literal = sym (c .before .is-literal .ensures) ∙ c .if1 .taken in
     omega (arith, arity-literal (c .before .before .args .x) literal)
 
-value-of-requires : tie.Need-value-of-requires
-value-of-requires c κs = search needs
+children-of-requires : tie.Need-children-of-requires
+children-of-requires c κs = search needs
 
 returns-2 : tie.Need-returns-2
 returns-2 c =
@@ -24,4 +24,4 @@ returns-2 c =
     omega (arith, arity-inner x inner, arity-small x)
 
 pub arity-of-spec : {M : Type 1} → statement M
-arity-of-spec = tie.close (tie.spec is-literal-requires returns value-of-requires returns-2)
+arity-of-spec = tie.close (tie.spec is-literal-requires returns children-of-requires returns-2)

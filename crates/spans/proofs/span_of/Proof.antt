@@ -5,13 +5,14 @@ use native.Mathlib.Omega.{arith}
 use borrow.Author.Needs.{needs}
 use borrow.Author.Tests.{ltb-true, ltb-false}
 use lib.ListN.{length, getD, drop}
+use Rattle.model.specs.Limits.{kind-factor, sheet-room}
 use Rattle.theory.specs.Spans.{arity, span, span-none, span-end, span-step}
 use Rattle.spans.proofs.span_of.Statement.{statement}
 use Rattle.spans.proofs.span_of.Tie as tie
 
 abbrev Inv-loop : tie.InvT-loop
 Inv-loop s trees pending₀ i₀ pending i =
-    (i ≤ length s) × (pending ≤ 4096 + 4095 * i) × (span trees s ≡ i + span pending (drop i s))
+    (i ≤ length s) × (pending ≤ sheet-room + kind-factor * i) × (span trees s ≡ i + span pending (drop i s))
 
 abbrev μ-loop : tie.MeasureT-loop
 μ-loop s trees pending₀ i₀ pending i = length s - i

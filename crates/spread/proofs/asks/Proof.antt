@@ -3,22 +3,22 @@ use mathlib.Core.Path.{_≡_, ap, ap₂, _∙_}
 use Prim.Native.Nat.{_<_}
 use native.Mathlib.Omega.{arith}
 use borrow.Author.Needs.{needs}
-use Rattle.model.specs.Code.{value}
+use Rattle.model.specs.Code.{children}
 use Rattle.model.specs.Forest.{size}
 use Rattle.theory.specs.Spans.{child-at}
-use Rattle.theory.specs.Children.{Group, headed-group, counted-child, group-value, group-few, group-long}
+use Rattle.theory.specs.Children.{Group, headed-group, counted-child, group-children, group-few, group-long}
 use Rattle.spread.specs.Assigning.{spreads-from}
 use Rattle.spread.proofs.Laws.{child-inside, asks-none, asks-around}
 use Rattle.spread.proofs.asks.Statement.{statement}
 use Rattle.spread.proofs.asks.Tie as tie
 
 -- The group that the stretch begins with, the number of its children, and that child i is one of them.
-group : (c : tie.Start) → let h = c .pre .1 .1 .0 in Group (c .args .part .now) (h .row .conn) (h .children) (h .rest) (h .zeros)
+group : (c : tie.Start) → let h = c .pre .1 .1 .0 in Group (c .args .part .now) (h .conn) (h .children) (h .rest) (h .zeros)
 group c = headed-group (c .pre .1 .0) (c .pre .1 .1 .0)
 
-counted : (c : tie.After-value-of) → c .value-of .result ≡ size (c .before .before .before .before .before .pre .1 .1 .0 .children)
+counted : (c : tie.After-children-of) → c .children-of .result ≡ size (c .before .before .before .before .before .pre .1 .1 .0 .children)
 counted c =
-    c .value-of .ensures ∙ ap value (c .before .wide16 .ensures .0) ∙ group-value (group (c .before .before .before .before .before))
+    c .children-of .ensures ∙ ap children (c .before .wide16 .ensures .0) ∙ group-children (group (c .before .before .before .before .before))
 
 there : (c : tie.Start) → c .args .i < size (c .pre .1 .1 .0 .children)
 there c = counted-child (c .pre .1 .0) (c .pre .1 .1 .0) (c .pre .1 .1 .1) .0
@@ -40,8 +40,8 @@ shared-slice-read-wide16 c = group-long (group (c .before .before .before))
 wide16-requires : tie.Need-wide16-requires
 wide16-requires c κs = search needs
 
-value-of-requires : tie.Need-value-of-requires
-value-of-requires c κs = search needs
+children-of-requires : tie.Need-children-of-requires
+children-of-requires c κs = search needs
 
 child-at-requires : tie.Need-child-at-requires
 child-at-requires c κs =
@@ -69,7 +69,7 @@ asks-spec =
     returns
     shared-slice-read-wide16
     wide16-requires
-    value-of-requires
+    children-of-requires
     child-at-requires
     occurs-around-requires
     returns-2)

@@ -5,20 +5,20 @@ use native.Mathlib.Omega.{arith}
 use borrow.Author.Needs.{needs}
 use lib.Dec.{eqb}
 use lib.ListN.{getD}
-use Rattle.model.specs.Code.{value}
+use Rattle.model.specs.Code.{children}
 use Rattle.model.specs.Forest.{size}
 use Rattle.theory.specs.Spans.{child-at}
-use Rattle.theory.specs.Children.{headed-group, group-value, group-few, group-long}
+use Rattle.theory.specs.Children.{headed-group, group-children, group-few, group-long}
 use Rattle.spread.specs.Assigning.{assign, around}
 use Rattle.spread.proofs.Laws.{child-inside, spread-within, turns-spread}
 use Rattle.spread.proofs.turn.Statement.{statement}
 use Rattle.spread.proofs.turn.Tie as tie
 
 -- The stretch begins with a group of so many children, and the rule is for one of them.
-counted : (c : tie.After-value-of) → c .value-of .result ≡ size (c .before .before .before .before .pre .1 .1 .0 .children)
+counted : (c : tie.After-children-of) → c .children-of .result ≡ size (c .before .before .before .before .pre .1 .1 .0 .children)
 counted c =
     let p = c .before .before .before .before .pre .1 in
-    c .value-of .ensures ∙ ap value (c .before .wide16 .ensures .0) ∙ group-value (headed-group (p .0) (p .1 .0))
+    c .children-of .ensures ∙ ap children (c .before .wide16 .ensures .0) ∙ group-children (headed-group (p .0) (p .1 .0))
 
 within : (c : tie.Start) → c .args .i < size (c .pre .1 .1 .0 .children)
 within c =
@@ -31,8 +31,8 @@ slice-read-wide16 c = let p = c .before .before .pre .1 in group-long (headed-gr
 wide16-requires : tie.Need-wide16-requires
 wide16-requires c κs = search needs
 
-value-of-requires : tie.Need-value-of-requires
-value-of-requires c κs = search needs
+children-of-requires : tie.Need-children-of-requires
+children-of-requires c κs = search needs
 
 child-at-requires : tie.Need-child-at-requires
 child-at-requires c κs =
@@ -76,7 +76,7 @@ turn-spec =
     (tie.spec
     slice-read-wide16
     wide16-requires
-    value-of-requires
+    children-of-requires
     child-at-requires
     child-at-requires-2
     assign-around-requires

@@ -1,17 +1,18 @@
 -- `steps::step` meets its contract: no sheet, no rule, no such place, no step there; and else the step is done.
-use mathlib.Core.Bool.{true, _&&_}
+use mathlib.Core.Bool.{true}
 use mathlib.Core.Path.{_≡_, sym, _∙_}
 use Prim.Native.Nat.{_+_}
 use native.Mathlib.Omega.{arith}
 use borrow.Author.Needs.{needs}
-use borrow.Author.Tests.{not-true, not-false, leb-true}
-use lib.Dec.{leb}
+use borrow.Author.Tests.{not-true, not-false}
 use Rattle.lists.proofs.Lent.{lent-part}
 use Rattle.model.specs.Base.{is-some}
 use Rattle.model.specs.Rules as M
+use Rattle.model.specs.Rules.{is-rule}
 use Rattle.model.specs.Sheet.{is-sheet, nodes-in}
-use Rattle.theory.specs.Logic.{and-split}
+use Rattle.theory.specs.Bounds.{rule-within}
 use Rattle.theory.specs.Places.{Lent, lend, sheet-long, used-here}
+use Rattle.theory.specs.Sheets.{sheet-formed}
 use Rattle.steps.proofs.Laws.{no-sheet, no-rule, no-place, no-step, accepted-step}
 use Rattle.steps.proofs.step.Statement.{statement}
 use Rattle.steps.proofs.step.Tie as tie
@@ -20,14 +21,14 @@ use Rattle.steps.proofs.step.Tie as tie
 good : (c : tie.Else1) → is-sheet (c .before .before .before .before .args .sheet .now) ≡ true
 good c = sym (c .before .is-sheet .ensures) ∙ not-false (c .before .is-sheet .result) (c .if1 .left)
 
-ruled : (c : tie.Else2) → let r = c .before .before .before .before .before .before .args .rule in (leb 1 r && leb r 14) ≡ true
+ruled : (c : tie.Else2) → let r = c .before .before .before .before .before .before .args .rule in is-rule r ≡ true
 ruled c = sym (c .before .is-rule .ensures) ∙ not-false (c .before .is-rule .result) (c .if2 .left)
 
 -- Past the third the place is one of the sheet's nodes, and the stretch from there on can be lent.
 lent : (c : tie.Else3) → let a = c .before .before .before .before .before .before .before .before .before .args in Lent (a .sheet .now) (a .place)
 lent c =
     let a = c .before .before .before .before .before .before .before .before .before .args in
-    lend (a .sheet .now) (good (c .before .before .before .before .before)) (a .place) (omega (arith, used-here (a .sheet .now), c .before .wide16 .ensures .0))
+    lend (a .sheet .now) (sheet-formed _ (good (c .before .before .before .before .before))) (a .place) (omega (arith, used-here (a .sheet .now), c .before .wide16 .ensures .0))
 
 -- What was asked of the stretch is whether the step applies.
 asked : (c : tie.After-applies) → let a = c .before .before .before .before .before .before .before .before .before .before .before .before .args in c .applies .result ≡ is-some (M.step (a .rule) (a .place) (a .i) (a .j) (nodes-in (a .sheet .now)))
@@ -60,7 +61,7 @@ returns-2 c =
     no-rule _ _ _ _ _ (good (c .before .before)) (sym (c .before .is-rule .ensures) ∙ not-true (c .before .is-rule .result) (c .if2 .taken))
 
 slice-read-wide16 : tie.Need-slice-read-wide16
-slice-read-wide16 c = omega (arith, sheet-long _ (good (c .before .before .before)))
+slice-read-wide16 c = omega (arith, sheet-long _ (sheet-formed _ (good (c .before .before .before))))
 
 wide16-requires : tie.Need-wide16-requires
 wide16-requires c κs = search needs
@@ -93,9 +94,9 @@ applies-requires : tie.Need-applies-requires
 applies-requires c κs =
     let d = c .before .before in
     let a = d .before .before .before .before .before .before .before .before .before .args in
-    let r = and-split (leb 1 (a .rule)) (leb (a .rule) 14) (ruled (d .before .before .before)) in
+    let r = rule-within (a .rule) (ruled (d .before .before .before)) in
     rw (lent-part (2 + a .place) (a .sheet .now))
-    ((leb-true 1 (a .rule) (r .0), leb-true (a .rule) 14 (r .1), lent d .long), lent d .stretch)
+    ((r .0, r .1, lent d .long), lent d .stretch)
 
 same-length-4 : tie.Need-same-length-4
 same-length-4 c = search needs
@@ -107,7 +108,7 @@ returns-4 c =
 
 apply-requires : tie.Need-apply-requires
 apply-requires c κs =
-    (good (c .before .before .before .before .before .before .before .before .before .before), applying (c .before))
+    (sheet-formed _ (good (c .before .before .before .before .before .before .before .before .before .before)), applying (c .before))
 
 same-length-5 : tie.Need-same-length-5
 same-length-5 c = search needs

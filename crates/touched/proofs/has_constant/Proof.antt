@@ -5,6 +5,7 @@ use native.Mathlib.Omega.{arith}
 use borrow.Author.Needs.{needs}
 use borrow.Author.Tests.{eqb-false}
 use lib.ListN.{length, getD}
+use Rattle.model.specs.Limits.{sheet-room, sheet-length}
 use Rattle.theory.specs.Logic.{true-false}
 use Rattle.theory.specs.Spans.{arity}
 use Rattle.theory.specs.Places.{lend}
@@ -19,7 +20,7 @@ abbrev μ-loop : tie.MeasureT-loop
 μ-loop sheet sizes place k i₀ at₀ i at = k - i
 
 -- The place is within the sheet.
-placed : (c : tie.Start Inv-loop μ-loop) → (c .args .place < 4096) × (length (c .args .sheet .now) ≡ 4098)
+placed : (c : tie.Start Inv-loop μ-loop) → (c .args .place < sheet-room) × (length (c .args .sheet .now) ≡ sheet-length)
 placed c = let w = lend (c .args .sheet .now) (c .pre .0 .0) (c .args .place) (c .pre .0 .1) in (w .within, w .whole)
 
 counted : (c : tie.After-arity-of Inv-loop μ-loop) → let a = c .before .before .before .before .before .args in c .arity-of .result ≡ arity (getD (a .sheet .now) (2 + a .place) 0)
@@ -29,7 +30,7 @@ counted c = c .arity-of .ensures .0 ∙ ap arity (c .before .wide16 .ensures .0)
 here : (c : tie.In-loop Inv-loop μ-loop) → let a = c .before .before .before .before .before .before .before .args in c .before .loop .i < arity (getD (a .sheet .now) (2 + a .place) 0)
 here c = omega (arith, counted (c .before .before), c .loop-test .taken)
 
-inside : (c : tie.In-loop Inv-loop μ-loop) → c .before .loop .at < 4096
+inside : (c : tie.In-loop Inv-loop μ-loop) → c .before .loop .at < sheet-room
 inside c =
     let b = c .before .before .before .before .before .before .before in
     passed-inside (b .args .sheet .now) (b .pre .0 .0) (b .args .place) (b .pre .0 .1) (c .before .loop .inv) (here c)

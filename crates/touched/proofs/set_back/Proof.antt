@@ -4,8 +4,8 @@ use mathlib.Core.Path.{_≡_, sym, subst, _∙_}
 use Prim.Native.Nat.{_+_, _-_, _≤_, _<_}
 use native.Mathlib.Omega.{arith}
 use lib.ListN.{length, length-set}
+use Rattle.model.specs.Limits.{sheet-room}
 use Rattle.model.specs.Sheet.{nodes-in}
-use Rattle.theory.specs.Sheets.{sheet-facts}
 use Rattle.touched.specs.Touched.{Set-back}
 use Rattle.touched.proofs.Laws.{set-none, set-kept, set-one}
 use Rattle.touched.proofs.set_back.Statement.{statement}
@@ -13,16 +13,16 @@ use Rattle.touched.proofs.set_back.Tie as tie
 
 abbrev Inv-loop : tie.InvT-loop
 Inv-loop sheet sizes low₀ from to place₀ low place =
-    ((from ≤ place) × (place ≤ to)) × (length low ≡ 4096) × Set-back from place (nodes-in sheet) low₀ low
+    ((from ≤ place) × (place ≤ to)) × (length low ≡ sheet-room) × Set-back from place (nodes-in sheet) low₀ low
 
 abbrev μ-loop : tie.MeasureT-loop
 μ-loop sheet sizes low₀ from to place₀ low place = to - place
 
 -- The present place is within the table.
-inside : (c : tie.In-loop Inv-loop μ-loop) → c .before .loop .place < 4096
+inside : (c : tie.In-loop Inv-loop μ-loop) → c .before .loop .place < sheet-room
 inside c =
     let b = c .before .before .before .before .before in
-    omega (arith, b .pre .0 .2, c .loop-test .taken, sheet-facts (b .args .sheet .now) (b .pre .0 .0) .used)
+    omega (arith, b .pre .0 .2, c .loop-test .taken, (b .pre .0 .0) .used)
 
 loop-holds : tie.Need-loop-holds Inv-loop μ-loop
 loop-holds c =
@@ -54,7 +54,7 @@ loop-again c =
     let ns = nodes-in (a .sheet .now) in
     let old = n .loop .low in
     let v = n .loop .inv in
-    let new : (length (c .if1 .low) ≡ 4096) × Set-back (a .from) (n .loop .place + 1) ns (a .low .now) (c .if1 .low) =
+    let new : (length (c .if1 .low) ≡ sheet-room) × Set-back (a .from) (n .loop .place + 1) ns (a .low .now) (c .if1 .low) =
     ⊎-elim
     (λ w. rw (w .1) (length-set old (n .loop .place) 1 ∙ v .1, set-one ns (a .low .now) old (v .2) (v .0 .0) (omega (arith, inside (h .before), v .1))))
     (λ w. rw (w .1) (v .1, set-kept ns (a .low .now) old (v .2) (v .0 .0) (h .has-constant .ensures (w .0 .left))))

@@ -2,7 +2,8 @@
 use mathlib.Core.Option.{none}
 use mathlib.Core.Path.{_≡_, sym, ap, _∙_}
 use borrow.Author.Needs.{needs}
-use Rattle.model.specs.Calls.{book-refusal}
+use Rattle.calls.specs.Chains.{book-refusal}
+use Rattle.call_laws.specs.Books.{accepted-book}
 use Rattle.answers.specs.Meaning.{doneOf}
 use Rattle.transfer.proofs.Calls.{check-none, check-some, load-short, load-refused, load-done}
 use Rattle.transfer.proofs.load.Statement.{statement}
@@ -32,8 +33,8 @@ returns-2 c =
     rw told
     (load-refused (a .book .now) (a .target .now) (c .before .before .before .if1 .left) (check-some (a .book .now) _ (sym told ∙ c .before .before .check .ensures)))
 
-fill-requires : tie.Need-fill-requires
-fill-requires c κs = (accepted-here (c .before), c .before .before .before .before .if1 .left)
+fill-sheet-requires : tie.Need-fill-sheet-requires
+fill-sheet-requires c κs = (accepted-book _ (accepted-here (c .before)), c .before .before .before .before .if1 .left)
 
 same-length : tie.Need-same-length
 same-length c = search needs
@@ -42,7 +43,7 @@ returns-3 : tie.Need-returns-3
 returns-3 c =
     let e = c .before .before .before .before in
     let a = e .before .before .before .before .before .before .args in
-    rw (c .before .before .fill .ensures) (load-done (a .book .now) (a .target .now) (e .before .before .before .if1 .left) (accepted-here e))
+    rw (c .before .before .fill-sheet .ensures) (load-done (a .book .now) (a .target .now) (e .before .before .before .if1 .left) (accepted-here e))
 
 pub load-spec : {M : Type 1} → statement M
 load-spec =
@@ -53,6 +54,6 @@ load-spec =
     enum-told
     enum-told-2
     returns-2
-    fill-requires
+    fill-sheet-requires
     same-length
     returns-3)

@@ -7,13 +7,15 @@ use native.Mathlib.Omega.{arith}
 use borrow.Author.Tests.{not-true, not-false}
 use borrow.Author.Needs.{needs}
 use lib.ListN.{length, getD}
-use Rattle.model.specs.Code.{value}
+use Rattle.model.specs.Code.{children}
 use Rattle.model.specs.Sheet.{options-in, used-in, is-sheet}
 use Rattle.model.specs.Book.{options-of, written}
-use Rattle.model.specs.Calls.{book-refusal}
+use Rattle.calls.specs.Chains.{book-refusal}
+use Rattle.call_laws.specs.Books.{accepted-book}
 use Rattle.answers.specs.Meaning.{doneOf}
-use Rattle.transfer.proofs.Loaded.{head-of}
-use Rattle.transfer.proofs.Written.{length-written}
+use Rattle.theory.specs.Sheets.{sheet-formed}
+use Rattle.loading.proofs.Loaded.{head-of}
+use Rattle.writing.proofs.Written.{length-written}
 use Rattle.transfer.proofs.Calls.{check-none, check-some, write-none, write-refused, write-other, write-short, write-done}
 use Rattle.transfer.proofs.write.Statement.{statement}
 use Rattle.transfer.proofs.write.Tie as tie
@@ -30,10 +32,10 @@ same-here : (c : tie.Else2) → let a = c .before .before .before .before .befor
 unfolding options-of
 same-here c = sym (c .before .before .word-at .ensures) ∙ c .if2 .left ∙ c .before .options-in .ensures .0
 
-length-here : (c : tie.Else2) → let a = c .before .before .before .before .before .before .before .before .before .before .before .args in length (written (a .sheet .now) (a .book .now)) ≡ 8 + (13 * options-in (a .sheet .now) + (4 * value (getD (a .sheet .now) 2 0) + 2 * (used-in (a .sheet .now) - 1)))
+length-here : (c : tie.Else2) → let a = c .before .before .before .before .before .before .before .before .before .before .before .args in length (written (a .sheet .now) (a .book .now)) ≡ 8 + (13 * options-in (a .sheet .now) + (4 * children (getD (a .sheet .now) 2 0) + 2 * (used-in (a .sheet .now) - 1)))
 length-here c =
     let a = c .before .before .before .before .before .before .before .before .before .before .before .args in
-    length-written (a .sheet .now) (a .book .now) (sheet-here (c .before .before .before .before .before .before)) (accepted-here (c .before .before .before)) (same-here c)
+    length-written (a .sheet .now) (a .book .now) (sheet-formed _ (sheet-here (c .before .before .before .before .before .before))) (accepted-book _ (accepted-here (c .before .before .before))) (same-here c)
 
 is-sheet-requires : tie.Need-is-sheet-requires
 is-sheet-requires c κs = search needs
@@ -60,10 +62,10 @@ enum-told : tie.Need-enum-told
 enum-told c = search needs
 
 word-at-requires : tie.Need-word-at-requires
-word-at-requires c κs = omega (arith, head-of (c .before .before .before .before .before .before .before .before .args .book .now) (accepted-here c))
+word-at-requires c κs = omega (arith, head-of (c .before .before .before .before .before .before .before .before .args .book .now) (accepted-book _ (accepted-here c)))
 
 options-in-requires : tie.Need-options-in-requires
-options-in-requires c κs = sheet-here (c .before .before .before .before)
+options-in-requires c κs = sheet-formed _ (sheet-here (c .before .before .before .before))
 
 returns-3 : tie.Need-returns-3
 unfolding options-of
@@ -73,7 +75,7 @@ returns-3 c =
     (λ e. c .if2 .taken (c .before .before .word-at .ensures ∙ e ∙ sym (c .before .options-in .ensures .0)))
 
 written-length-requires : tie.Need-written-length-requires
-written-length-requires c κs = sheet-here (c .before .before .before .before .before .before)
+written-length-requires c κs = sheet-formed _ (sheet-here (c .before .before .before .before .before .before))
 
 returns-4 : tie.Need-returns-4
 returns-4 c =
@@ -86,7 +88,7 @@ put-book-requires : tie.Need-put-book-requires
 put-book-requires c κs =
     let e = c .before .before .before in
     let long = length-here e in
-    (sheet-here (e .before .before .before .before .before .before), ((accepted-here (e .before .before .before), same-here e), omega arith))
+    (sheet-formed _ (sheet-here (e .before .before .before .before .before .before)), ((accepted-book _ (accepted-here (e .before .before .before)), same-here e), omega arith))
 
 same-length : tie.Need-same-length
 same-length c = search needs

@@ -3,20 +3,20 @@ use mathlib.Core.Path.{_≡_, ap, _∙_}
 use Prim.Native.Nat.{_+_, _≤_, _<_}
 use native.Mathlib.Omega.{arith}
 use borrow.Author.Needs.{needs}
+use Rattle.model.specs.Limits.{sheet-room, last-rule}
 use Rattle.model.specs.Sheet.{nodes-in}
-use Rattle.theory.specs.Sheets.{sheet-facts}
 use Rattle.locality.specs.Zones.{tree-end}
 use Rattle.zones.proofs.OnSheet.{within, rules, child, end-by, zone-1, zone-4, zone-7, zone-14}
 use Rattle.zones.proofs.zone_of.Statement.{statement}
 use Rattle.zones.proofs.zone_of.Tie as tie
 
 -- The place is one of the nodes.
-here : (c : tie.Start) → (c .args .place < 4096) × (1 ≤ c .args .rule) × (c .args .rule ≤ 14)
+here : (c : tie.Start) → (c .args .place < sheet-room) × (1 ≤ c .args .rule) × (c .args .rule ≤ last-rule)
 here c =
     let a = c .args in
     let w = within (a .sheet .now) (c .pre .0) (a .rule) (a .place) (a .i) (a .j) (c .pre .1 .0) in
     let r = rules (a .sheet .now) (c .pre .0) (a .rule) (a .place) (a .i) (a .j) (c .pre .1 .0) in
-    (omega (arith, w, sheet-facts (a .sheet .now) (c .pre .0) .used), r .0, r .1)
+    (omega (arith, w, (c .pre .0) .used), r .0, r .1)
 
 ended : (c : tie.After-wide16) → let a = c .before .before .before .before .before .args in a .place + c .wide16 .result ≡ tree-end (a .place) (nodes-in (a .sheet .now))
 ended c =

@@ -1,0 +1,19 @@
+-- Meaning, as lists of calls keep it: valuations and models; the rules keep them; rules in another order have the same.
+pub mod Totals
+pub mod Valuations
+pub mod Soundness
+pub mod Reordered
+-- Where no rule applies.
+pub mod Calm
+pub mod Standing
+pub mod Still
+pub mod Failing
+pub mod Normal
+-- Refusals: a book's test by test; what is known where a call is accepted.
+pub mod Books
+pub mod Accepted
+-- What each call does, and what a list of calls does: the account is kept; a settled run leaves a normal form.
+pub mod Effects
+pub mod Settled
+-- Loading and writing, in terms of the calls.
+pub mod RoundTrips

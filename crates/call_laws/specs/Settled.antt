@@ -1,0 +1,64 @@
+-- A list of calls that ends in a settled run leaves a sheet in normal form.
+use mathlib.Core.Bool.{true}
+use mathlib.Core.List.{List, [], _∷_}
+use mathlib.Core.Logic.{_⊎_, inl, inr, _↔_}
+use mathlib.Core.Path.{_≡_, sym, ap, subst}
+use Prim.Native.Nat.{ℕ}
+use Rattle.model.specs.Literal.{Literal}
+use Rattle.model.specs.Forest.{root, or, Forest, nil, node, constant, kids, has-unit}
+use Rattle.model.specs.Code.{encode}
+use Rattle.model.specs.Clauses.{Derived, Contradictory, clauses}
+use Rattle.model.specs.Rules.{NoRule}
+use Rattle.model.specs.Sheet.{options-in, nodes-in, is-sheet, clauses-in, is-unit, Falsum}
+use Rattle.calls.specs.Outcomes.{if-accepted}
+use Rattle.calls.specs.History.{Call, choose, step, run, State, after-call, after-calls, Account, account-call, says-settled, ends-settled}
+use Rattle.theory.specs.Logic.{true-false}
+use Rattle.theory.specs.Clauses.{clauses-root}
+use Rattle.theory.specs.Shape.{fine-no-root, shaped-decode}
+use Rattle.call_laws.specs.Normal.{normal-form, falsum-contradictory}
+use Rattle.theory.specs.Runs.{run-settled}
+use Rattle.theory.specs.Sheets.{sheet-shaped}
+use Rattle.call_laws.specs.Effects.{Keeps, call-effect, run-outcome, run-leaves}
+
+-- A run that says settled leaves a sheet to which no rule applies.
+settled-call : (c : Call) (t : State) → is-sheet (t .sheet) ≡ true → says-settled c t ≡ true → NoRule (nodes-in (after-call c t .sheet))
+unfolding says-settled after-call if-accepted
+settled-call (choose v negative) t h e = true-false (sym e)
+settled-call (step r p i j) t h e = true-false (sym e)
+settled-call (run b) t h e =
+    let s = t .sheet in
+    let said = run-outcome s b h in
+    rw (said, after-call) (subst NoRule (sym (run-leaves s b h)) (run-settled b (nodes-in s) .0 (rw said at e)))
+
+pub ends-no-rule : (cs : List Call) (t : State) (a : Account) → Keeps a (t .sheet) → ends-settled cs t ≡ true → NoRule (nodes-in (after-calls cs t .sheet))
+unfolding ends-settled after-calls
+ends-no-rule [] t a h e = true-false (sym e)
+ends-no-rule (c ∷ []) t a h e = settled-call c t (h .sheet) e
+ends-no-rule (c ∷ (d ∷ cs)) t a h e =
+    ends-no-rule (d ∷ cs) (after-call c t) (account-call c t a) (call-effect c t a h .keeps) e
+
+-- A root in normal form is the falsum exactly if it is contradictory, and otherwise its units are the derived literals.
+abbrev Normal : Forest → Type 0
+Normal f =
+    ((f ≡ node root (constant or) nil) ↔ Contradictory (clauses root f))
+    × ((Contradictory (clauses root f) → ⊥) → (l : Literal) → (has-unit l (kids f) ≡ true) ↔ Derived (clauses root f) l)
+
+falsum-normal : Contradictory (clauses root (node root (constant or) nil))
+falsum-normal = rw (clauses-root (constant or)) falsum-contradictory
+
+root-normal : (k : Forest) → (k ≡ constant or) ⊎ ((Contradictory (clauses root k) → ⊥) × ((l : Literal) → (has-unit l k ≡ true) ↔ Derived (clauses root k) l)) → Normal (node root k nil)
+unfolding kids
+root-normal k (inl e) =
+    let conflict : Contradictory (clauses root (node root k nil)) = rw e falsum-normal in
+    (((λ q. conflict), λ c. ap (λ x. node root x nil) e), λ no. absurd (no conflict))
+root-normal k (inr w) =
+    rw (clauses-root k)
+    (((λ q. subst (λ x. Contradictory (clauses root x)) (sym (ap kids q)) falsum-contradictory), λ c. absurd (w .0 c)), λ no. w .1)
+
+-- Where no rule applies to a sheet, it is the falsum exactly if contradictory, and otherwise its units are the derived literals.
+pub sheet-normal : (s : List ℕ) → is-sheet s ≡ true → NoRule (nodes-in s) → (Falsum s ↔ Contradictory (clauses-in s)) × ((Contradictory (clauses-in s) → ⊥) → (l : Literal) → (is-unit l s ≡ true) ↔ Derived (clauses-in s) l)
+unfolding clauses-in is-unit
+sheet-normal s h calm =
+    let form = sheet-shaped s h in
+    let here : NoRule (encode (node root (form .kids) nil)) = subst NoRule (form .spelled) calm in
+    subst Normal (sym (shaped-decode form)) (root-normal (form .kids) (normal-form (options-in s) (form .kids) (form .fine) here))

@@ -1,0 +1,62 @@
+-- What each call answers, and what each lent buffer holds after it.
+use mathlib.Core.Bool.{Bool}
+use mathlib.Core.List.{List}
+use Prim.Native.Nat.{ℕ}
+use lib.ListN.{length}
+use Rattle.model.specs.Base.{maybe, placed}
+use Rattle.model.specs.Literal.{literal}
+use Rattle.model.specs.Propagation.{Report, complete}
+use Rattle.model.specs.Strategy.{run}
+use Rattle.model.specs.Sheet.{nodes-in, sheet-of, report-in}
+use Rattle.model.specs.Results.{appended, stepped, run-through}
+use Rattle.model.specs.Book.{options-of, codes-of, book-nodes, written, option-of-code}
+use Rattle.calls.specs.Outcomes.{Answer, answer, Outcome, outcome}
+use Rattle.calls.specs.Chains.{book-refusal, lookup-refusal, load-refusal, write-refusal, report-refusal, complete-refusal, choose-refusal, step-refusal, run-refusal}
+
+-- The book check.
+unfoldable pub checkOf : List ℕ → Answer (Unit {0})
+checkOf b = answer (book-refusal b) tt
+
+-- The code lookup: "one that equals no code of the book, an empty or over-long one too, is refused 7".
+unfoldable pub lookupOf : List ℕ → List ℕ → Answer ℕ
+lookupOf b code = answer (lookup-refusal b code) (maybe 0 (λ v. v) (option-of-code code 0 (codes-of b)))
+
+-- The loader: "the target need only be 4,098 long, else 11; it is wholly filled".
+unfoldable pub loadOf : List ℕ → List ℕ → Outcome (List ℕ) (Unit {0})
+loadOf book target =
+    outcome (load-refusal book target) tt target (sheet-of (options-of book) (book-nodes book))
+
+-- The writer: "fills from the start and returns the length; bytes beyond stay".
+unfoldable pub writeOf : List ℕ → List ℕ → List ℕ → Outcome (List ℕ) ℕ
+writeOf s book out =
+    outcome (write-refusal s book out) (length (written s book)) out (placed (written s book) out)
+
+-- "A report writes N bytes", and "contradictory, which its result says too".
+unfoldable pub reportOf : List ℕ → List ℕ → Outcome (List ℕ) Bool
+reportOf s out = outcome (report-refusal s out) (report-in s .contradictory) out (report-in s .marks)
+
+-- The "complete" question.
+unfoldable pub completeOf : List ℕ → Answer Bool
+completeOf s = answer (complete-refusal s) (complete (report-in s))
+
+-- A choice.
+unfoldable pub chooseOf : List ℕ → ℕ → Bool → Outcome (List ℕ) (Unit {0})
+chooseOf s v negative =
+    outcome (choose-refusal s v) tt s (appended s (literal v negative))
+
+-- A single step.
+unfoldable pub stepOf : List ℕ → ℕ → ℕ → ℕ → ℕ → Outcome (List ℕ) (Unit {0})
+stepOf s rule place i j = outcome (step-refusal s rule place i j) tt s (stepped s rule place i j)
+
+-- A run: settled or stopped, and the count.
+pub record Ran : Type 0 where
+  pub settled : Bool
+  pub count : ℕ
+
+unfoldable pub runOf : List ℕ → ℕ → Outcome (List ℕ) Ran
+runOf s budget =
+    outcome
+    (run-refusal s)
+    (record { settled = run budget (nodes-in s) .settled; count = run budget (nodes-in s) .count })
+    s
+    (run-through s budget)

@@ -1,0 +1,63 @@
+-- The refusals of each call in their order: "11 for the sheet; the book as 1 (under 8), 2, 1, 3, 4, 5, 6; 11 for N; then 7, 8, 9, 10;
+-- last 12". The first that is due is the call's answer.
+use mathlib.Core.Bool.{Bool, not}
+use mathlib.Core.List.{List}
+use mathlib.Core.Option.{Option}
+use Prim.Native.Nat.{ℕ}
+use lib.ListN.{length}
+use Rattle.model.specs.Rules.{is-rule}
+use Rattle.model.specs.Sheet.{options-in, is-sheet}
+use Rattle.model.specs.Book.{head-in-limits, written}
+use Rattle.calls.specs.Refusals
+use Rattle.calls.specs.Refusals.{Refusal, length-refused, head-refused, code-refused, contents-refused, body-refused, weight-refused, option-refused, full-refused, rule-refused, step-refused, sheet-refused, output-refused, due, _or-else_}
+use Rattle.calls.specs.Conditions.{lacks-head, is-length-due, has-good-codes, has-good-contents, has-good-bodies, is-light, has-option, has-code, is-full, applies, is-book-of, is-long-enough, is-shorter, is-exactly}
+
+-- What is tested of a book once its head and its length are right.
+unfoldable pub part-refusal : List ℕ → Option Refusal
+part-refusal b =
+    due (not (has-good-codes b)) code-refused
+    or-else due (not (has-good-contents b)) contents-refused
+    or-else due (not (has-good-bodies b)) body-refused
+    or-else due (not (is-light b)) weight-refused
+
+unfoldable pub book-refusal : List ℕ → Option Refusal
+book-refusal b =
+    due (lacks-head b) length-refused
+    or-else due (not (head-in-limits b)) head-refused
+    or-else due (not (is-length-due b)) length-refused
+    or-else part-refusal b
+
+unfoldable pub lookup-refusal : List ℕ → List ℕ → Option Refusal
+lookup-refusal b code = book-refusal b or-else due (not (has-code b code)) option-refused
+
+unfoldable pub load-refusal : List ℕ → List ℕ → Option Refusal
+load-refusal b target = due (not (is-long-enough target)) sheet-refused or-else book-refusal b
+
+unfoldable pub write-refusal : List ℕ → List ℕ → List ℕ → Option Refusal
+write-refusal s b out =
+    due (not (is-sheet s)) sheet-refused
+    or-else book-refusal b
+    or-else due (not (is-book-of s b)) sheet-refused
+    or-else due (is-shorter out (length (written s b))) output-refused
+
+unfoldable pub report-refusal : List ℕ → List ℕ → Option Refusal
+report-refusal s out =
+    due (not (is-sheet s)) sheet-refused or-else due (not (is-exactly out (options-in s))) output-refused
+
+unfoldable pub complete-refusal : List ℕ → Option Refusal
+complete-refusal s = due (not (is-sheet s)) sheet-refused
+
+unfoldable pub choose-refusal : List ℕ → ℕ → Option Refusal
+choose-refusal s v =
+    due (not (is-sheet s)) sheet-refused
+    or-else due (not (has-option s v)) option-refused
+    or-else due (is-full s) full-refused
+
+unfoldable pub step-refusal : List ℕ → ℕ → ℕ → ℕ → ℕ → Option Refusal
+step-refusal s rule place i j =
+    due (not (is-sheet s)) sheet-refused
+    or-else due (not (is-rule rule)) rule-refused
+    or-else due (not (applies s rule place i j)) step-refused
+
+unfoldable pub run-refusal : List ℕ → Option Refusal
+run-refusal s = due (not (is-sheet s)) sheet-refused
