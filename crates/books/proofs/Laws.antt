@@ -1,5 +1,5 @@
 -- What the book check computes, test by test.
-use mathlib.Core.Bool.{Bool, true, false, not, _&&_}
+use mathlib.Core.Bool.{Bool, true, false, _&&_}
 use mathlib.Core.List.{List, map}
 use mathlib.Core.Option.{Option, none, some}
 use mathlib.Core.Path.{_≡_, refl, sym, ap, _∙_}
@@ -15,6 +15,7 @@ use Rattle.model.specs.Limits.{most-options, most-rules, most-nodes, most-weigh
 use Rattle.model.specs.Book.{word, words, entries, pieces, cut, codes-ok, option-of-code, in-line, body-ok, options-of, rules-of, size-of, head-in-limits, codes-end, contents-end, length-due, codes-of, contents-of, numbers-of, bodies-of, book-nodes}
 use Rattle.calls.specs.Refusals.{Refusal, code-refused, contents-refused, body-refused, weight-refused, option-refused}
 use Rattle.calls.specs.Outcomes.{refused, accepted, answer}
+use Rattle.calls.specs.Conditions.{has-good-codes, has-good-contents, has-good-bodies}
 use Rattle.calls.specs.Chains.{part-refusal, book-refusal, lookup-refusal}
 use Rattle.calls.specs.Calls.{checkOf, lookupOf}
 use Rattle.answers.specs.declared.Refusal.{Refusal as Why}
@@ -68,40 +69,52 @@ module _ (b : List ℕ) (n m t : ℕ) (pn : n ≡ word b 0) (pm : m ≡ word b 2
 abbrev pub rest : List ℕ → ℕ → List ℕ
 rest b a = take (length b - a) (drop a b)
 
--- The refusal by the answers to the four tests: the codes, the contents, the bodies, the weight.
-unfoldable pub by-tests : Bool → Bool → Bool → ℕ → Option Refusal
-by-tests codes contents bodies w =
-    first-of
-    (only-if (not codes) code-refused)
-    (first-of
-    (only-if (not contents) contents-refused)
-    (first-of (only-if (not bodies) body-refused) (only-if (not (leb w most-weight)) weight-refused)))
-
+-- The four tests as they are made, on the parts that are lent: the codes, the contents, the bodies, the weight.
 module _ {b : List ℕ} {n m t : ℕ} (s : Sized b n m t) where
-  pub tests-are : {x y z : Bool} {q : ℕ} → x ≡ codes-ok (pieces 13 n (rest b 8)) → y ≡ in-line t 0 (entries m (rest b (8 + 13 * n))) → z ≡ all (body-ok n) (cut (entries m (rest b (8 + 13 * n))) (words t (rest b (8 + 13 * n + 4 * m)))) → q ≡ literals (map node-of (words t (rest b (8 + 13 * n + 4 * m)))) → by-tests x y z (1 + t + q) ≡ part-refusal b
-  unfolding part-refusal by-tests options-of size-of
-  tests-are p q r w =
-      rw (p, q, r, w, part-to-end b 8, part-to-end b (8 + 13 * n), part-to-end b (8 + 13 * n + 4 * m), codes-are b n m t (s .options) (s .rules) (s .nodes), contents-are b n m t (s .options) (s .rules) (s .nodes), bodies-are b n m t (s .options) (s .rules) (s .nodes), weight-is b n m t (s .options) (s .rules) (s .nodes), ← s .options, ← s .nodes)
+  pub codes-test : {x : Bool} → x ≡ codes-ok (pieces 13 n (rest b 8)) → has-good-codes b ≡ x
+  codes-test e =
+      rw (codes-are b n m t (s .options) (s .rules) (s .nodes)) (sym (rw (part-to-end b 8) at e))
 
-pub codes-bad : (y z : Bool) (w : ℕ) → some code-refused ≡ by-tests false y z w
-unfolding by-tests first-of only-if
-codes-bad y z w = refl
+  pub contents-test : {x : Bool} → x ≡ in-line t 0 (entries m (rest b (8 + 13 * n))) → has-good-contents b ≡ x
+  unfolding size-of
+  contents-test e =
+      rw (contents-are b n m t (s .options) (s .rules) (s .nodes), ← s .nodes) (sym (rw (part-to-end b (8 + 13 * n)) at e))
 
-pub contents-bad : (z : Bool) (w : ℕ) → some contents-refused ≡ by-tests true false z w
-unfolding by-tests first-of only-if
-contents-bad z w = refl
+  pub bodies-test : {x : Bool} → x ≡ all (body-ok n) (cut (entries m (rest b (8 + 13 * n))) (words t (rest b (8 + 13 * n + 4 * m)))) → has-good-bodies b ≡ x
+  unfolding options-of
+  bodies-test e =
+      rw (bodies-are b n m t (s .options) (s .rules) (s .nodes), ← s .options)
+      (sym (rw (part-to-end b (8 + 13 * n), part-to-end b (8 + 13 * n + 4 * m)) at e))
 
-pub bodies-bad : (w : ℕ) → some body-refused ≡ by-tests true true false w
-unfolding by-tests first-of only-if
-bodies-bad w = refl
+  pub weight-test : {q : ℕ} → q ≡ literals (map node-of (words t (rest b (8 + 13 * n + 4 * m)))) → weight (book-nodes b) ≡ 1 + t + q
+  weight-test e =
+      weight-is b n m t (s .options) (s .rules) (s .nodes)
+      ∙ ap (λ q. 1 + t + q) (sym (rw (part-to-end b (8 + 13 * n + 4 * m)) at e))
 
-pub weight-bad : (w : ℕ) → most-weight < w → some weight-refused ≡ by-tests true true true w
-unfolding by-tests first-of only-if
-weight-bad w h = rw (lt-leb w most-weight h)
+-- The refusal by their answers.
+module _ (b : List ℕ) where
+  pub codes-bad : has-good-codes b ≡ false → some code-refused ≡ part-refusal b
+  unfolding part-refusal first-of only-if
+  codes-bad h = rw h
 
-pub all-good : (w : ℕ) → w ≤ most-weight → none ≡ by-tests true true true w
-unfolding by-tests first-of only-if
-all-good w h = rw (le-leb w most-weight h)
+  module _ (codes : has-good-codes b ≡ true) where
+    pub contents-bad : has-good-contents b ≡ false → some contents-refused ≡ part-refusal b
+    unfolding part-refusal first-of only-if
+    contents-bad h = rw (codes, h)
+
+    module _ (contents : has-good-contents b ≡ true) where
+      pub bodies-bad : has-good-bodies b ≡ false → some body-refused ≡ part-refusal b
+      unfolding part-refusal first-of only-if
+      bodies-bad h = rw (codes, contents, h)
+
+      module _ (bodies : has-good-bodies b ≡ true) where
+        pub weight-bad : most-weight < weight (book-nodes b) → some weight-refused ≡ part-refusal b
+        unfolding part-refusal first-of only-if
+        weight-bad h = rw (codes, contents, bodies, lt-leb (weight (book-nodes b)) most-weight h)
+
+        pub all-good : weight (book-nodes b) ≤ most-weight → none ≡ part-refusal b
+        unfolding part-refusal first-of only-if
+        all-good h = rw (codes, contents, bodies, le-leb (weight (book-nodes b)) most-weight h)
 
 -- There are no more literals than nodes.
 pub few-literals : (t : ℕ) (l : List ℕ) {q : ℕ} → q ≡ literals (map node-of (words t l)) → q ≤ t

@@ -5,7 +5,7 @@ use Prim.Native.Nat.{ℕ}
 use lib.ListN.{length}
 use Rattle.model.specs.Base.{maybe, placed}
 use Rattle.model.specs.Literal.{literal}
-use Rattle.model.specs.Propagation.{Report, complete}
+use Rattle.model.specs.Propagation.{complete}
 use Rattle.model.specs.Strategy.{run}
 use Rattle.model.specs.Sheet.{nodes-in, sheet-of, report-in}
 use Rattle.model.specs.Results.{appended, stepped, run-through}

@@ -1,6 +1,6 @@
 -- The refusals of each call in their order: "11 for the sheet; the book as 1 (under 8), 2, 1, 3, 4, 5, 6; 11 for N; then 7, 8, 9, 10;
 -- last 12". The first that is due is the call's answer.
-use mathlib.Core.Bool.{Bool, not}
+use mathlib.Core.Bool.{not}
 use mathlib.Core.List.{List}
 use mathlib.Core.Option.{Option}
 use Prim.Native.Nat.{ℕ}
@@ -8,7 +8,6 @@ use lib.ListN.{length}
 use Rattle.model.specs.Rules.{is-rule}
 use Rattle.model.specs.Sheet.{options-in, is-sheet}
 use Rattle.model.specs.Book.{head-in-limits, written}
-use Rattle.calls.specs.Refusals
 use Rattle.calls.specs.Refusals.{Refusal, length-refused, head-refused, code-refused, contents-refused, body-refused, weight-refused, option-refused, full-refused, rule-refused, step-refused, sheet-refused, output-refused, due, _or-else_}
 use Rattle.calls.specs.Conditions.{lacks-head, is-length-due, has-good-codes, has-good-contents, has-good-bodies, is-light, has-option, has-code, is-full, applies, is-book-of, is-long-enough, is-shorter, is-exactly}
 

@@ -7,7 +7,7 @@ use lib.ListN.{replicate}
 use Rattle.model.specs.Base.{pick}
 use Rattle.model.specs.Limits.{sheet-length}
 use Rattle.model.specs.Book.{options-of, codes-of, characters}
-use Rattle.calls.specs.Refusals.{Refusal, refusal-number, option-refused}
+use Rattle.calls.specs.Refusals.{refusal-number, option-refused}
 use Rattle.calls.specs.Outcomes.{Answer, refused, accepted, Outcome}
 use Rattle.calls.specs.Calls.{Ran, lookupOf, loadOf, chooseOf, runOf, reportOf}
 

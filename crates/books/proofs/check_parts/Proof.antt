@@ -1,9 +1,11 @@
 -- `books::check_parts` meets its contract: the first test that fails decides, and the tests before it held.
-use mathlib.Core.Path.{refl, sym, _∙_}
+use mathlib.Core.Bool.{true}
+use mathlib.Core.Path.{_≡_, sym, _∙_}
 use native.Mathlib.Omega.{arith}
 use borrow.Author.Needs.{needs}
 use borrow.Author.Tests.{not-true, not-false}
-use Rattle.books.proofs.Laws.{tests-are, codes-bad, contents-bad, bodies-bad, weight-bad, all-good, few-literals}
+use Rattle.calls.specs.Conditions.{has-good-codes, has-good-contents, has-good-bodies}
+use Rattle.books.proofs.Laws.{codes-test, contents-test, bodies-test, weight-test, codes-bad, contents-bad, bodies-bad, weight-bad, all-good, few-literals}
 use Rattle.books.proofs.check_parts.Statement.{statement}
 use Rattle.books.proofs.check_parts.Tie as tie
 
@@ -31,10 +33,24 @@ part-are-codes-end c = search needs
 are-codes-requires : tie.Need-are-codes-requires
 are-codes-requires c κs = search needs
 
+-- The tests that are passed, and what each says of the book.
+good-codes : (c : tie.Else1) → has-good-codes (c .before .before .before .before .args .book .now) ≡ true
+good-codes c =
+    codes-test (c .before .before .before .before .pre) (c .before .are-codes .ensures) ∙ not-false (c .before .are-codes .result) (c .if1 .left)
+
+good-contents : (c : tie.Else2) → has-good-contents (c .before .before .before .before .before .before .before .args .book .now) ≡ true
+good-contents c =
+    contents-test (c .before .before .before .before .before .before .before .pre) (c .before .are-in-line .ensures)
+    ∙ not-false (c .before .are-in-line .result) (c .if2 .left)
+
+good-bodies : (c : tie.Else3) → has-good-bodies (c .before .before .before .before .before .before .before .before .before .before .before .args .book .now) ≡ true
+good-bodies c =
+    bodies-test (c .before .before .before .before .before .before .before .before .before .before .before .pre) (c .before .are-bodies .ensures)
+    ∙ not-false (c .before .are-bodies .result) (c .if3 .left)
+
 returns : tie.Need-returns
 returns c =
-    let s = c .before .before .before .before .pre in
-    codes-bad _ _ _ ∙ tests-are s (sym (not-true (c .before .are-codes .result) (c .if1 .taken)) ∙ c .before .are-codes .ensures) refl refl refl
+    codes-bad _ (codes-test (c .before .before .before .before .pre) (c .before .are-codes .ensures) ∙ not-true (c .before .are-codes .result) (c .if1 .taken))
 
 sub-are-in-line : tie.Need-sub-are-in-line
 sub-are-in-line c = search needs
@@ -51,12 +67,7 @@ are-in-line-requires c κs = search needs
 returns-2 : tie.Need-returns-2
 returns-2 c =
     let d = c .before .before .before in
-    contents-bad _ _
-    ∙ tests-are (d .before .before .before .before .pre)
-    (sym (not-false (d .before .are-codes .result) (d .if1 .left)) ∙ d .before .are-codes .ensures)
-    (sym (not-true (c .before .are-in-line .result) (c .if2 .taken)) ∙ c .before .are-in-line .ensures)
-    refl
-    refl
+    contents-bad _ (good-codes d) (contents-test (d .before .before .before .before .pre) (c .before .are-in-line .ensures) ∙ not-true (c .before .are-in-line .result) (c .if2 .taken))
 
 sub-are-bodies : tie.Need-sub-are-bodies
 sub-are-bodies c = search needs
@@ -85,12 +96,7 @@ returns-3 : tie.Need-returns-3
 returns-3 c =
     let e = c .before .before .before .before in
     let d = e .before .before .before in
-    bodies-bad _
-    ∙ tests-are (d .before .before .before .before .pre)
-    (sym (not-false (d .before .are-codes .result) (d .if1 .left)) ∙ d .before .are-codes .ensures)
-    (sym (not-false (e .before .are-in-line .result) (e .if2 .left)) ∙ e .before .are-in-line .ensures)
-    (sym (not-true (c .before .are-bodies .result) (c .if3 .taken)) ∙ c .before .are-bodies .ensures)
-    refl
+    bodies-bad _ (good-codes d) (good-contents e) (bodies-test (d .before .before .before .before .pre) (c .before .are-bodies .ensures) ∙ not-true (c .before .are-bodies .result) (c .if3 .taken))
 
 add-if4 : tie.Need-add-if4
 add-if4 c = search needs
@@ -115,24 +121,14 @@ returns-4 c =
     let f = c .before .before .before in
     let e = f .before .before .before .before in
     let d = e .before .before .before in
-    weight-bad _ (c .if4 .taken)
-    ∙ tests-are (d .before .before .before .before .pre)
-    (sym (not-false (d .before .are-codes .result) (d .if1 .left)) ∙ d .before .are-codes .ensures)
-    (sym (not-false (e .before .are-in-line .result) (e .if2 .left)) ∙ e .before .are-in-line .ensures)
-    (sym (not-false (f .before .are-bodies .result) (f .if3 .left)) ∙ f .before .are-bodies .ensures)
-    (c .before .count-literals .ensures)
+    weight-bad _ (good-codes d) (good-contents e) (good-bodies f) (omega (arith, c .if4 .taken, weight-test (d .before .before .before .before .pre) (c .before .count-literals .ensures)))
 
 returns-5 : tie.Need-returns-5
 returns-5 c =
     let f = c .before .before .before in
     let e = f .before .before .before .before in
     let d = e .before .before .before in
-    all-good _ (c .if4 .left)
-    ∙ tests-are (d .before .before .before .before .pre)
-    (sym (not-false (d .before .are-codes .result) (d .if1 .left)) ∙ d .before .are-codes .ensures)
-    (sym (not-false (e .before .are-in-line .result) (e .if2 .left)) ∙ e .before .are-in-line .ensures)
-    (sym (not-false (f .before .are-bodies .result) (f .if3 .left)) ∙ f .before .are-bodies .ensures)
-    (c .before .count-literals .ensures)
+    all-good _ (good-codes d) (good-contents e) (good-bodies f) (omega (arith, c .if4 .left, weight-test (d .before .before .before .before .pre) (c .before .count-literals .ensures)))
 
 pub check-parts-spec : {M : Type 1} → statement M
 check-parts-spec =
