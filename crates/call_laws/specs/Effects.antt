@@ -79,6 +79,10 @@ steps-leave s h t =
     let form = sheet-shaped s h in
     nodes-made (sheet-options s h) (steps-shaped form t) (omega (arith, sheet-weight s h, steps-weight form t))
 
+-- It is no heavier than the sheet that they were done on.
+pub steps-lighter : (s : List ℕ) {k : ℕ} {ms : List Node} → is-sheet s ≡ true → Steps k (nodes-in s) ms → weight (nodes-in (sheet-of (options-in s) ms)) ≤ weight (nodes-in s)
+steps-lighter s h t = rw (steps-leave s h t) (steps-weight (sheet-shaped s h) t)
+
 -- Steps done on a sheet.
 stepped-effect : (t : State) (a : Account) {k : ℕ} {ms : List Node} → Keeps a (t .sheet) → Steps k (nodes-in (t .sheet)) ms → Effect t (record { sheet = sheet-of (options-in (t .sheet)) ms }) a true k
 unfolding clauses-in
@@ -221,3 +225,9 @@ pub kept-book : (cs : List Call) (t : State) (a : Account) → account-calls cs 
 unfolding account-calls
 kept-book [] t a = refl
 kept-book (c ∷ cs) t a = kept-book cs (after-call c t) (account-call c t a) ∙ kept-book-call c t a
+
+-- One list of calls after another.
+pub after-append : (cs ds : List Call) (t : State) → after-calls (cs ++ ds) t ≡ after-calls ds (after-calls cs t)
+unfolding after-calls
+after-append [] ds t = refl
+after-append (c ∷ cs) ds t = after-append cs ds (after-call c t)

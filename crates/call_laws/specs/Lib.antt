@@ -9,7 +9,8 @@ pub mod Standing
 pub mod Still
 pub mod Failing
 pub mod Normal
--- Refusals: a book's test by test; what is known where a call is accepted.
+-- Refusals: which one a chain gives; a book's test by test; what is known where a call is accepted.
+pub mod Due
 pub mod Books
 pub mod Accepted
 -- What each call does, and what a list of calls does: the account is kept; a settled run leaves a normal form.
@@ -17,3 +18,5 @@ pub mod Effects
 pub mod Settled
 -- Loading and writing, in terms of the calls.
 pub mod RoundTrips
+-- The desk's lines, in terms of the calls.
+pub mod Keyed

@@ -1,22 +1,24 @@
 -- A list of calls that ends in a settled run leaves a sheet in normal form.
 use mathlib.Core.Bool.{true}
-use mathlib.Core.List.{List, [], _∷_}
-use mathlib.Core.Logic.{_⊎_, inl, inr, _↔_}
-use mathlib.Core.Path.{_≡_, sym, ap, subst}
-use Prim.Native.Nat.{ℕ}
+use mathlib.Core.List.{List, [], _∷_, _++_}
+use mathlib.Core.Logic.{_⊎_, inl, inr, ⊎-elim, _↔_}
+use mathlib.Core.Path.{_≡_, refl, sym, ap, subst}
+use Prim.Native.Nat.{ℕ, suc, _≤_}
+use native.Mathlib.Omega.{arith}
 use Rattle.model.specs.Literal.{Literal}
 use Rattle.model.specs.Forest.{root, or, Forest, nil, node, constant, kids, has-unit}
-use Rattle.model.specs.Code.{encode}
+use Rattle.model.specs.Code.{Node, encode}
 use Rattle.model.specs.Clauses.{Derived, Contradictory, clauses}
 use Rattle.model.specs.Rules.{NoRule}
+use Rattle.model.specs.Strategy as strategy
 use Rattle.model.specs.Sheet.{options-in, nodes-in, is-sheet, clauses-in, is-unit, Falsum}
 use Rattle.calls.specs.Outcomes.{if-accepted}
 use Rattle.calls.specs.History.{Call, choose, step, run, State, after-call, after-calls, Account, account-call, says-settled, ends-settled}
-use Rattle.theory.specs.Logic.{true-false}
+use Rattle.theory.specs.Logic.{true-false, either}
 use Rattle.theory.specs.Clauses.{clauses-root}
-use Rattle.theory.specs.Shape.{fine-no-root, shaped-decode}
+use Rattle.theory.specs.Shape.{shaped-decode}
 use Rattle.call_laws.specs.Normal.{normal-form, falsum-contradictory}
-use Rattle.theory.specs.Runs.{run-settled}
+use Rattle.theory.specs.Runs.{run-steps, run-settled, run-stopped, run-is}
 use Rattle.theory.specs.Sheets.{sheet-shaped}
 use Rattle.call_laws.specs.Effects.{Keeps, call-effect, run-outcome, run-leaves}
 
@@ -36,6 +38,20 @@ ends-no-rule [] t a h e = true-false (sym e)
 ends-no-rule (c ∷ []) t a h e = settled-call c t (h .sheet) e
 ends-no-rule (c ∷ (d ∷ cs)) t a h e =
     ends-no-rule (d ∷ cs) (after-call c t) (account-call c t a) (call-effect c t a h .keeps) e
+
+-- A list says settled where its last call does.
+pub ends-last : (cs : List Call) (c : Call) (t : State) → ends-settled (cs ++ (c ∷ [])) t ≡ says-settled c (after-calls cs t)
+unfolding ends-settled after-calls
+ends-last [] c t = refl
+ends-last (x ∷ []) c t = refl
+ends-last (x ∷ (y ∷ cs)) c t = ends-last (y ∷ cs) c (after-call x t)
+
+-- A run whose budget of one more would not be spent is settled.
+pub run-enough : (b : ℕ) (ns : List Node) → strategy.run (suc b) ns .count ≤ b → strategy.run b ns .settled ≡ true
+run-enough b ns few =
+    let said = either (strategy.run (suc b) ns .settled) in
+    let settled : strategy.run (suc b) ns .settled ≡ true = ⊎-elim (λ e. e) (λ e. absurd (omega (arith, run-stopped (suc b) ns e))) said in
+    ap (λ r. r .settled) (run-is b (run-steps (suc b) ns) few (run-settled (suc b) ns .0 settled))
 
 -- A root in normal form is the falsum exactly if it is contradictory, and otherwise its units are the derived literals.
 abbrev Normal : Forest → Type 0
