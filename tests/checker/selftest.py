@@ -18,10 +18,20 @@ BLANK = [7] * sheets.LENGTH  # a target: no sheet, and "wholly filled"
 MOST = 2 ** 64 - 1  # "a 64-bit budget"
 
 
+class Wrong(Exception):
+    """Something that document 01 says does not hold of the checker."""
+
+
+def expect(holds, what):
+    """No `assert`: python3 -O would leave that out."""
+    if not holds:
+        raise Wrong(what)
+
+
 def done(answer):
     """(value, buffer) of an answer that must not be a refusal."""
     refusal, value, after = answer
-    assert refusal == 0, refusal
+    expect(refusal == 0, "refused %d" % refusal)
     return (value, *after)
 
 
@@ -39,60 +49,67 @@ def books_to_try():
         while rules.applicable(last):
             taken.append(min(rules.applicable(last)))
             last = done(calls.step(last, *taken[-1]))[1]
-        assert steps in (..., [step[0] for step in taken])
-        assert left is ... or last == loaded(options, left)
+        expect(steps in (..., [step[0] for step in taken]), "a book to try: its steps")
+        expect(left is ... or last == loaded(options, left), "a book to try: what is left")
         due = (1, [3] * options) if expected is BAD else (0, expected)
-        assert done(calls.report(sheet, [9] * options)) == due
-        assert done(calls.report(last, [9] * options)) == due
-        assert done(calls.run(sheet, MOST)) == (2 * len(taken) + 1, last)
+        for at in (sheet, last):
+            expect(done(calls.report(at, [9] * options)) == due, "a book to try: its report")
+        expect(done(calls.run(sheet, MOST)) == (2 * len(taken) + 1, last), "a book to try: its run")
     # "Eight zero bytes: a book; the sheet is 0, 1, 20480, zeros."
     empty = done(calls.load(BLANK, bytes(8)))[1]
-    assert empty == [0, 1, 20480] + [0] * 4095 and calls.complete(empty) == (0, 1, ())
+    expect(empty == [0, 1, 20480] + [0] * 4095, "eight zero bytes")
+    expect(calls.complete(empty) == (0, 1, ()), "a sheet without options is complete")
     # "One any-of with 2,047 marks is accepted and a choice is then refused 8; with 2,048, refused
     # 6." "An all-of with 4,094 trues is accepted." "Option 512 is refused 5."
     codes = [b"C%d" % number for number in range(512)]
     marks = [positive(at % 512) for at in range(2048)]
     full = done(calls.load(BLANK, build(codes, [any_of(*marks[1:])])))[1]
-    assert calls.choose(full, 511, False) == (8, 0, (full,))
-    assert calls.choose(full, 512, False) == (7, 0, (full,))
-    assert calls.check(build(codes, [any_of(*marks)])) == (6, 0, ())
-    assert calls.check(build([], [all_of(*[TRUE] * 4094)])) == (0, 0, ())
-    assert calls.choose(loaded(1, [TRUE] * 4094), 0, True)[0] == 8  # weight 4,095
-    assert weight(sheets.root_of(done(calls.choose(loaded(1, [TRUE] * 4093), 0, True))[1])) == 4096
-    assert calls.check(build(codes, [positive(512)])) == (5, 0, ())
+    expect(calls.choose(full, 511, False) == (8, 0, (full,)), "2,047 marks: a choice")
+    expect(calls.choose(full, 512, False) == (7, 0, (full,)), "2,047 marks: no such option")
+    expect(calls.check(build(codes, [any_of(*marks)])) == (6, 0, ()), "2,048 marks")
+    expect(calls.check(build([], [all_of(*[TRUE] * 4094)])) == (0, 0, ()), "4,094 trues")
+    expect(calls.choose(loaded(1, [TRUE] * 4094), 0, True)[0] == 8, "a choice at weight 4,095")
+    chosen = done(calls.choose(loaded(1, [TRUE] * 4093), 0, True))[1]
+    expect(weight(sheets.root_of(chosen)) == 4096, "a choice at weight 4,094")
+    expect(calls.check(build(codes, [positive(512)])) == (5, 0, ()), "option 512")
     # "Two codes that differ in character 13 are two options."
     near = build([b"ABCDEFGHIJKLM", b"ABCDEFGHIJKLN"], [])
-    assert calls.lookup(near, b"ABCDEFGHIJKLN") == (0, 1, ())
+    expect(calls.lookup(near, b"ABCDEFGHIJKLN") == (0, 1, ()), "codes to character 13")
     # besides: a nest 4,000 deep, and a book that is too much for clauses
     nest = P
     for _ in range(2000):
         nest = any_of(all_of(nest))
-    assert done(calls.report(loaded(1, [nest]), [0])) == (0, [1])
-    assert done(calls.run(loaded(1, [nest]), 3))[0] == 6
+    expect(done(calls.report(loaded(1, [nest]), [0])) == (0, [1]), "a deep nest: its report")
+    expect(done(calls.run(loaded(1, [nest]), 3))[0] == 6, "a deep nest: a run")
+    expect(is_too_much(any_of(*[all_of(positive(at), negative(at)) for at in range(20)])),
+           "2 ^ 20 clauses")
+
+
+def is_too_much(tree):
     try:
-        meaning.clauses(any_of(*[all_of(positive(at), negative(at)) for at in range(20)]))
-        assert False
+        meaning.clauses(tree)
     except meaning.TooManyClauses:
-        pass
+        return True
+    return False
 
 
 def single_steps():
     for before, (rule, place, i, j), after in STEPS:
         sheet = loaded(3, before)
         due = (10, 0, (sheet,)) if after is None else (0, 0, (loaded(3, after),))
-        assert calls.step(sheet, rule, place, i, j) == due, (rule, place, i, j)
+        expect(calls.step(sheet, rule, place, i, j) == due, (rule, place, i, j))
         for more in (1, 2, 65536, 2 ** 32):  # each index, moved off its value
             for wrong in [(place + more, i, j), (place, i + more, j), (place, i, j + more)]:
-                assert (rule, *wrong) in rules.applicable(sheet) or (
-                    calls.step(sheet, rule, *wrong) == (10, 0, (sheet,)))
+                expect((rule, *wrong) in rules.applicable(sheet)
+                       or calls.step(sheet, rule, *wrong) == (10, 0, (sheet,)), (rule, *wrong))
         for wrong in (0, 15, 65536 + rule):
-            assert calls.step(sheet, wrong, place, i, j) == (9, 0, (sheet,))
+            expect(calls.step(sheet, wrong, place, i, j) == (9, 0, (sheet,)), (wrong, place, i, j))
 
 
 def desk_program():
     book = bytes.fromhex("02 00 01 00 05 00 00 00 50" + "00" * 12 + "51" + "00" * 12
                          + "00 00 05 00 02 40 00 10 02 30 00 10 01 10")
-    assert book == build(CODES[:2], CASES[0][0])
+    expect(book == build(CODES[:2], CASES[0][0]), "the first case's book")
     hyphen = build([b"P", b"-"], [any_of(P, Q)])
     for case, stdin, printed in [
             (book, b"", b"settled 5\nP in\nQ open\n"), (None, b"", b"refused 1\n"),
@@ -101,7 +118,7 @@ def desk_program():
             (book, b"+Q\n\n", b"refused 7\n"), (book, b"Q\n", b"refused 7\n"),
             (hyphen, b"--\n", b"settled 3\nP in\n- out\n"), (book, b"+", b"refused 7\n"),
             (bytes(8), b"", b"settled 0\n"), (bytes(7), b"+", b"refused 1\n")]:
-        assert desk.output(case, stdin) == printed, (stdin, desk.output(case, stdin))
+        expect(desk.output(case, stdin) == printed, (stdin, desk.output(case, stdin)))
 
 
 def refusals():
@@ -122,27 +139,30 @@ def refusals():
             (4, bytes([0, 0, 0, 0, 1, 0, 0, 0, 0, 48])), (5, with_bytes((43, 80))),
             (5, with_bytes((43, 0))), (5, with_bytes((42, 2))), (5, with_bytes((44, 1))),
             (5, with_bytes((44, 3)))]:
-        assert calls.check(data) == (due, 0, ()), (due, data)
-        assert calls.load(BLANK, data) == (due, 0, (BLANK,))
-        assert calls.lookup(data, b"Z") == (due, 0, ())
-    assert calls.load(BLANK[1:], b"") == (11, 0, (BLANK[1:],))
+        expect(calls.check(data) == (due, 0, ()), (due, data))
+        expect(calls.load(BLANK, data) == (due, 0, (BLANK,)), (due, data))
+        expect(calls.lookup(data, b"Z") == (due, 0, ()), (due, data))
+    expect(calls.load(BLANK[1:], b"") == (11, 0, (BLANK[1:],)), "a target a number short")
     for code in (b"", b"P\0", b"p", b"P" * 14, b"Z"):
-        assert calls.lookup(good, code) == (7, 0, ())
+        expect(calls.lookup(good, code) == (7, 0, ()), code)
     sheet = loaded(2, [P, any_of(P, Q)])
     changes = [(0, 513), (0, 1), (1, 0), (1, 4), (1, 6), (1, 4097), (2, 20481), (2, 12290),
                (3, 20480), (3, 4098), (4, 16387), (4097, 1)]
     for bad in [[], sheet[:-1], sheet + [0]] + [
             sheet[:at] + [value] + sheet[at + 1:] for at, value in changes]:
-        assert calls.step(bad, 0, 0, 0, 0) == (11, 0, (bad,)), bad[:9]
-        assert calls.choose(bad, 99, True)[0] == calls.run(bad, 0)[0] == 11
-        assert calls.report(bad, [])[0] == calls.complete(bad)[0] == 11
-        assert calls.write(bad, b"", [])[0] == 11
-    assert calls.choose(sheet, 2, True) == (7, 0, (sheet,))
-    assert calls.report(sheet, [0]) == (12, 0, ([0],))
-    assert calls.write(sheet, bytes(8), [])[0] == 11 and calls.write(sheet, b"", [])[0] == 1
+        for given, left in (
+                (calls.step(bad, 0, 0, 0, 0), (bad,)), (calls.choose(bad, 99, True), (bad,)),
+                (calls.run(bad, 0), (bad,)), (calls.report(bad, []), ([],)),
+                (calls.complete(bad), ()), (calls.write(bad, b"", []), ([],))):
+            expect(given == (11, 0, left), bad[:9])
+    expect(calls.choose(sheet, 2, True) == (7, 0, (sheet,)), "no such option")
+    expect(calls.report(sheet, [0]) == (12, 0, ([0],)), "a report a byte short")
+    expect(calls.write(sheet, bytes(8), []) == (11, 0, ([],)), "a book of another N")
+    expect(calls.write(sheet, b"", []) == (1, 0, ([],)), "no book")
     short = [9] * (len(good) - 1)
-    assert calls.write(sheet, good, short) == (12, 0, (short,))
-    assert done(calls.write(sheet, good, short + [9] * 5)) == (len(good), list(good) + [9] * 4)
+    expect(calls.write(sheet, good, short) == (12, 0, (short,)), "an output a byte short")
+    expect(done(calls.write(sheet, good, short + [9] * 5)) == (len(good), list(good) + [9] * 4),
+           "an output with room to spare")
 
 
 def random_tree(rng, options, depth):
@@ -157,8 +177,9 @@ def check_step(sheet, step, due):
     """A step keeps the meaning and "every node before the place"; "No step raises the weight." """
     after = done(calls.step(sheet, *step))[1]
     root = sheets.root_of(after)
-    assert meaning.meaning(root) == due and weight(root) <= weight(sheets.root_of(sheet))
-    assert after[2:2 + step[1]] == sheet[2:2 + step[1]]
+    expect(meaning.meaning(root) == due, "a step changed the meaning")
+    expect(weight(root) <= weight(sheets.root_of(sheet)), "a step raised the weight")
+    expect(after[2:2 + step[1]] == sheet[2:2 + step[1]], "a step changed nodes before its place")
     return after
 
 
@@ -178,19 +199,18 @@ def check_list(rng, sheet, trees, met):
             budget = rng.choice((0, 1, 2, 5, MOST))
             value, sheet = done(calls.run(sheet, budget))
             count, settled = divmod(value, 2)
-            assert count == budget or settled and count < budget
-            assert meaning.meaning(sheets.root_of(sheet)) == due
+            expect(count == budget or settled and count < budget, "stopped with budget left")
+            expect(meaning.meaning(sheets.root_of(sheet)) == due, "a run changed the meaning")
             room -= count
         elif listed:
             step = rng.choice(listed)
             sheet = check_step(sheet, step, due)
             met[step[0]] += 1
             room -= 1
-        assert room >= 0
+        expect(room >= 0, "more steps than the cube")
         room = min(room, cube(sheet))
-        if settled:
-            assert is_settled(sheet, due)
-    assert meaning.meaning(sheets.root_of(sheet)) == due
+        expect(not settled or is_settled(sheet, due), "settled, but not as demand 3 says")
+    expect(meaning.meaning(sheets.root_of(sheet)) == due, "a list changed the meaning")
     return sheet
 
 
@@ -200,16 +220,18 @@ def check_book(rng, met):
     data, sheet = build(CODES[:options], trees), loaded(options, trees)
     due = meaning.meaning(Tree(ROOT, trees))
     value, last = done(calls.run(sheet, MOST))
-    assert value % 2 == 1 and value // 2 <= cube(sheet)
-    assert is_settled(last, due)
+    expect(value % 2 == 1 and value // 2 <= cube(sheet), "a run to the end: its count")
+    expect(is_settled(last, due), "a run to the end: not settled as demand 3 says")
     listed = rules.applicable(sheet)
     for step in rng.sample(listed, min(5, len(listed))):
         check_step(sheet, step, due)
     # "A book loaded and written is the same bytes; a sheet written and loaded is the same sheet."
-    assert done(calls.write(sheet, data, [9] * len(data))) == (len(data), list(data))
+    expect(done(calls.write(sheet, data, [9] * len(data))) == (len(data), list(data)),
+           "loaded and written: other bytes")
     last = check_list(rng, sheet, trees, met)
     length, written = done(calls.write(last, data, [9] * 9999))
-    assert done(calls.load(BLANK, written[:length]))[1] == last
+    expect(done(calls.load(BLANK, written[:length]))[1] == last,
+           "written and loaded: another sheet")
     return sheet
 
 
@@ -217,7 +239,8 @@ def check_listing(sheet):
     """The steps listed as applicable are those that are accepted, of all tried."""
     tried = [(rule, place, i, j) for rule in range(16) for place in range(sheet[1] + 1)
              for i in range(5) for j in range(5)]
-    assert [step for step in tried if calls.step(sheet, *step)[0] == 0] == rules.applicable(sheet)
+    expect([step for step in tried if calls.step(sheet, *step)[0] == 0] == rules.applicable(sheet),
+           "other steps are accepted than are listed")
 
 
 def main(books=3000, seed=1):
@@ -230,7 +253,7 @@ def main(books=3000, seed=1):
         sheet = check_book(rng, met)
         if number % 100 == 0 and sheet[1] < 12:
             check_listing(sheet)
-    assert all(met.values()), met
+    expect(all(met.values()), met)
     print("selftest: %d books to try, %d steps, the refusals, and %d random books with %d steps "
           "(each rule %d times or more) all held, %.0f s" % (
               len(CASES) + 5, len(STEPS), books, sum(met.values()), min(met.values()),
