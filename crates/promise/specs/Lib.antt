@@ -1,6 +1,11 @@
 -- The demands, in their order. Each theorem's comment quotes the sentence that it proves.
 pub mod Refusals
+pub mod Due
 pub mod Reports
+pub mod Complete
 pub mod RoundTrips
 pub mod Lists
 pub mod Order
+pub mod Runs
+pub mod Weights
+pub mod Desk

@@ -1,8 +1,8 @@
 -- Demand 3: one theorem about every list of choices, single steps and runs, refused ones included, from a freshly loaded sheet.
-use mathlib.Core.Bool.{Bool, true, false}
+use mathlib.Core.Bool.{true}
 use mathlib.Core.List.{List, _++_, append-nil}
-use mathlib.Core.Logic.{_↔_, Iff·trans, Iff·symm}
-use mathlib.Core.Path.{_≡_, refl, sym, ap, _∙_}
+use mathlib.Core.Logic.{_↔_, Iff·trans}
+use mathlib.Core.Path.{_≡_, sym, ap, _∙_}
 use Prim.Native.Nat.{ℕ, _≤_}
 use lib.ListN.{length}
 use Rattle.model.specs.Literal.{Literal}
@@ -15,14 +15,15 @@ use Rattle.model.specs.Sheet.{options-in, nodes-in, is-sheet, sheet-of, clauses
 use Rattle.model.specs.Book.{options-of, book-nodes, clauses-of-book}
 use Rattle.calls.specs.Outcomes.{accepted}
 use Rattle.calls.specs.Calls.{checkOf, loadOf, reportOf}
-use Rattle.calls.specs.History.{Call, State, after-calls, Account, loaded, account-calls, choice-clauses, meaning, is-stretch, steps-of, ends-settled}
+use Rattle.calls.specs.History.{Call, State, after-calls, Account, loaded, account-calls, choice-clauses, meaning}
+use Rattle.calls.specs.History.{is-stretch, steps-of, ends-settled}
 use Rattle.theory.specs.Steps.{steps-bound}
-use Rattle.call_laws.specs.Valuations.{SameModels, same-of, same-trans, same-report, same-contradictory, same-derived}
+use Rattle.call_laws.specs.Valuations.{same-of, same-report, same-contradictory, same-derived}
 use Rattle.theory.specs.Loading.{Accepted, loaded-sheet, loaded-meaning}
 use Rattle.call_laws.specs.Books.{accepted-book}
 use Rattle.call_laws.specs.RoundTrips.{load-accepted}
 use Rattle.theory.specs.Sheets.{sheet-shaped, options-made}
-use Rattle.call_laws.specs.Effects.{Keeps, Effect, calls-effect}
+use Rattle.call_laws.specs.Effects.{Keeps, calls-effect}
 use Rattle.call_laws.specs.Settled.{ends-no-rule, sheet-normal}
 use Rattle.promise.specs.Refusals.{check-none}
 use Rattle.promise.specs.Reports.{reported, Reported, report-given, propagation-exact}
@@ -89,7 +90,8 @@ from-rules book start h calls =
       bounded = λ before stretch rest parts quiet.
           let b = calls-effect before start (loaded book) h .keeps in
           let there = after-calls before start in
-          steps-bound (sheet-shaped (there .sheet) (b .sheet)) (calls-effect stretch there (account-calls before start (loaded book)) b .steps quiet);
+          let done = calls-effect stretch there (account-calls before start (loaded book)) b .steps quiet in
+          steps-bound (sheet-shaped (there .sheet) (b .sheet)) done;
     }
   where
     left : List ℕ
@@ -101,7 +103,9 @@ from-rules book start h calls =
     k : Keeps account left
     k = calls-effect calls start (loaded book) h .keeps
 
-    given : (out : List ℕ) → length out ≡ options-of (account .book) → reportOf left out ≡ reported (report (options-of (account .book)) (meaning account))
+    given :
+        (out : List ℕ) → length out ≡ options-of (account .book) →
+        reportOf left out ≡ reported (report (options-of (account .book)) (meaning account))
     given out long =
         report-given left out (k .sheet) (long ∙ sym (k .options))
         ∙ ap reported (rw (k .options) (same-report (k .models) (options-of (account .book))))
@@ -118,7 +122,12 @@ loaded-keeps book good =
 
 -- "For every list of choices, single steps and runs, refused ones included, from a freshly loaded sheet, each on the sheet that the
 -- one before left": every accepted book, every target that a load fills, every list of calls with any arguments.
-pub demand-3 : (book target : List ℕ) → checkOf book ≡ accepted tt → length target ≡ sheet-length → (calls : List Call) → Demand-3 book (record { sheet = loadOf book target .lent }) calls
+pub demand-3 :
+    (book target : List ℕ) →
+    checkOf book ≡ accepted tt →
+    length target ≡ sheet-length →
+    (calls : List Call) →
+    Demand-3 book (record { sheet = loadOf book target .lent }) calls
 demand-3 book target ok long calls =
     let fine = check-none book .0 ok in
     rw (load-accepted book target fine long)

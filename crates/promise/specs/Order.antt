@@ -1,13 +1,12 @@
 -- The wound that began it: "the program drew its conclusions in the order it met the rules. After an option was dropped, forty
 -- rules moved; the book meant the same as before, yet the program left an aerial open that it had settled a month earlier."
 -- Here the order of the rules does not matter.
-use mathlib.Core.List.{List, [], _∷_, _++_, List·Permᴰ}
+use mathlib.Core.List.{List, List·Permᴰ}
 use mathlib.Core.Path.{_≡_, sym, ap, _∙_}
 use Prim.Native.Nat.{ℕ}
 use lib.ListN.{length}
 use Rattle.model.specs.Limits.{sheet-length}
 use Rattle.model.specs.Book.{options-of, bodies-of, clauses-of-body, clauses-of-book}
-use Rattle.model.specs.Propagation.{report}
 use Rattle.calls.specs.Outcomes.{accepted}
 use Rattle.calls.specs.Calls.{checkOf, loadOf, reportOf}
 use Rattle.calls.specs.History.{Call, State, after-calls, loaded, account-calls, choice-clauses, meaning}

@@ -8,8 +8,9 @@ use mathlib.Core.Option.{Option, none, some}
 use mathlib.Core.Path.{_≡_, refl}
 use Prim.Native.Nat.{ℕ, _≤_}
 use native.Mathlib.Omega.{arith}
-use Rattle.calls.specs.Refusals.{Refusal, length-refused, head-refused, code-refused, contents-refused, body-refused, weight-refused, option-refused, full-refused, rule-refused, step-refused, sheet-refused, output-refused, refusal-number}
-use Rattle.calls.specs.Outcomes.{Answer, refused, accepted, answer, Outcome, outcome}
+use Rattle.calls.specs.Refusals.{Refusal, length-refused, head-refused, code-refused, contents-refused, body-refused, weight-refused}
+use Rattle.calls.specs.Refusals.{option-refused, full-refused, rule-refused, step-refused, sheet-refused, output-refused, refusal-number}
+use Rattle.calls.specs.Outcomes.{refused, accepted, answer, Outcome, outcome}
 use Rattle.calls.specs.Chains.{book-refusal}
 use Rattle.calls.specs.Calls.{checkOf, loadOf, writeOf, reportOf, chooseOf, stepOf, runOf}
 use Rattle.theory.specs.Loading.{Accepted}

@@ -3,7 +3,7 @@
 use mathlib.Core.Bool.{Bool, true, false}
 use mathlib.Core.List.{List}
 use mathlib.Core.Logic.{_⊎_, inl, inr, _↔_}
-use mathlib.Core.Path.{_≡_, refl, sym, ap, _∙_}
+use mathlib.Core.Path.{_≡_, refl, ap}
 use Prim.Native.Nat.{ℕ, _<_}
 use borrow.Author.Tests.{eq-eqb}
 use lib.ListN.{length, getD, replicate}
@@ -12,10 +12,10 @@ use Rattle.model.specs.Literal.{pos, neg}
 use Rattle.model.specs.Clauses.{Clause, Derived, Contradictory}
 use Rattle.model.specs.Propagation.{Report, report}
 use Rattle.model.specs.Sheet.{is-sheet, options-in, clauses-in, report-in}
-use Rattle.calls.specs.Outcomes.{Answer, accepted, Outcome, outcome}
+use Rattle.calls.specs.Outcomes.{accepted, Outcome, outcome}
 use Rattle.calls.specs.Chains.{report-refusal}
 use Rattle.calls.specs.Calls.{reportOf}
-use Rattle.theory.specs.ExactReports.{Tells, report-tells}
+use Rattle.theory.specs.ExactReports.{report-tells}
 
 -- The outcome of an accepted report that gives these bytes and this result.
 abbrev pub reported : Report → Outcome (List ℕ) Bool
@@ -53,11 +53,19 @@ propagation-exact n cs =
     go false = inr refl
 
 -- A report on a sheet, into an output of its N bytes, gives what propagation on the multiplied-out rules gives.
-pub report-given : (sheet out : List ℕ) → is-sheet sheet ≡ true → length out ≡ options-in sheet → reportOf sheet out ≡ reported (report (options-in sheet) (clauses-in sheet))
+pub report-given :
+    (sheet out : List ℕ) →
+    is-sheet sheet ≡ true →
+    length out ≡ options-in sheet →
+    reportOf sheet out ≡ reported (report (options-in sheet) (clauses-in sheet))
 unfolding reportOf report-refusal report-in outcome only-if first-of
 report-given sheet out h e = rw (h, eq-eqb (length out) (options-in sheet) e)
 
 -- So it says exactly what the sheet's rules mean.
-pub report-exact : (sheet out : List ℕ) → is-sheet sheet ≡ true → length out ≡ options-in sheet → Reported (options-in sheet) (clauses-in sheet) (reportOf sheet out)
+pub report-exact :
+    (sheet out : List ℕ) →
+    is-sheet sheet ≡ true →
+    length out ≡ options-in sheet →
+    Reported (options-in sheet) (clauses-in sheet) (reportOf sheet out)
 report-exact sheet out h e =
     rw (report-given sheet out h e) (propagation-exact (options-in sheet) (clauses-in sheet))

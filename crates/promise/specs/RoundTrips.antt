@@ -18,7 +18,13 @@ use Rattle.promise.specs.Refusals.{check-none}
 
 -- "A book loaded and written is the same bytes": the writer gives the book's bytes and its length, and bytes beyond stay. (A slice
 -- of bytes holds numbers below 256.)
-pub load-then-write : (book target out : List ℕ) → checkOf book ≡ accepted tt → ((i : ℕ) → getD book i 0 < 256) → length target ≡ sheet-length → length book ≤ length out → writeOf (loadOf book target .lent) book out ≡ record { answer = accepted (length book); lent = placed book out }
+pub load-then-write :
+    (book target out : List ℕ) →
+    checkOf book ≡ accepted tt →
+    ((i : ℕ) → getD book i 0 < 256) →
+    length target ≡ sheet-length →
+    length book ≤ length out →
+    writeOf (loadOf book target .lent) book out ≡ record { answer = accepted (length book); lent = placed book out }
 load-then-write book target out ok bytes = round.load-then-write book target out (check-none book .0 ok) bytes
 
 -- "A sheet written and loaded is the same sheet": for every sheet and every accepted book of its N.
@@ -28,14 +34,24 @@ pub record Written-and-loaded (sheet book target out : List ℕ) : Type 0 where
   pub bytes-given : writeOf sheet book out .lent ≡ placed (written sheet book) out
   pub same-sheet : loadOf (written sheet book) target ≡ record { answer = accepted tt; lent = sheet }
 
-pub write-then-load : (sheet book target out : List ℕ) → is-sheet sheet ≡ true → checkOf book ≡ accepted tt → options-of book ≡ options-in sheet → length (written sheet book) ≤ length out → length target ≡ sheet-length → Written-and-loaded sheet book target out
+pub write-then-load :
+    (sheet book target out : List ℕ) →
+    is-sheet sheet ≡ true →
+    checkOf book ≡ accepted tt →
+    options-of book ≡ options-in sheet →
+    length (written sheet book) ≤ length out →
+    length target ≡ sheet-length →
+    Written-and-loaded sheet book target out
 write-then-load sheet book target out h ok same room long =
     let fine = check-none book .0 ok in
     let given = round.write-accepted sheet book out h fine same room in
-    let good = book-accepted (written sheet book) (written-accepted sheet book (sheet-formed sheet h) (accepted-book book fine) same) in
+    let form = sheet-formed sheet h in
+    let codes = accepted-book book fine in
+    let good = book-accepted (written sheet book) (written-accepted sheet book form codes same) in
     record {
       length-given = ap (λ o. o .answer) given;
       is-book = check-none (written sheet book) .1 good;
       bytes-given = ap (λ o. o .lent) given;
-      same-sheet = round.load-accepted (written sheet book) target good long ∙ ap (round.done tt) (written-loads sheet book (sheet-formed sheet h) (accepted-book book fine) same);
+      same-sheet =
+          round.load-accepted (written sheet book) target good long ∙ ap (round.done tt) (written-loads sheet book form codes same);
     }

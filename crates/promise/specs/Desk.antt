@@ -1,0 +1,104 @@
+-- The desk program, in terms of the calls: what it writes for the bytes of a book and of its standard input.
+use mathlib.Core.Bool.{true}
+use mathlib.Core.List.{List, [], _∷_, _++_}
+use mathlib.Core.Path.{_≡_, sym, ap, _∙_}
+use Prim.Native.Nat.{ℕ}
+use lib.ListN.{replicate, length-replicate}
+use Rattle.model.specs.Base.{pick}
+use Rattle.model.specs.Limits.{sheet-length}
+use Rattle.model.specs.Propagation.{Report, report}
+use Rattle.model.specs.Sheet.{is-sheet}
+use Rattle.model.specs.Book.{options-of, codes-of}
+use Rattle.calls.specs.Refusals.{Refusal, refusal-number, sheet-refused}
+use Rattle.calls.specs.Outcomes.{refused, accepted, Outcome}
+use Rattle.calls.specs.Chains.{load-refusal}
+use Rattle.calls.specs.Calls.{Ran, checkOf, loadOf, runOf, reportOf}
+use Rattle.calls.specs.History.{Call, run, State, after-call, after-calls, loaded, account-calls}
+use Rattle.calls.specs.Desk.{lines, keyed, go-on, all-keyed, decimal, line, printed, refused-word}
+use Rattle.calls.specs.Desk.{first-line, option-lines, desk-budget, deskOf}
+use Rattle.theory.specs.Logic.{none-due}
+use Rattle.call_laws.specs.Accepted.{accepted-due}
+use Rattle.call_laws.specs.Effects.{run-outcome, after-append, kept-book}
+use Rattle.call_laws.specs.Keyed.{keyed-calls, keyed-append}
+use Rattle.promise.specs.Refusals.{check-none}
+use Rattle.promise.specs.Reports.{reported}
+use Rattle.promise.specs.Lists.{Means, demand-3}
+
+-- "A refusal prints only `refused` and its number, a space between."
+abbrev pub refusal-line : Refusal → List ℕ
+refusal-line r = line refused-word (decimal (refusal-number r))
+
+-- The run and the report on the sheet as it was keyed, both accepted, and what is written: "Line 1: contradiction if reported, else
+-- settled or stopped; a space; the steps. Then, unless contradictory, a line for each option: code, space, in, out or open."
+pub record Printed (book sheet written : List ℕ) : Type 0 where
+  pub ran : Ran
+  pub told : Report
+  pub run-says : runOf sheet desk-budget .answer ≡ accepted ran
+  pub report-says : reportOf (runOf sheet desk-budget .lent) (replicate (options-of book) 0) ≡ reported told
+  pub prints :
+      written ≡ first-line (told .contradictory) ran ++ pick (told .contradictory) [] (option-lines (codes-of book) (told .marks))
+
+abbrev fresh : Outcome (List ℕ) (Unit {0}) → State
+fresh o = record { sheet = o .lent }
+
+-- The program "reads `book.bin`, then choices from standard input, one a line. It keys them in order, then makes one run with a
+-- budget of 100,000." A refusal "ends the program": the first that is met, of the book or of a line.
+module _ (book input : List ℕ) where
+  abbrev load : Outcome (List ℕ) (Unit {0})
+  load = loadOf book (replicate sheet-length 0)
+
+  pub record Desk-writes : Type 0 where
+    pub book-refused : (r : Refusal) → load .answer ≡ refused r → deskOf book input ≡ refusal-line r
+    pub line-refused :
+        (before rest : List (List ℕ)) (one : List ℕ) (r : Refusal) →
+        lines input ≡ before ++ (one ∷ rest) →
+        load .answer ≡ accepted tt →
+        all-keyed book before (load .lent) .answer ≡ accepted tt →
+        keyed book one (all-keyed book before (load .lent) .lent) .answer ≡ refused r →
+        deskOf book input ≡ refusal-line r
+    pub all-accepted :
+        load .answer ≡ accepted tt →
+        all-keyed book (lines input) (load .lent) .answer ≡ accepted tt →
+        Printed book (all-keyed book (lines input) (load .lent) .lent) (deskOf book input)
+
+  -- A book that is loaded is accepted.
+  loaded-book : load .answer ≡ accepted tt → checkOf book ≡ accepted tt
+  unfolding loadOf load-refusal
+  loaded-book e =
+      let none = accepted-due (load-refusal book (replicate sheet-length 0)) tt tt _ _ (sym e) .0 in
+      check-none book .1 (none-due _ sheet-refused _ none .1)
+
+  -- Lines that are all accepted leave what a list of calls leaves, so demand 3 speaks of the sheet, and of what a run makes of it.
+  module _ (good : load .answer ≡ accepted tt) (cs : List Call) (s : List ℕ) (e : s ≡ after-calls cs (fresh load) .sheet) where
+    abbrev means : (calls : List Call) → Means (account-calls calls (fresh load) (loaded book)) (after-calls calls (fresh load) .sheet)
+    means calls =
+        demand-3 book (replicate sheet-length 0) (loaded-book good) (length-replicate {A = ℕ} sheet-length 0) calls .means
+
+    keyed-sheet : is-sheet s ≡ true
+    keyed-sheet = rw e (means cs .is-a-sheet)
+
+    report-told : (told : Report) × (reportOf (runOf s desk-budget .lent) (replicate (options-of book) 0) ≡ reported told)
+    unfolding after-calls after-call
+    report-told =
+        let calls = cs ++ (run desk-budget ∷ []) in
+        let after = after-append cs (run desk-budget ∷ []) (fresh load) in
+        let left : after-calls calls (fresh load) .sheet ≡ runOf s desk-budget .lent = rw (after, e) in
+        let room : List ℕ = replicate (options-of book) 0 in
+        let same = kept-book calls (fresh load) (loaded book) in
+        let wide = length-replicate {A = ℕ} (options-of book) 0 ∙ ap options-of (sym same) in
+        (report _ _, rw left at (means calls .report-is room wide))
+
+  pub desk-writes : Desk-writes
+  unfolding deskOf printed all-keyed go-on
+  desk-writes =
+      record {
+        book-refused = λ r e. rw e;
+        line-refused = λ before rest one r parts good fine e.
+            rw (good, parts, keyed-append book before (one ∷ rest) (load .lent) fine, e);
+        all-accepted = λ good fine.
+            let s = all-keyed book (lines input) (load .lent) .lent in
+            let calls = keyed-calls book (lines input) (load .lent) in
+            let ran = ap (λ o. o .answer) (run-outcome s desk-budget (keyed-sheet good (calls .0) s (calls .1))) in
+            let told = report-told good (calls .0) s (calls .1) in
+            record { ran = _; told = told .0; run-says = ran; report-says = told .1; prints = rw (good, fine, ran, told .1) };
+      }

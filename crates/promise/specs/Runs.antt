@@ -1,0 +1,74 @@
+-- Demand 3 put to use: runs in the midst of any list. These theorems rest on demand 3 alone for what they say of steps and of normal
+-- forms, so it holds of lists that there are.
+use mathlib.Core.Bool.{true}
+use mathlib.Core.List.{List, [], _∷_, _++_}
+use mathlib.Core.Path.{_≡_, refl, ap}
+use Prim.Native.Nat.{ℕ, suc, _≤_}
+use native.Mathlib.Omega.{arith}
+use lib.ListN.{length}
+use Rattle.model.specs.Strategy as strategy
+use Rattle.model.specs.Strategy.{most-steps}
+use Rattle.model.specs.Limits.{sheet-length}
+use Rattle.model.specs.Sheet.{nodes-in, is-sheet}
+use Rattle.calls.specs.Outcomes.{accepted, if-accepted}
+use Rattle.calls.specs.Calls.{Ran, checkOf, loadOf, runOf}
+use Rattle.calls.specs.History.{Call, run, State, after-calls, loaded, account-calls, chooses, is-stretch}
+use Rattle.calls.specs.History.{steps-of-call, steps-of, says-settled, ends-settled}
+use Rattle.call_laws.specs.Effects.{run-outcome}
+use Rattle.call_laws.specs.Settled.{ends-last, run-enough}
+use Rattle.promise.specs.Lists.{Normal, demand-3}
+
+-- A run on a sheet is accepted, and its count is at most the cube of n + 2l.
+pub record Counts (sheet : List ℕ) (budget : ℕ) : Type 0 where
+  pub ran : Ran
+  pub says : runOf sheet budget .answer ≡ accepted ran
+  pub few : ran .count ≤ most-steps (nodes-in sheet)
+
+-- From an accepted book, after any calls at all, and whatever calls follow.
+module _ (book target : List ℕ) (ok : checkOf book ≡ accepted tt) (long : length target ≡ sheet-length) (before : List Call) where
+  abbrev start : State
+  start = record { sheet = loadOf book target .lent }
+
+  abbrev here : List ℕ
+  here = after-calls before start .sheet
+
+  here-sheet : is-sheet here ≡ true
+  here-sheet = demand-3 book target ok long before .means .is-a-sheet
+
+  -- "Whatever the budgets, no stretch of the list without an accepted choice does more steps than the cube of n + 2l": a run is a
+  -- stretch, whatever follows it.
+  counted : (budget : ℕ) (rest : List Call) → strategy.run budget (nodes-in here) .count ≤ most-steps (nodes-in here)
+  unfolding is-stretch chooses steps-of steps-of-call if-accepted
+  counted budget rest =
+      let calls = before ++ ((run budget ∷ []) ++ rest) in
+      let bound = demand-3 book target ok long calls .bounded before (run budget ∷ []) rest refl refl in
+      omega (arith, rw (run-outcome here budget here-sheet) at bound)
+
+  pub run-counts : (budget : ℕ) (rest : List Call) → Counts here budget
+  run-counts budget rest =
+      record { ran = _; says = ap (λ o. o .answer) (run-outcome here budget here-sheet); few = counted budget rest }
+
+  -- "Where the list ends in a run that says settled, no rule applies to the sheet": with a budget of at least that cube it does say
+  -- settled, and the sheet that it leaves is a normal form of the account.
+  pub record Settles (budget : ℕ) : Type 0 where
+    pub ran : Ran
+    pub says : runOf here budget .answer ≡ accepted ran
+    pub settled : ran .settled ≡ true
+    pub normal :
+        Normal
+        (account-calls (before ++ (run budget ∷ [])) start (loaded book))
+        (after-calls (before ++ (run budget ∷ [])) start .sheet)
+
+  pub run-settles : (budget : ℕ) → most-steps (nodes-in here) ≤ budget → Settles budget
+  unfolding says-settled if-accepted
+  run-settles budget enough =
+      let said = run-outcome here budget here-sheet in
+      let settled = run-enough budget (nodes-in here) (omega (arith, counted (suc budget) [])) in
+      let calls = before ++ (run budget ∷ []) in
+      let last : ends-settled calls start ≡ true = rw (ends-last before (run budget) start, says-settled, said) settled in
+      record {
+        ran = _;
+        says = ap (λ o. o .answer) said;
+        settled = settled;
+        normal = demand-3 book target ok long calls .settled last;
+      }
