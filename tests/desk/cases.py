@@ -12,12 +12,22 @@ from driver.desks import FOLDER, printed
 TOP = Path(__file__).resolve().parent.parent.parent
 DESK, EXAMPLES = str(TOP / "target/bin/desk"), TOP / "examples"
 BUFFER = 65_536
+CRATE = TOP / "crates/desk"  # its data/, stdin and stdout are what rt check holds the program to
 
 LONG_CODE = b"ABCDEFGHIJKLM"
 SMALL = build([b"P", b"Q", b"-"], [disjunction(positive(0), conjunction(positive(0), positive(1)))])
 WIDE = build([LONG_CODE, b"P"], [])
 FULL = build([b"P"], [disjunction(conjunction(), *[positive(0)] * 2045)])  # weight 4,093: one choice fits, not two
 CLASH = build([b"P"], [positive(0), negative(0)])
+
+
+def crate_cases():
+    """Document 01's own order, with no choices and with those of the crate."""
+    book, stdin = (CRATE / "data/book.bin").read_bytes(), (CRATE / "stdin").read_bytes()
+    for choices, due in ((b"", b"settled 5\nP in\nQ open\n"), (stdin, (CRATE / "stdout").read_bytes())):
+        if desk.output(book, choices) != due:
+            raise SystemExit("crates/desk: choices %r: written down %r, due %r" % (choices, due, desk.output(book, choices)))
+        yield "document 01's book, choices %r" % choices, book, choices
 
 
 def sample_cases():
@@ -72,7 +82,7 @@ def long_cases():
 
 def main():
     count = 0
-    for cases in (sample_cases(), line_cases(), book_cases(), long_cases()):
+    for cases in (crate_cases(), sample_cases(), line_cases(), book_cases(), long_cases()):
         for name, book, stdin in cases:
             due, given = desk.output(None if book is FOLDER else book, stdin), printed(DESK, book, stdin)
             if given != due:

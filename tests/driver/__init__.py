@@ -6,3 +6,13 @@ refusal of every call, damaged books and sheets. cases: document 01's own. order
 rules in the book. theories: larger random theories. desks: the desk program. From the folder above:
 python3 -m driver
 """
+
+
+class Difference(Exception):
+    """The library and the checker, or the library and a demand, do not agree."""
+
+
+def expect(holds, what):
+    """Something that must hold. No `assert`: python3 -O would leave that out."""
+    if not holds:
+        raise Difference(what)

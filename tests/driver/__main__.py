@@ -9,8 +9,8 @@ import time
 from collections import Counter
 from pathlib import Path
 
-from . import cases, desks, lists, orders, refusals, theories
-from .comparing import CAN_REFUSE, Comparing, Difference
+from . import Difference, cases, desks, lists, orders, refusals, theories
+from .comparing import CAN_REFUSE, SAYS, Comparing
 from .library import Library
 
 TOP = Path(__file__).resolve().parent.parent.parent
@@ -92,10 +92,12 @@ def soak(comparing, desk, seconds):
 
 def due_counts(desk):
     """What must have been seen, and how often at least."""
-    least = {"lists": LISTS, "orders": ORDERS, "settled": 1, "stopped": 1, "contradictory": 1,
-             "theories": THEORIES, "theories whose clauses fit": THEORIES // 2}
+    least = {"lists": LISTS, "orders": ORDERS, "theories": THEORIES,
+             "theories whose clauses fit": THEORIES // 2, "complete sheets with options": 1}
     least.update({"rule %d" % rule: 1 for rule in range(1, 15)})
+    # Every answer of every call. (A code that is found is a lookup accepted, one that is not is 7.)
     least.update({(call, number): 1 for call in CAN_REFUSE for number in [0] + CAN_REFUSE[call]})
+    least.update({(call, said): 1 for call in SAYS for said in SAYS[call]})
     if desk:
         least["desk runs"] = DESKS
         least.update({"desk " + word: 1 for word in ("settled", "stopped", "contradiction")})
@@ -108,7 +110,8 @@ def tell(seen):
     for call in CAN_REFUSE:
         refused = ", ".join("%d: %d" % (number, seen[call, number])
                             for number in sorted(CAN_REFUSE[call]))
-        print("  %-8s accepted %d; refused %s" % (call, seen[call, 0], refused))
+        said = "".join(", %s %d" % (word, seen[call, word]) for word in SAYS.get(call, ()))
+        print("  %-8s accepted %d%s; refused %s" % (call, seen[call, 0], said, refused))
     words = sorted(key for key in seen if isinstance(key, str))
     print("  " + ", ".join("%s %d" % (word, seen[word]) for word in words))
 

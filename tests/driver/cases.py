@@ -1,12 +1,13 @@
 """Document 01's own cases: the steps written beside them done one by one, then by runs with budgets
-0, 1, 2, ...; single steps of every rule; and the cases that are executed only."""
+0, 1, 2, ...; single steps of every rule; the cases that are executed only; and faults side by side
+on inputs of the largest size, each with the number that document 01 gives it."""
 from checker import rules
 from checker.books import build
 from checker.cases import BAD, CASES, CODES, STEPS
 from checker.sheets import LENGTH
 from checker.trees import ROOT, TRUE, Tree, conjunction as all_of, disjunction as any_of, positive
 
-from .comparing import expect
+from . import expect
 from .library import Lent, sheet as lent_sheet
 
 MOST = 2 ** 64 - 1
@@ -81,7 +82,57 @@ def executed_only(comparing):
     trues.must_hold(empty.values)
 
 
+def of_weight(weight, options=2, wrong=None):
+    """A book whose sheet has this weight, at least 4: one any-of with as many marks as fit, and a
+    true where one is over. `wrong` is the option of the last mark, in place of its own."""
+    marks = [positive(at % options) for at in range((weight - 2) // 2)]
+    if wrong is not None:
+        marks[-1] = positive(wrong)
+    return build(CODES[:options], [any_of(*marks, *[TRUE] * (weight % 2))])
+
+
+def faults_of_choices(comparing):
+    """ "8 sheet full: weight + 2 is over 4,096", alone, after 7, and after 11."""
+    for weight, refusal in ((4093, 0), (4094, 0), (4095, 8), (4096, 8)):
+        for option, barred, due in ((0, False, refusal), (1, True, refusal), (2, False, 7),
+                                    (65535, True, 7)):
+            sheet = lent_sheet([7] * LENGTH)
+            comparing.done("load", Lent(of_weight(weight)), sheet)
+            expect(comparing.call("choose", sheet, option, barred) == (due, 0),
+                   "weight %d: the choice of option %d" % (weight, option))
+            if due == 0:  # now it is full
+                for again, full in ((option, 8), (2, 7)):
+                    expect(comparing.call("choose", sheet, again, barred) == (full, 0),
+                           "weight %d: a second choice" % weight)
+    # "The weight ... is at most 4,096. Anything else is no sheet." A mark more: 11 comes before 7.
+    nodes = [20481, 16384 + 2048] + [4096] * 2048
+    heavy = [2, len(nodes)] + nodes + [0] * (LENGTH - 2 - len(nodes))
+    for option in (0, 2):
+        expect(comparing.call("choose", lent_sheet(heavy), option, False) == (11, 0),
+               "weight 4,098: a choice")
+
+
+def faults_of_books(comparing):
+    """ "6 weight over 4,096", alone, after 5, and before 7, 11 for N and 12."""
+    sheet = loaded(comparing, 2, []).values
+    for book, due in ((of_weight(4096), 0), (of_weight(4097), 6), (of_weight(4098), 6),
+                      (of_weight(4096, wrong=2), 5), (of_weight(4097, wrong=2), 5),
+                      (of_weight(4098, wrong=2), 5), (of_weight(4098, wrong=511), 5)):
+        what = "a book of weight 4,096 or more: %d is due" % due
+        expect(comparing.call("check", Lent(book)) == (due, 0), what)
+        expect(comparing.call("load", Lent(book), lent_sheet([7] * LENGTH)) == (due, 0), what)
+        expect(comparing.call("lookup", Lent(book), Lent(b"none")) == (due or 7, 0), what)
+        expect(comparing.call("write", lent_sheet(sheet), Lent(book), Lent([])) == (due or 12, 0),
+               what)
+    for weight, due in ((4096, 11), (4097, 6)):  # N is 1, and the sheet's is 2
+        book = of_weight(weight, options=1)
+        expect(comparing.call("write", lent_sheet(sheet), Lent(book), Lent([])) == (due, 0),
+               "written with a book of another N")
+
+
 def all_of_them(comparing):
     books_to_try(comparing)
     single_steps(comparing)
     executed_only(comparing)
+    faults_of_choices(comparing)
+    faults_of_books(comparing)

@@ -3,6 +3,7 @@ from collections import Counter
 
 from checker import calls
 
+from . import Difference, expect
 from .library import CALLS, Lent
 
 # Document 01, "who can cause which refusal" and their order, for each call.
@@ -11,9 +12,9 @@ CAN_REFUSE = {
     "write": [11, 1, 2, 3, 4, 5, 6, 12], "report": [11, 12], "complete": [11],
     "choose": [11, 7, 8], "step": [11, 9, 10], "run": [11]}
 
-
-class Difference(Exception):
-    """The library and the checker, or the library and a demand, do not agree."""
+# What the value of an accepted call says, where it says one of two things: by its lowest bit.
+SAYS = {"run": ("stopped", "settled"), "report": ("consistent", "contradictory"),
+        "complete": ("incomplete", "complete")}
 
 
 class Comparing:
@@ -21,7 +22,7 @@ class Comparing:
 
     def __init__(self, library):
         self.library = library
-        self.seen = Counter()  # (call, refusal or 0), and words for other things counted
+        self.seen = Counter()  # (call, refusal or 0), (call, what it says), and words for more
 
     def call(self, name, *arguments):
         """(refusal, value), the same of both."""
@@ -38,9 +39,14 @@ class Comparing:
             if isinstance(argument, Lent):
                 try:
                     argument.must_hold(after[0] if letter.isupper() else argument.values)
-                except AssertionError:
-                    raise Difference("%s, refusal %d: lent memory differs" % (name, refusal))
+                except Difference as difference:
+                    raise Difference("%s, refusal %d: %s" % (name, refusal, difference))
         self.seen[name, refusal] += 1
+        if refusal == 0 and name in SAYS:
+            said = SAYS[name][value % 2]
+            self.seen[name, said] += 1
+            if said == "complete" and arguments[0].values[0] > 0:  # not for want of options
+                self.seen["complete sheets with options"] += 1
         return refusal, value
 
     def done(self, name, *arguments):
@@ -48,9 +54,3 @@ class Comparing:
         refusal, value = self.call(name, *arguments)
         expect(refusal == 0, "%s is refused %d" % (name, refusal))
         return value
-
-
-def expect(holds, what):
-    """Something that a demand says, of both."""
-    if not holds:
-        raise Difference(what)

@@ -8,7 +8,7 @@ from checker import desk
 from checker.books import build
 from checker.trees import conjunction, disjunction, positive
 
-from .comparing import Difference
+from . import Difference, expect
 from .making import random_rules
 
 CODES = [b"P", b"-", b"ABCDEFGHIJKLM", b"A7-z"]
@@ -86,7 +86,11 @@ def comb(weight):
 
 
 def known_cases(comparing, program):
-    """Every odd line alone, first and last; books of every refusal; a sheet that gets full."""
+    """Document 01's own order; every odd line alone, first and last; books of every refusal; a sheet
+    that gets full."""
+    first = bytes.fromhex("02 00 01 00 05 00 00 00 50" + "00" * 12 + "51" + "00" * 12
+                          + "00 00 05 00 02 40 00 10 02 30 00 10 01 10")
+    expect(printed(program, first, b"") == b"settled 5\nP in\nQ open\n", "document 01's own order")
     book = build(CODES, [])
     for line in ODD_LINES:
         for stdin in (line, line + b"\n", line + b"\n+P\n", b"+P\n" + line, b"+P\n" + line + b"\n"):

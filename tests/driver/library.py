@@ -2,6 +2,8 @@
 import ctypes
 from array import array
 
+from . import expect
+
 # Each call by its arguments: a lent run of bytes or of 16-bit numbers, or a number of some width.
 # A capital letter marks the run that the call may write.
 CALLS = {
@@ -43,7 +45,7 @@ class Lent:
         if values != self.values:
             self.values = list(values)
             self.expected = self.laid_out(self.values)
-        assert self.memory == self.expected, "lent memory differs"
+        expect(self.memory == self.expected, "lent memory differs")
 
 
 def sheet(values):

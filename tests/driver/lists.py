@@ -5,7 +5,7 @@ from checker.demands import cube, is_settled
 from checker.sheets import LENGTH
 from checker.trees import ROOT, Literal, Tree, negative, positive
 
-from .comparing import Difference, expect
+from . import Difference, expect
 from .library import Lent, sheet as lent_sheet
 from .making import random_book
 
@@ -65,7 +65,6 @@ class Order:
     def run(self, budget):
         self.made.append(("run", budget))
         count, settled = divmod(self.comparing.done("run", self.sheet, budget), 2)
-        self.comparing.seen["settled" if settled else "stopped"] += 1
         expect(count <= budget if settled else count == budget, "stopped with budget left")
         self.count_steps(count)
         if settled:
@@ -75,7 +74,6 @@ class Order:
         """ "the sheet reports what the loaded rules with all accepted choices mean" """
         self.output.hold([9] * len(self.output.values))
         contradictory = self.comparing.done("report", self.sheet, self.output)
-        self.comparing.seen["contradictory" if contradictory else "consistent"] += 1
         expect(contradictory == (self.due is None), "contradictory, or not, unlike the rules")
         for option, mark in enumerate(self.output.values):
             due = (3 if self.due is None else 1 if Literal(option, True) in self.due else

@@ -2,7 +2,7 @@
 from checker.books import build
 from checker.sheets import LENGTH
 
-from .comparing import expect
+from . import expect
 from .library import Lent, sheet as lent_sheet
 from .making import CODES, random_rules
 

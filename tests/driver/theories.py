@@ -10,7 +10,7 @@ from checker.sheets import LENGTH, root_of
 from checker.trees import (CONJUNCTION, DISJUNCTION, NEGATIVE, POSITIVE, ROOT, Literal, Tree, fold,
                            preorder, weight)
 
-from .comparing import expect
+from . import expect
 from .library import Lent, sheet as lent_sheet
 
 LIMIT = 100_000  # most literals in the clauses of a theory
