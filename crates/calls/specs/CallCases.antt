@@ -1,0 +1,160 @@
+-- Document 01's starred cases by the calls: each is loaded from its book's bytes, chosen on, run and
+-- reported. What is said of its sheet before the run is computed in `Cases`.
+use mathlib.Core.Bool.{Bool, true, false}
+use mathlib.Core.List.{List, [], _∷_, _++_, map}
+use mathlib.Core.Path.{_≡_, refl}
+use Prim.Native.Nat.{ℕ}
+use Prim.Native.String.{String}
+use lib.ListN.{length, replicate}
+use Rattle.calls.specs.Outcomes.{Answer, accepted, Outcome}
+use Rattle.calls.specs.Calls.{Ran, loadOf, chooseOf, runOf, reportOf, completeOf}
+use Rattle.calls.specs.Opened.{definitions}
+use Rattle.calls.specs.Samples.{P, Q, R, not-P, not-Q, not-R, True, False, all-of, any-of, root, book, sheet, samples}
+
+-- A case: its codes, its rules, its choices (the option, and whether it is barred).
+pub record Order : Type 0 where
+  pub codes : List String
+  pub rules : List (List ℕ)
+  pub choices : List (ℕ × Bool)
+
+-- What the calls answer and leave.
+pub record Called : Type 0 where
+  pub loaded : Outcome (List ℕ) (Unit {0})
+  pub chosen : List (Outcome (List ℕ) (Unit {0}))
+  pub ran : Outcome (List ℕ) Ran
+  pub told : Outcome (List ℕ) Bool
+
+unfoldable pub choose-all : List (ℕ × Bool) → List ℕ → List (Outcome (List ℕ) (Unit {0}))
+choose-all [] s = []
+choose-all (c ∷ cs) s = let o = chooseOf s (c .0) (c .1) in o ∷ choose-all cs (o .lent)
+
+-- The sheet as the last choice left it.
+unfoldable pub left-by : List ℕ → List (Outcome (List ℕ) (Unit {0})) → List ℕ
+left-by s [] = s
+left-by s (o ∷ os) = left-by (o .lent) os
+
+-- The target and the report's bytes hold other numbers before.
+unfoldable pub call : Order → Called
+call c =
+    let loaded = loadOf (book (c .codes) (c .rules)) (replicate 4098 7) in
+    let chosen = choose-all (c .choices) (loaded .lent) in
+    let ran = runOf (left-by (loaded .lent) chosen) 100 in
+    record {
+      loaded = loaded;
+      chosen = chosen;
+      ran = ran;
+      told = reportOf (ran .lent) (replicate (length (c .codes)) 9);
+    }
+
+abbrev pub order : List String → List (List ℕ) → Order
+order cs rs = record { codes = cs; rules = rs; choices = [] }
+
+unfoldable pub orders : List Order
+orders =
+    -- "P or (P and Q)"
+    order ("P" ∷ "Q" ∷ []) ((any-of 2 ∷ P ∷ all-of 2 ∷ P ∷ Q ∷ []) ∷ [])
+    -- "Rules P; ((not P and Q) or false)"
+    ∷ order ("P" ∷ "Q" ∷ []) ((P ∷ []) ∷ (any-of 2 ∷ all-of 2 ∷ not-P ∷ Q ∷ False ∷ []) ∷ [])
+    -- "(P and Q) or (P and R)"
+    ∷ order ("P" ∷ "Q" ∷ "R" ∷ []) ((any-of 2 ∷ all-of 2 ∷ P ∷ Q ∷ all-of 2 ∷ P ∷ R ∷ []) ∷ [])
+    -- "Rules not P; P or not Q; P or not R; Q or R"
+    ∷ order ("P" ∷ "Q" ∷ "R" ∷ []) ((not-P ∷ []) ∷ (any-of 2 ∷ P ∷ not-Q ∷ []) ∷ (any-of 2 ∷ P ∷ not-R ∷ []) ∷ (any-of 2 ∷ Q ∷ R ∷ []) ∷ [])
+    -- "P or Q; not P or Q"
+    ∷ order ("P" ∷ "Q" ∷ []) ((any-of 2 ∷ P ∷ Q ∷ []) ∷ (any-of 2 ∷ not-P ∷ Q ∷ []) ∷ [])
+    -- "(P and not P) or Q"
+    ∷ order ("P" ∷ "Q" ∷ []) ((any-of 2 ∷ all-of 2 ∷ P ∷ not-P ∷ Q ∷ []) ∷ [])
+    -- "P or Q, choice not Q"
+    ∷ record { codes = "P" ∷ "Q" ∷ []; rules = (any-of 2 ∷ P ∷ Q ∷ []) ∷ []; choices = (1, true) ∷ [] }
+    -- "Eight zero bytes: a book"
+    ∷ order [] []
+    -- "Only rule false"; "only rule true"
+    ∷ order [] ((False ∷ []) ∷ [])
+    ∷ order [] ((True ∷ []) ∷ [])
+    ∷ []
+
+abbrev pub filled : ℕ → List ℕ → Outcome (List ℕ) (Unit {0})
+filled n nodes = record { answer = accepted tt; lent = sheet n nodes }
+
+abbrev pub settled : ℕ → ℕ → List ℕ → Outcome (List ℕ) Ran
+settled n count nodes = record { answer = accepted (record { settled = true; count = count }); lent = sheet n nodes }
+
+abbrev pub tells : Bool → List ℕ → Outcome (List ℕ) Bool
+tells contradictory marks = record { answer = accepted contradictory; lent = marks }
+
+-- The nodes loaded; the steps and the nodes that they leave; the report's result and bytes. No choices.
+abbrev pub comes-to : List ℕ → ℕ → List ℕ → Bool → List ℕ → Called
+comes-to nodes count left contradictory marks =
+    record {
+      loaded = filled (length marks) nodes;
+      chosen = [];
+      ran = settled (length marks) count left;
+      told = tells contradictory marks;
+    }
+
+pub starred-by-calls :
+    map call orders
+    -- "P in, Q open. Steps 9, 1, 7, 5, 8."
+    ≡ comes-to (root 1 ∷ any-of 2 ∷ P ∷ all-of 2 ∷ P ∷ Q ∷ []) 5 (root 1 ∷ P ∷ []) false (1 ∷ 0 ∷ [])
+    -- "Contradiction. Steps 5, 8, 10, 1, 7, 3."
+    ∷ comes-to (root 2 ∷ P ∷ any-of 2 ∷ all-of 2 ∷ not-P ∷ Q ∷ False ∷ []) 6 (root 1 ∷ False ∷ []) true (3 ∷ 3 ∷ [])
+    -- "Steps 14, 7, 7, 8, 12, 7 leave P; (Q or R)."
+    ∷ comes-to (root 1 ∷ any-of 2 ∷ all-of 2 ∷ P ∷ Q ∷ all-of 2 ∷ P ∷ R ∷ []) 6 (root 2 ∷ P ∷ any-of 2 ∷ Q ∷ R ∷ []) false (1 ∷ 0 ∷ 0 ∷ [])
+    -- "Contradiction."
+    ∷ comes-to (root 4 ∷ not-P ∷ any-of 2 ∷ P ∷ not-Q ∷ any-of 2 ∷ P ∷ not-R ∷ any-of 2 ∷ Q ∷ R ∷ []) 10 (root 1 ∷ False ∷ []) true (3 ∷ 3 ∷ 3 ∷ [])
+    -- "All open, although Q follows by truth table."
+    ∷ comes-to (root 2 ∷ any-of 2 ∷ P ∷ Q ∷ any-of 2 ∷ not-P ∷ Q ∷ []) 0 (root 2 ∷ any-of 2 ∷ P ∷ Q ∷ any-of 2 ∷ not-P ∷ Q ∷ []) false (0 ∷ 0 ∷ [])
+    -- "Q open."
+    ∷ comes-to (root 1 ∷ any-of 2 ∷ all-of 2 ∷ P ∷ not-P ∷ Q ∷ []) 0 (root 1 ∷ any-of 2 ∷ all-of 2 ∷ P ∷ not-P ∷ Q ∷ []) false (0 ∷ 0 ∷ [])
+    -- "P in, Q out."
+    ∷ record {
+      loaded = filled 2 (root 1 ∷ any-of 2 ∷ P ∷ Q ∷ []);
+      chosen = filled 2 (root 2 ∷ any-of 2 ∷ P ∷ Q ∷ not-Q ∷ []) ∷ [];
+      ran = settled 2 3 (root 2 ∷ P ∷ not-Q ∷ []);
+      told = tells false (1 ∷ 2 ∷ []);
+    }
+    -- "The sheet is 0, 1, 20480, zeros."
+    ∷ comes-to (20480 ∷ []) 0 (20480 ∷ []) false []
+    -- "Contradiction, 0 steps"; "1 step, no children."
+    ∷ comes-to (root 1 ∷ False ∷ []) 0 (root 1 ∷ False ∷ []) true []
+    ∷ comes-to (root 1 ∷ True ∷ []) 1 (root 0 ∷ []) false []
+    ∷ []
+unfolding definitions samples choose-all left-by call orders
+starred-by-calls = refl
+
+-- Sheets before any step: every option in or out; one open; contradictory, though every option is forced; no option.
+-- "A sheet is complete if it is not contradictory and every option is 1 or 2."
+unfoldable pub questions : List (Answer Bool)
+questions =
+    map
+    completeOf
+    (sheet 2 (root 2 ∷ any-of 2 ∷ P ∷ Q ∷ not-Q ∷ [])
+    ∷ sheet 2 (root 1 ∷ any-of 2 ∷ P ∷ all-of 2 ∷ P ∷ Q ∷ [])
+    ∷ sheet 1 (root 2 ∷ P ∷ not-P ∷ [])
+    ∷ sheet 0 (root 0 ∷ [])
+    ∷ [])
+
+pub questions-answered : questions ≡ accepted true ∷ accepted false ∷ accepted false ∷ accepted true ∷ []
+unfolding definitions samples questions
+questions-answered = refl
+
+-- The first case with budgets about its 5 steps, and what is left with a budget for 0. "It says settled when no rule applies; it
+-- says stopped when the budget's steps are done and a rule still applies."
+unfoldable pub budgets : List (Outcome (List ℕ) Ran)
+budgets =
+    map (runOf (sheet 2 (root 1 ∷ any-of 2 ∷ P ∷ all-of 2 ∷ P ∷ Q ∷ []))) (0 ∷ 1 ∷ 4 ∷ 5 ∷ 6 ∷ [])
+    ++ (runOf (sheet 2 (root 1 ∷ P ∷ [])) 0 ∷ [])
+
+abbrev pub stopped : ℕ → ℕ → List ℕ → Outcome (List ℕ) Ran
+stopped n count nodes = record { answer = accepted (record { settled = false; count = count }); lent = sheet n nodes }
+
+pub budgets-kept :
+    budgets
+    ≡ stopped 2 0 (root 1 ∷ any-of 2 ∷ P ∷ all-of 2 ∷ P ∷ Q ∷ [])
+    ∷ stopped 2 1 (root 1 ∷ any-of 2 ∷ P ∷ all-of 2 ∷ False ∷ Q ∷ [])
+    ∷ stopped 2 4 (root 1 ∷ any-of 1 ∷ P ∷ [])
+    ∷ settled 2 5 (root 1 ∷ P ∷ [])
+    ∷ settled 2 5 (root 1 ∷ P ∷ [])
+    ∷ settled 2 0 (root 1 ∷ P ∷ [])
+    ∷ []
+unfolding definitions samples budgets
+budgets-kept = refl
