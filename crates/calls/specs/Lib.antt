@@ -13,3 +13,4 @@ pub mod Cases
 pub mod Opened
 pub mod Samples
 pub mod CallCases
+pub mod DeskCases

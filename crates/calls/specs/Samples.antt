@@ -83,6 +83,16 @@ unfoldable pub book : List String → List (List ℕ) → List ℕ
 book cs rs =
     book-of (length cs ∷ length rs ∷ length (joined rs) ∷ 0 ∷ []) (codes cs) (pairs 0 rs) (joined rs)
 
+-- "The first case's book (codes P, Q; bytes in hexadecimal 02 00 01 00 05 00 00 00, 50 and 12 zeros, 51 and 12 zeros, 00 00 05 00,
+-- 02 40 00 10 02 30 00 10 01 10)."
+unfoldable pub first-book : List ℕ
+first-book =
+    0x02 ∷ 0x00 ∷ 0x01 ∷ 0x00 ∷ 0x05 ∷ 0x00 ∷ 0x00 ∷ 0x00 ∷ []
+    ++ (0x50 ∷ replicate 12 0)
+    ++ (0x51 ∷ replicate 12 0)
+    ++ (0x00 ∷ 0x00 ∷ 0x05 ∷ 0x00 ∷ [])
+    ++ (0x02 ∷ 0x40 ∷ 0x00 ∷ 0x10 ∷ 0x02 ∷ 0x30 ∷ 0x00 ∷ 0x10 ∷ 0x01 ∷ 0x10 ∷ [])
+
 -- "Exactly 4,098 16-bit numbers: N, the count of nodes used, the nodes, then zeros."
 unfoldable pub sheet : ℕ → List ℕ → List ℕ
 sheet n nodes = n ∷ length nodes ∷ nodes ++ replicate (4096 - length nodes) 0
@@ -94,5 +104,5 @@ said (accepted a) = 0
 
 -- What all of these see through, by one name.
 unfoldable pub samples : Unit {0}
-unfolding text low-first codes book-of pairs joined book sheet said
+unfolding text low-first codes book-of pairs joined book first-book sheet said
 samples = tt

@@ -1,0 +1,78 @@
+-- What the desk program prints, for books and inputs of every kind.
+use mathlib.Core.Bool.{true, false}
+use mathlib.Core.List.{List, [], _∷_, map}
+use mathlib.Core.Path.{_≡_, refl}
+use Prim.Native.Nat.{ℕ}
+use Prim.Native.String.{String}
+use lib.ListN.{replicate}
+use Rattle.calls.specs.Desk.{first-line, deskOf}
+use Rattle.calls.specs.Opened.{definitions}
+use Rattle.calls.specs.Samples.{text, P, Q, True, any-of, book, first-book, samples}
+
+-- A book with these choices keyed.
+unfoldable pub keyed-on : List ℕ → String → List ℕ
+keyed-on b input = let bytes = b in deskOf bytes (text input)
+
+-- The first case's book "and no choices"; "P or Q, choice not Q". A book of no rules: "+ or - and a code", "it keys them in order", "the
+-- last may lack its line end"; "line 1: contradiction if reported", and no line for an option then.
+unfoldable pub orders : List (List ℕ)
+orders =
+    keyed-on first-book ""
+    ∷ keyed-on (book ("P" ∷ "Q" ∷ []) ((any-of 2 ∷ P ∷ Q ∷ []) ∷ [])) "-Q\n"
+    ∷ map (keyed-on (book ("P" ∷ "Q" ∷ []) [])) ("+Q\n-P" ∷ "+Q\n-Q\n" ∷ [])
+
+pub orders-printed :
+    orders
+    ≡ map text
+    ("settled 5\nP in\nQ open\n"
+    ∷ "settled 3\nP in\nQ out\n"
+    ∷ "settled 0\nP out\nQ in\n"
+    ∷ "contradiction 2\n"
+    ∷ [])
+unfolding definitions samples keyed-on orders
+orders-printed = refl
+
+-- "Any other line, an empty one too, is 7": an unknown code; an empty line, alone and after a good one; no sign; another sign; a
+-- sign alone; a carriage return. "Ends the program": what follows the first refusal is not looked at.
+unfoldable pub bad-lines : List (List ℕ)
+bad-lines =
+    map (keyed-on first-book) ("+X\n" ∷ "\n" ∷ "+Q\n\n" ∷ "Q\n" ∷ "*Q\n" ∷ "+\n" ∷ "+Q\r\n" ∷ "+X\n-Q\n" ∷ [])
+
+pub bad-lines-refused : bad-lines ≡ replicate 8 (text "refused 7\n")
+unfolding definitions samples keyed-on bad-lines
+bad-lines-refused = refl
+
+-- Other books: "one it cannot open counts as empty"; eight zero bytes; a code that is a sign, barred; a code without zero bytes; a
+-- count of two digits.
+unfoldable pub books : List (List ℕ)
+books =
+    keyed-on [] "+P\n"
+    ∷ keyed-on (replicate 8 0) ""
+    ∷ keyed-on (book ("-" ∷ []) []) "--\n"
+    ∷ keyed-on (book ("ABCDEFGHIJKLM" ∷ "P" ∷ []) []) "+ABCDEFGHIJKLM\n"
+    ∷ keyed-on (book ("P" ∷ []) ((P ∷ []) ∷ replicate 10 (True ∷ []))) ""
+    ∷ []
+
+pub books-printed :
+    books
+    ≡ map text
+    ("refused 1\n"
+    ∷ "settled 0\n"
+    ∷ "settled 0\n- out\n"
+    ∷ "settled 0\nABCDEFGHIJKLM in\nP open\n"
+    ∷ "settled 10\nP in\n"
+    ∷ [])
+unfolding definitions samples keyed-on books
+books-printed = refl
+
+-- "Line 1: contradiction if reported, else settled or stopped; a space; the steps", where the count has more digits.
+unfoldable pub first-lines : List (List ℕ)
+first-lines =
+    first-line false (record { settled = true; count = 12 })
+    ∷ first-line false (record { settled = false; count = 305 })
+    ∷ first-line true (record { settled = false; count = 99 })
+    ∷ []
+
+pub first-lines-printed : first-lines ≡ map text ("settled 12\n" ∷ "stopped 305\n" ∷ "contradiction 99\n" ∷ [])
+unfolding definitions samples first-lines
+first-lines-printed = refl
