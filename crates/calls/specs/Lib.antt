@@ -14,3 +14,4 @@ pub mod Opened
 pub mod Samples
 pub mod CallCases
 pub mod DeskCases
+pub mod BookCases

@@ -1,0 +1,189 @@
+-- Small books: what the book check, the code lookup, the loader and the writer make of them.
+use mathlib.Core.List.{List, [], _∷_, _++_, map}
+use mathlib.Core.Path.{_≡_, refl}
+use Prim.Native.Nat.{ℕ}
+use Prim.Native.String.{String}
+use lib.ListN.{take, replicate}
+use Rattle.calls.specs.Refusals.{option-refused}
+use Rattle.calls.specs.Outcomes.{Answer, refused, accepted, Outcome}
+use Rattle.calls.specs.Calls.{checkOf, lookupOf, loadOf, writeOf}
+use Rattle.calls.specs.Opened.{definitions}
+use Rattle.calls.specs.Samples.{P, Q, R, not-P, not-Q, not-R, True, False, plain, barred, all-of, any-of, root, text, book-of, book, first-book, sheet, said, samples}
+
+-- The number that the book check says: 0 where the book is good.
+unfoldable pub checked : List ℕ → ℕ
+checked b = let bytes = b in said (checkOf bytes)
+
+-- A book of these codes and no rules.
+unfoldable pub coded : List String → ℕ
+coded cs = checked (book cs [])
+
+-- "Characters from A-Z, a-z, 0-9 and hyphen": the ends of each range, then the bytes beside them and others.
+unfoldable pub characters : List ℕ
+characters =
+    map
+    (λ c. coded (c ∷ []))
+    ("A" ∷ "Z" ∷ "a" ∷ "z" ∷ "0" ∷ "9" ∷ "-" ∷ "@" ∷ "[" ∷ "`" ∷ "{" ∷ "/" ∷ ":" ∷ "," ∷ "." ∷ "_" ∷ " " ∷ [])
+
+pub characters-checked : characters ≡ replicate 7 0 ++ replicate 10 3
+unfolding definitions samples checked coded characters
+characters-checked = refl
+
+-- "A code has 1 to 13 characters, then zero bytes. All 13 bytes are compared." Good ones, two that differ in character 13 alone last.
+-- Then none; a bad character further on; something after a zero byte; "one equal to an earlier", be it next to it or not.
+unfoldable pub code-lists : List ℕ
+code-lists =
+    map
+    coded
+    (("A" ∷ "B" ∷ "AB" ∷ "a" ∷ [])
+    ∷ ("ABCDEFGHIJKLM" ∷ [])
+    ∷ ("ABCDEFGHIJKLM" ∷ "ABCDEFGHIJKLN" ∷ [])
+    ∷ ("" ∷ [])
+    ∷ ("A" ∷ "" ∷ [])
+    ∷ ("A[" ∷ [])
+    ∷ ("ABCDEFGHIJKL[" ∷ [])
+    ∷ ("A\0B" ∷ [])
+    ∷ ("\0A" ∷ [])
+    ∷ ("ABCDEFGHIJK\0L" ∷ [])
+    ∷ ("A" ∷ "A" ∷ [])
+    ∷ ("A" ∷ "B" ∷ "A" ∷ [])
+    ∷ [])
+
+pub code-lists-checked : code-lists ≡ replicate 3 0 ++ replicate 9 3
+unfolding definitions samples checked coded code-lists
+code-lists-checked = refl
+
+-- "1 length (fewer than 8 bytes, or not the length due)": nothing, 7 bytes, 9 zero bytes, a byte too few, a byte too many; then heads
+-- at their limits, N 512, M 4,095, T 4,095, which nothing follows. "2 a head number over its limit, or the fourth not zero."
+unfoldable pub heads : List ℕ
+heads =
+    map
+    checked
+    ([]
+    ∷ replicate 7 0
+    ∷ replicate 9 0
+    ∷ take 47 first-book
+    ∷ (first-book ++ (0 ∷ []))
+    ∷ (0 ∷ 2 ∷ replicate 6 0)
+    ∷ (0 ∷ 0 ∷ 255 ∷ 15 ∷ replicate 4 0)
+    ∷ (0 ∷ 0 ∷ 0 ∷ 0 ∷ 255 ∷ 15 ∷ 0 ∷ 0 ∷ [])
+    ∷ (1 ∷ 2 ∷ replicate 6 0)
+    ∷ (0 ∷ 0 ∷ 0 ∷ 16 ∷ replicate 4 0)
+    ∷ (0 ∷ 0 ∷ 0 ∷ 0 ∷ 0 ∷ 16 ∷ 0 ∷ 0 ∷ [])
+    ∷ (replicate 6 0 ++ (1 ∷ 0 ∷ []))
+    ∷ (replicate 6 0 ++ (0 ∷ 1 ∷ []))
+    ∷ [])
+
+pub heads-checked : heads ≡ replicate 8 1 ++ replicate 5 2
+unfolding definitions samples checked heads
+heads-checked = refl
+
+-- "4 a contents pair out of line (its first node is not the sum of the counts before it, or its count is 0), or node counts that do
+-- not add up to T (their sum is 0 if M is 0)." The last would add up in 16 bits.
+unfoldable pub contents : List ℕ
+contents =
+    map
+    checked
+    (book-of (0 ∷ 2 ∷ 2 ∷ 0 ∷ []) [] (0 ∷ 1 ∷ 1 ∷ 1 ∷ []) (True ∷ True ∷ [])
+    ∷ book-of (0 ∷ 1 ∷ 1 ∷ 0 ∷ []) [] (1 ∷ 1 ∷ []) (True ∷ [])
+    ∷ book-of (0 ∷ 2 ∷ 2 ∷ 0 ∷ []) [] (0 ∷ 1 ∷ 0 ∷ 1 ∷ []) (True ∷ True ∷ [])
+    ∷ book-of (0 ∷ 2 ∷ 1 ∷ 0 ∷ []) [] (0 ∷ 0 ∷ 0 ∷ 1 ∷ []) (True ∷ [])
+    ∷ book-of (0 ∷ 1 ∷ 2 ∷ 0 ∷ []) [] (0 ∷ 1 ∷ []) (True ∷ True ∷ [])
+    ∷ book-of (0 ∷ 1 ∷ 1 ∷ 0 ∷ []) [] (0 ∷ 2 ∷ []) (True ∷ [])
+    ∷ book-of (0 ∷ 0 ∷ 1 ∷ 0 ∷ []) [] [] (True ∷ [])
+    ∷ book-of (0 ∷ 2 ∷ 1 ∷ 0 ∷ []) [] (0 ∷ 65535 ∷ 65535 ∷ 2 ∷ []) (True ∷ [])
+    ∷ [])
+
+pub contents-checked : contents ≡ 0 ∷ replicate 7 4
+unfolding definitions samples checked contents
+contents-checked = refl
+
+-- "5 a malformed body", in a book of one option. Good bodies first. Then: no such option; a kind that no body has; children that are
+-- lacking, or too many; the children of one body in the next.
+unfoldable pub bodies : List ℕ
+bodies =
+    map
+    (λ rs. checked (book ("P" ∷ []) rs))
+    (((P ∷ []) ∷ (not-P ∷ []) ∷ (True ∷ []) ∷ (False ∷ []) ∷ (all-of 1 ∷ any-of 2 ∷ P ∷ not-P ∷ []) ∷ [])
+    ∷ ((plain 1 ∷ []) ∷ [])
+    ∷ ((barred 1 ∷ []) ∷ [])
+    ∷ ((0 ∷ []) ∷ [])
+    ∷ ((root 0 ∷ []) ∷ [])
+    ∷ ((24576 ∷ []) ∷ [])
+    ∷ ((all-of 1 ∷ root 0 ∷ []) ∷ [])
+    ∷ ((all-of 1 ∷ []) ∷ [])
+    ∷ ((any-of 2 ∷ P ∷ []) ∷ [])
+    ∷ ((True ∷ True ∷ []) ∷ [])
+    ∷ ((all-of 1 ∷ P ∷ P ∷ []) ∷ [])
+    ∷ ((all-of 1 ∷ []) ∷ (P ∷ []) ∷ [])
+    ∷ [])
+
+pub bodies-checked : bodies ≡ 0 ∷ replicate 11 5
+unfolding definitions samples checked bodies
+bodies-checked = refl
+
+-- "One any-of with 2,047 marks is accepted": with the root its weight is 4,096. (`OrderCases` has a book of weight 4,097.)
+pub heaviest-checked : checked (book ("P" ∷ []) ((any-of 2047 ∷ replicate 2047 P) ∷ [])) ≡ 0
+unfolding definitions samples checked
+heaviest-checked = refl
+
+-- "A code to look up is given as its characters alone; one that equals no code of the book, an empty or over-long one too, is refused
+-- 7." The first, the second; another one, a longer one, a small letter, none, one with a zero byte. Then codes of 13 characters: the
+-- first, the second, 12 of them, 14.
+unfoldable pub lookups : List (Answer ℕ)
+lookups =
+    map
+    (λ c. lookupOf (book ("P" ∷ "Q" ∷ []) []) (text c))
+    ("P" ∷ "Q" ∷ "R" ∷ "PQ" ∷ "p" ∷ "" ∷ "P\0" ∷ [])
+    ++ map
+    (λ c. lookupOf (book ("ABCDEFGHIJKLM" ∷ "ABCDEFGHIJKLN" ∷ []) []) (text c))
+    ("ABCDEFGHIJKLM" ∷ "ABCDEFGHIJKLN" ∷ "ABCDEFGHIJKL" ∷ "ABCDEFGHIJKLMN" ∷ [])
+
+pub lookups-answered :
+    lookups
+    ≡ accepted 0 ∷ accepted 1 ∷ replicate 5 (refused option-refused)
+    ++ (accepted 0 ∷ accepted 1 ∷ replicate 2 (refused option-refused))
+unfolding definitions samples lookups
+lookups-answered = refl
+
+-- A book of four rules.
+unfoldable pub four-rules : List ℕ
+four-rules =
+    book
+    ("P" ∷ "Q" ∷ "R" ∷ [])
+    ((not-P ∷ []) ∷ (any-of 2 ∷ P ∷ not-Q ∷ []) ∷ (False ∷ []) ∷ (all-of 2 ∷ any-of 1 ∷ Q ∷ not-R ∷ []) ∷ [])
+
+-- Loaded and written again, into so many bytes.
+unfoldable pub there-and-back : List ℕ → ℕ → Outcome (List ℕ) ℕ
+there-and-back b room = writeOf (loadOf b (replicate 4098 7) .lent) b (replicate room 7)
+
+-- "The writer takes the codes from a lent book, fills from the start and returns the length; bytes beyond stay."
+unfoldable pub written-books : List (Outcome (List ℕ) ℕ)
+written-books =
+    there-and-back first-book 48
+    ∷ there-and-back four-rules 81
+    ∷ there-and-back (replicate 8 0) 8
+    ∷ writeOf (sheet 2 (root 2 ∷ P ∷ any-of 2 ∷ Q ∷ not-P ∷ [])) first-book (replicate 60 7)
+    ∷ []
+
+pub written-books-same :
+    written-books
+    ≡ record { answer = accepted 48; lent = first-book }
+    ∷ record { answer = accepted 81; lent = four-rules }
+    ∷ record { answer = accepted 8; lent = replicate 8 0 }
+    ∷ record {
+      answer = accepted 50;
+      lent = book ("P" ∷ "Q" ∷ []) ((P ∷ []) ∷ (any-of 2 ∷ Q ∷ not-P ∷ []) ∷ []) ++ replicate 10 7;
+    }
+    ∷ []
+unfolding definitions samples four-rules there-and-back written-books
+written-books-same = refl
+
+-- The last of them loaded again: the same sheet.
+unfoldable pub loaded-again : Outcome (List ℕ) (Unit {0})
+loaded-again = loadOf (book ("P" ∷ "Q" ∷ []) ((P ∷ []) ∷ (any-of 2 ∷ Q ∷ not-P ∷ []) ∷ [])) (replicate 4098 7)
+
+pub loaded-again-same :
+    loaded-again ≡ record { answer = accepted tt; lent = sheet 2 (root 2 ∷ P ∷ any-of 2 ∷ Q ∷ not-P ∷ []) }
+unfolding definitions samples loaded-again
+loaded-again-same = refl
