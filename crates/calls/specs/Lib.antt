@@ -15,3 +15,4 @@ pub mod Samples
 pub mod CallCases
 pub mod DeskCases
 pub mod BookCases
+pub mod SheetCases
