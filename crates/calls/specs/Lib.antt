@@ -16,3 +16,4 @@ pub mod CallCases
 pub mod DeskCases
 pub mod BookCases
 pub mod SheetCases
+pub mod StepCases

@@ -1,0 +1,226 @@
+-- Steps of every rule, with the nodes before and after; steps that do not apply; the refusals of a step.
+use mathlib.Core.List.{List, [], _∷_, map}
+use mathlib.Core.Option.{Option, none, some}
+use mathlib.Core.Path.{_≡_, refl}
+use Prim.Native.Nat.{ℕ}
+use lib.ListN.{replicate}
+use Rattle.model.specs.Base.{maybe}
+use Rattle.model.specs.Code.{node-of, number-of}
+use Rattle.model.specs.Rules.{step}
+use Rattle.calls.specs.Refusals.{rule-refused, step-refused}
+use Rattle.calls.specs.Outcomes.{refused, accepted, Outcome}
+use Rattle.calls.specs.Calls.{stepOf}
+use Rattle.calls.specs.Opened.{definitions}
+use Rattle.calls.specs.Samples.{P, Q, R, not-P, not-R, True, False, all-of, any-of, root, sheet, samples}
+
+-- The nodes after a step (rule, place, i, j), if it applies.
+unfoldable pub turned : ℕ → ℕ → ℕ → ℕ → List ℕ → Option (List ℕ)
+turned r p i j ns = maybe none (λ ms. some (map number-of ms)) (step r p i j (map node-of ns))
+
+unfoldable pub steps : List (Option (List ℕ))
+steps =
+    -- 1, 2, 3: "child i false [2: true]: only that child stays."
+    turned 1 1 1 0 (root 2 ∷ all-of 3 ∷ P ∷ False ∷ Q ∷ R ∷ [])
+    ∷ turned 2 1 1 0 (root 2 ∷ any-of 3 ∷ P ∷ True ∷ Q ∷ R ∷ [])
+    ∷ turned 3 0 1 0 (root 3 ∷ P ∷ False ∷ Q ∷ [])
+    -- 4, 5, 6: "child i true [5: false]: the child goes", the only one too.
+    ∷ turned 4 1 1 0 (root 2 ∷ all-of 3 ∷ P ∷ True ∷ Q ∷ R ∷ [])
+    ∷ turned 4 1 0 0 (root 1 ∷ all-of 1 ∷ True ∷ [])
+    ∷ turned 5 1 1 0 (root 2 ∷ any-of 3 ∷ P ∷ False ∷ Q ∷ R ∷ [])
+    ∷ turned 5 1 0 0 (root 1 ∷ any-of 1 ∷ False ∷ [])
+    ∷ turned 6 0 1 0 (root 3 ∷ P ∷ True ∷ Q ∷ [])
+    ∷ turned 6 0 0 0 (root 1 ∷ True ∷ [])
+    -- 7, 8: "k = 1: the child replaces it", be it a mark or a node.
+    ∷ turned 7 2 0 0 (root 3 ∷ P ∷ all-of 1 ∷ any-of 2 ∷ P ∷ Q ∷ R ∷ [])
+    ∷ turned 7 2 0 0 (root 1 ∷ any-of 2 ∷ all-of 1 ∷ P ∷ Q ∷ [])
+    ∷ turned 8 2 0 0 (root 3 ∷ P ∷ any-of 1 ∷ all-of 2 ∷ P ∷ Q ∷ R ∷ [])
+    -- 9: "in the others the same mark becomes false, its opposite true", at any depth, before and behind, and nowhere else.
+    ∷ turned 9 1 0 0 (root 2 ∷ any-of 3 ∷ P ∷ all-of 2 ∷ P ∷ any-of 2 ∷ not-P ∷ Q ∷ P ∷ P ∷ [])
+    ∷ turned 9 1 1 0 (root 1 ∷ any-of 3 ∷ P ∷ not-P ∷ not-P ∷ [])
+    -- 10: "likewise, but the same mark becomes true, its opposite false".
+    ∷ turned 10 0 1 0 (root 3 ∷ all-of 2 ∷ P ∷ any-of 2 ∷ not-P ∷ Q ∷ not-P ∷ P ∷ [])
+    ∷ turned 10 0 0 0 (root 2 ∷ P ∷ P ∷ [])
+    -- 11, 12: "that mark moves to just before child i."
+    ∷ turned 11 1 1 1 (root 1 ∷ all-of 3 ∷ Q ∷ all-of 3 ∷ True ∷ P ∷ R ∷ R ∷ [])
+    ∷ turned 11 1 0 0 (root 1 ∷ all-of 1 ∷ all-of 1 ∷ P ∷ [])
+    ∷ turned 12 0 1 1 (root 3 ∷ Q ∷ all-of 3 ∷ True ∷ P ∷ R ∷ R ∷ [])
+    ∷ turned 12 0 0 0 (root 1 ∷ all-of 1 ∷ P ∷ [])
+    -- 13: "child i an all-of, all other children marks: child i's children replace it"; with no other child; an empty all-of.
+    ∷ turned 13 1 1 0 (root 1 ∷ all-of 3 ∷ P ∷ all-of 2 ∷ False ∷ R ∷ Q ∷ [])
+    ∷ turned 13 1 0 0 (root 1 ∷ all-of 1 ∷ all-of 1 ∷ P ∷ [])
+    ∷ turned 13 1 1 0 (root 1 ∷ all-of 2 ∷ P ∷ True ∷ [])
+    ∷ turned 13 1 0 0 (root 1 ∷ all-of 1 ∷ True ∷ [])
+    -- 14: "the marks, then all-of(a, any-of(the all-ofs, each without its first a))"; here a stands among the marks too and twice in
+    -- the first all-of. Then two all-ofs that share both their marks: j says which is a.
+    ∷ turned 14 1 1 1 (root 2 ∷ any-of 4 ∷ P ∷ all-of 3 ∷ Q ∷ P ∷ P ∷ not-R ∷ all-of 1 ∷ P ∷ R ∷ [])
+    ∷ turned 14 1 0 0 (root 1 ∷ any-of 2 ∷ all-of 2 ∷ P ∷ Q ∷ all-of 2 ∷ Q ∷ P ∷ [])
+    ∷ turned 14 1 0 1 (root 1 ∷ any-of 2 ∷ all-of 2 ∷ P ∷ Q ∷ all-of 2 ∷ Q ∷ P ∷ [])
+    ∷ []
+
+pub steps-turn :
+    steps
+    ≡ map some
+    ((root 2 ∷ all-of 1 ∷ False ∷ R ∷ [])
+    ∷ (root 2 ∷ any-of 1 ∷ True ∷ R ∷ [])
+    ∷ (root 1 ∷ False ∷ [])
+    ∷ (root 2 ∷ all-of 2 ∷ P ∷ Q ∷ R ∷ [])
+    ∷ (root 1 ∷ True ∷ [])
+    ∷ (root 2 ∷ any-of 2 ∷ P ∷ Q ∷ R ∷ [])
+    ∷ (root 1 ∷ False ∷ [])
+    ∷ (root 2 ∷ P ∷ Q ∷ [])
+    ∷ (root 0 ∷ [])
+    ∷ (root 3 ∷ P ∷ any-of 2 ∷ P ∷ Q ∷ R ∷ [])
+    ∷ (root 1 ∷ any-of 2 ∷ P ∷ Q ∷ [])
+    ∷ (root 3 ∷ P ∷ all-of 2 ∷ P ∷ Q ∷ R ∷ [])
+    ∷ (root 2 ∷ any-of 3 ∷ P ∷ all-of 2 ∷ False ∷ any-of 2 ∷ True ∷ Q ∷ False ∷ P ∷ [])
+    ∷ (root 1 ∷ any-of 3 ∷ True ∷ not-P ∷ False ∷ [])
+    ∷ (root 3 ∷ all-of 2 ∷ False ∷ any-of 2 ∷ True ∷ Q ∷ not-P ∷ False ∷ [])
+    ∷ (root 2 ∷ P ∷ True ∷ [])
+    ∷ (root 1 ∷ all-of 4 ∷ Q ∷ P ∷ all-of 2 ∷ True ∷ R ∷ R ∷ [])
+    ∷ (root 1 ∷ all-of 2 ∷ P ∷ True ∷ [])
+    ∷ (root 4 ∷ Q ∷ P ∷ all-of 2 ∷ True ∷ R ∷ R ∷ [])
+    ∷ (root 2 ∷ P ∷ True ∷ [])
+    ∷ (root 1 ∷ all-of 4 ∷ P ∷ False ∷ R ∷ Q ∷ [])
+    ∷ (root 1 ∷ all-of 1 ∷ P ∷ [])
+    ∷ (root 1 ∷ all-of 1 ∷ P ∷ [])
+    ∷ (root 1 ∷ True ∷ [])
+    ∷ (root 2 ∷ any-of 3 ∷ P ∷ not-R ∷ all-of 2 ∷ P ∷ any-of 2 ∷ all-of 2 ∷ Q ∷ P ∷ True ∷ R ∷ [])
+    ∷ (root 1 ∷ any-of 1 ∷ all-of 2 ∷ P ∷ any-of 2 ∷ all-of 1 ∷ Q ∷ all-of 1 ∷ Q ∷ [])
+    ∷ (root 1 ∷ any-of 1 ∷ all-of 2 ∷ Q ∷ any-of 2 ∷ all-of 1 ∷ P ∷ all-of 1 ∷ P ∷ [])
+    ∷ [])
+unfolding definitions samples turned steps
+steps-turn = refl
+
+-- Steps that do not apply, each next to one that does.
+unfoldable pub idle-steps : List (Option (List ℕ))
+idle-steps =
+    -- No such place: at the used count, past it.
+    turned 7 3 0 0 (root 1 ∷ all-of 1 ∷ P ∷ [])
+    ∷ turned 7 4 0 0 (root 1 ∷ all-of 1 ∷ P ∷ [])
+    ∷ turned 7 65537 0 0 (root 1 ∷ all-of 1 ∷ P ∷ [])
+    -- No such child i, though a node of the right kind follows.
+    ∷ turned 1 1 2 0 (root 2 ∷ all-of 2 ∷ P ∷ Q ∷ False ∷ [])
+    ∷ turned 2 1 2 0 (root 2 ∷ any-of 2 ∷ P ∷ Q ∷ True ∷ [])
+    ∷ turned 3 0 2 0 (root 2 ∷ P ∷ False ∷ [])
+    ∷ turned 4 1 1 0 (root 2 ∷ all-of 1 ∷ True ∷ True ∷ [])
+    ∷ turned 5 1 1 0 (root 2 ∷ any-of 1 ∷ False ∷ False ∷ [])
+    ∷ turned 6 0 1 0 (root 1 ∷ True ∷ [])
+    ∷ turned 9 1 2 0 (root 2 ∷ any-of 2 ∷ P ∷ Q ∷ P ∷ [])
+    ∷ turned 10 0 2 0 (root 2 ∷ P ∷ P ∷ [])
+    ∷ turned 11 1 1 0 (root 2 ∷ all-of 1 ∷ Q ∷ all-of 1 ∷ P ∷ [])
+    ∷ turned 12 0 1 0 (root 1 ∷ all-of 1 ∷ P ∷ [])
+    ∷ turned 13 1 1 0 (root 2 ∷ all-of 1 ∷ P ∷ all-of 1 ∷ Q ∷ [])
+    ∷ turned 14 1 2 0 (root 2 ∷ any-of 2 ∷ P ∷ Q ∷ all-of 1 ∷ P ∷ [])
+    -- No such inner child j.
+    ∷ turned 11 1 0 1 (root 1 ∷ all-of 2 ∷ all-of 1 ∷ P ∷ Q ∷ [])
+    ∷ turned 12 0 0 1 (root 2 ∷ all-of 1 ∷ P ∷ Q ∷ [])
+    ∷ turned 14 1 0 1 (root 1 ∷ any-of 2 ∷ all-of 1 ∷ P ∷ all-of 1 ∷ P ∷ [])
+    -- "An index that a rule has no use for must be 0": j, and i for 7 and 8.
+    ∷ turned 1 1 1 1 (root 1 ∷ all-of 2 ∷ P ∷ False ∷ [])
+    ∷ turned 2 1 1 1 (root 1 ∷ any-of 2 ∷ P ∷ True ∷ [])
+    ∷ turned 3 0 1 1 (root 2 ∷ P ∷ False ∷ [])
+    ∷ turned 4 1 1 1 (root 1 ∷ all-of 2 ∷ P ∷ True ∷ [])
+    ∷ turned 5 1 1 1 (root 1 ∷ any-of 2 ∷ P ∷ False ∷ [])
+    ∷ turned 6 0 1 1 (root 2 ∷ P ∷ True ∷ [])
+    ∷ turned 7 1 1 0 (root 1 ∷ all-of 1 ∷ P ∷ [])
+    ∷ turned 7 1 0 1 (root 1 ∷ all-of 1 ∷ P ∷ [])
+    ∷ turned 8 1 1 0 (root 1 ∷ any-of 1 ∷ P ∷ [])
+    ∷ turned 8 1 0 1 (root 1 ∷ any-of 1 ∷ P ∷ [])
+    ∷ turned 9 1 0 1 (root 1 ∷ any-of 2 ∷ P ∷ P ∷ [])
+    ∷ turned 10 0 0 1 (root 2 ∷ P ∷ P ∷ [])
+    ∷ turned 13 1 0 1 (root 1 ∷ all-of 1 ∷ all-of 2 ∷ P ∷ Q ∷ [])
+    -- A node of another kind, or a mark, at the place.
+    ∷ turned 1 1 1 0 (root 1 ∷ any-of 2 ∷ P ∷ False ∷ [])
+    ∷ turned 1 0 1 0 (root 2 ∷ P ∷ False ∷ [])
+    ∷ turned 2 1 1 0 (root 1 ∷ all-of 2 ∷ P ∷ True ∷ [])
+    ∷ turned 3 1 1 0 (root 1 ∷ all-of 2 ∷ P ∷ False ∷ [])
+    ∷ turned 4 0 1 0 (root 2 ∷ P ∷ True ∷ [])
+    ∷ turned 5 1 1 0 (root 1 ∷ all-of 2 ∷ P ∷ False ∷ [])
+    ∷ turned 6 1 1 0 (root 1 ∷ all-of 2 ∷ P ∷ True ∷ [])
+    ∷ turned 7 1 0 0 (root 1 ∷ any-of 1 ∷ P ∷ [])
+    ∷ turned 7 0 0 0 (root 1 ∷ P ∷ [])
+    ∷ turned 8 1 0 0 (root 1 ∷ all-of 1 ∷ P ∷ [])
+    ∷ turned 8 1 0 0 (root 1 ∷ P ∷ [])
+    ∷ turned 9 1 0 0 (root 1 ∷ all-of 2 ∷ P ∷ P ∷ [])
+    ∷ turned 9 0 0 0 (root 2 ∷ P ∷ P ∷ [])
+    ∷ turned 10 1 0 0 (root 1 ∷ any-of 2 ∷ P ∷ P ∷ [])
+    ∷ turned 11 0 0 0 (root 1 ∷ all-of 1 ∷ P ∷ [])
+    ∷ turned 11 1 0 0 (root 1 ∷ any-of 1 ∷ all-of 1 ∷ P ∷ [])
+    ∷ turned 12 1 0 0 (root 1 ∷ all-of 1 ∷ all-of 1 ∷ P ∷ [])
+    ∷ turned 13 0 0 0 (root 1 ∷ all-of 1 ∷ P ∷ [])
+    ∷ turned 13 1 0 0 (root 1 ∷ any-of 1 ∷ all-of 1 ∷ P ∷ [])
+    ∷ turned 14 1 0 0 (root 1 ∷ all-of 2 ∷ all-of 1 ∷ P ∷ all-of 1 ∷ P ∷ [])
+    -- Too few children; for 7 and 8 too many too.
+    ∷ turned 1 1 0 0 (root 1 ∷ all-of 1 ∷ False ∷ [])
+    ∷ turned 2 1 0 0 (root 1 ∷ any-of 1 ∷ True ∷ [])
+    ∷ turned 3 0 0 0 (root 1 ∷ False ∷ [])
+    ∷ turned 4 1 0 0 (root 1 ∷ True ∷ [])
+    ∷ turned 5 1 0 0 (root 1 ∷ False ∷ [])
+    ∷ turned 6 0 0 0 (root 0 ∷ [])
+    ∷ turned 7 1 0 0 (root 1 ∷ True ∷ [])
+    ∷ turned 7 1 0 0 (root 1 ∷ all-of 2 ∷ P ∷ Q ∷ [])
+    ∷ turned 8 1 0 0 (root 1 ∷ False ∷ [])
+    ∷ turned 8 1 0 0 (root 1 ∷ any-of 2 ∷ P ∷ Q ∷ [])
+    ∷ turned 9 1 0 0 (root 1 ∷ any-of 1 ∷ P ∷ [])
+    ∷ turned 10 0 0 0 (root 1 ∷ P ∷ [])
+    ∷ turned 11 1 0 0 (root 1 ∷ True ∷ [])
+    ∷ turned 12 0 0 0 (root 0 ∷ [])
+    ∷ turned 13 1 0 0 (root 1 ∷ True ∷ [])
+    ∷ turned 14 1 1 0 (root 1 ∷ any-of 2 ∷ P ∷ all-of 1 ∷ P ∷ [])
+    -- 1 to 6: child i is the other constant; it only means the right one.
+    ∷ turned 1 1 1 0 (root 1 ∷ all-of 2 ∷ P ∷ True ∷ [])
+    ∷ turned 1 1 1 0 (root 1 ∷ all-of 2 ∷ P ∷ any-of 1 ∷ False ∷ [])
+    ∷ turned 2 1 1 0 (root 1 ∷ any-of 2 ∷ P ∷ False ∷ [])
+    ∷ turned 2 1 1 0 (root 1 ∷ any-of 2 ∷ P ∷ all-of 1 ∷ True ∷ [])
+    ∷ turned 3 0 1 0 (root 2 ∷ P ∷ True ∷ [])
+    ∷ turned 4 1 1 0 (root 1 ∷ all-of 2 ∷ P ∷ False ∷ [])
+    ∷ turned 5 1 1 0 (root 1 ∷ any-of 2 ∷ P ∷ True ∷ [])
+    ∷ turned 6 0 1 0 (root 2 ∷ P ∷ False ∷ [])
+    -- 9, 10: the option occurs in no other child, be it outside the node; child i is no mark.
+    ∷ turned 9 1 0 0 (root 2 ∷ any-of 2 ∷ P ∷ Q ∷ P ∷ [])
+    ∷ turned 9 1 1 0 (root 1 ∷ any-of 2 ∷ P ∷ all-of 1 ∷ P ∷ [])
+    ∷ turned 10 0 0 0 (root 2 ∷ P ∷ Q ∷ [])
+    ∷ turned 10 0 1 0 (root 2 ∷ P ∷ all-of 1 ∷ P ∷ [])
+    -- 11, 12: child i is no all-of; its child j is no mark.
+    ∷ turned 11 1 0 0 (root 1 ∷ all-of 1 ∷ any-of 1 ∷ P ∷ [])
+    ∷ turned 11 1 0 0 (root 1 ∷ all-of 1 ∷ all-of 2 ∷ True ∷ P ∷ [])
+    ∷ turned 11 1 0 0 (root 1 ∷ all-of 1 ∷ True ∷ [])
+    ∷ turned 12 0 0 0 (root 1 ∷ any-of 1 ∷ P ∷ [])
+    ∷ turned 12 0 0 0 (root 1 ∷ all-of 2 ∷ True ∷ P ∷ [])
+    -- 13: child i is no all-of; another child is no mark.
+    ∷ turned 13 1 0 0 (root 1 ∷ all-of 1 ∷ any-of 1 ∷ P ∷ [])
+    ∷ turned 13 1 0 0 (root 1 ∷ all-of 2 ∷ all-of 1 ∷ P ∷ True ∷ [])
+    ∷ turned 13 1 1 0 (root 1 ∷ all-of 2 ∷ any-of 1 ∷ P ∷ all-of 1 ∷ P ∷ [])
+    -- 14: i is a mark, or not the first all-of; j at a second a, or at no mark.
+    ∷ turned 14 1 0 0 (root 1 ∷ any-of 3 ∷ P ∷ all-of 1 ∷ P ∷ all-of 1 ∷ P ∷ [])
+    ∷ turned 14 1 1 0 (root 1 ∷ any-of 2 ∷ all-of 1 ∷ P ∷ all-of 1 ∷ P ∷ [])
+    ∷ turned 14 1 0 1 (root 1 ∷ any-of 2 ∷ all-of 2 ∷ P ∷ P ∷ all-of 1 ∷ P ∷ [])
+    ∷ turned 14 1 0 0 (root 1 ∷ any-of 2 ∷ all-of 2 ∷ True ∷ P ∷ all-of 1 ∷ P ∷ [])
+    -- 14: an all-of without a, with its opposite only, with a further down; a child that is neither mark nor all-of.
+    ∷ turned 14 1 0 0 (root 1 ∷ any-of 3 ∷ all-of 1 ∷ P ∷ all-of 1 ∷ P ∷ all-of 1 ∷ Q ∷ [])
+    ∷ turned 14 1 0 0 (root 1 ∷ any-of 2 ∷ all-of 1 ∷ P ∷ all-of 1 ∷ not-P ∷ [])
+    ∷ turned 14 1 0 0 (root 1 ∷ any-of 2 ∷ all-of 1 ∷ P ∷ all-of 1 ∷ all-of 1 ∷ P ∷ [])
+    ∷ turned 14 1 0 0 (root 1 ∷ any-of 3 ∷ all-of 1 ∷ P ∷ all-of 1 ∷ P ∷ any-of 1 ∷ P ∷ [])
+    ∷ []
+
+pub idle-steps-none : idle-steps ≡ replicate 95 none
+unfolding definitions samples turned idle-steps
+idle-steps-none = refl
+
+-- By the call: accepted, with the used count and the zeros; "10 the step does not apply", for an index without use and for a place at the
+-- used count; "9 rule not 1 to 14", though the rest would do for 7.
+unfoldable pub answers : List (Outcome (List ℕ) (Unit {0}))
+answers =
+    let s = sheet 1 (root 1 ∷ all-of 1 ∷ P ∷ []) in
+    stepOf s 7 1 0 0 ∷ stepOf s 7 1 0 1 ∷ stepOf s 7 3 0 0 ∷ stepOf s 0 1 0 0 ∷ stepOf s 15 1 0 0 ∷ []
+
+pub steps-answered :
+    answers
+    ≡ record { answer = accepted tt; lent = sheet 1 (root 1 ∷ P ∷ []) }
+    ∷ record { answer = refused step-refused; lent = sheet 1 (root 1 ∷ all-of 1 ∷ P ∷ []) }
+    ∷ record { answer = refused step-refused; lent = sheet 1 (root 1 ∷ all-of 1 ∷ P ∷ []) }
+    ∷ record { answer = refused rule-refused; lent = sheet 1 (root 1 ∷ all-of 1 ∷ P ∷ []) }
+    ∷ record { answer = refused rule-refused; lent = sheet 1 (root 1 ∷ all-of 1 ∷ P ∷ []) }
+    ∷ []
+unfolding definitions samples answers
+steps-answered = refl
