@@ -17,3 +17,4 @@ pub mod DeskCases
 pub mod BookCases
 pub mod SheetCases
 pub mod StepCases
+pub mod ListCases
