@@ -18,3 +18,4 @@ pub mod BookCases
 pub mod SheetCases
 pub mod StepCases
 pub mod ListCases
+pub mod OrderCases
