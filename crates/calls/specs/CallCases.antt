@@ -9,7 +9,7 @@ use lib.ListN.{length, replicate}
 use Rattle.calls.specs.Outcomes.{Answer, accepted, Outcome}
 use Rattle.calls.specs.Calls.{Ran, loadOf, chooseOf, runOf, reportOf, completeOf}
 use Rattle.calls.specs.Opened.{definitions}
-use Rattle.calls.specs.Samples.{P, Q, R, not-P, not-Q, not-R, True, False, all-of, any-of, root, book, sheet, samples}
+use Rattle.calls.specs.Samples.{P, Q, R, not-P, not-Q, not-R, True, False, all-of, any-of, root, book, sheet, said, samples}
 
 -- A case: its codes, its rules, its choices (the option, and whether it is barred).
 pub record Order : Type 0 where
@@ -36,7 +36,8 @@ left-by s (o ∷ os) = left-by (o .lent) os
 -- The target and the report's bytes hold other numbers before.
 unfoldable pub call : Order → Called
 call c =
-    let loaded = loadOf (book (c .codes) (c .rules)) (replicate 4098 7) in
+    let bytes = book (c .codes) (c .rules) in
+    let loaded = loadOf bytes (replicate 4098 7) in
     let chosen = choose-all (c .choices) (loaded .lent) in
     let ran = runOf (left-by (loaded .lent) chosen) 100 in
     record {
@@ -141,7 +142,7 @@ questions-answered = refl
 -- says stopped when the budget's steps are done and a rule still applies."
 unfoldable pub budgets : List (Outcome (List ℕ) Ran)
 budgets =
-    map (runOf (sheet 2 (root 1 ∷ any-of 2 ∷ P ∷ all-of 2 ∷ P ∷ Q ∷ []))) (0 ∷ 1 ∷ 4 ∷ 5 ∷ 6 ∷ [])
+    map (runOf (sheet 2 (root 1 ∷ any-of 2 ∷ P ∷ all-of 2 ∷ P ∷ Q ∷ []))) (0 ∷ 4 ∷ 5 ∷ [])
     ++ (runOf (sheet 2 (root 1 ∷ P ∷ [])) 0 ∷ [])
 
 abbrev pub stopped : ℕ → ℕ → List ℕ → Outcome (List ℕ) Ran
@@ -150,11 +151,21 @@ stopped n count nodes = record { answer = accepted (record { settled = false; co
 pub budgets-kept :
     budgets
     ≡ stopped 2 0 (root 1 ∷ any-of 2 ∷ P ∷ all-of 2 ∷ P ∷ Q ∷ [])
-    ∷ stopped 2 1 (root 1 ∷ any-of 2 ∷ P ∷ all-of 2 ∷ False ∷ Q ∷ [])
     ∷ stopped 2 4 (root 1 ∷ any-of 1 ∷ P ∷ [])
-    ∷ settled 2 5 (root 1 ∷ P ∷ [])
     ∷ settled 2 5 (root 1 ∷ P ∷ [])
     ∷ settled 2 0 (root 1 ∷ P ∷ [])
     ∷ []
 unfolding definitions samples budgets
 budgets-kept = refl
+
+-- "8 sheet full: weight + 2 is over 4,096." Of an any-of with 2,046 marks the weight is 4,094 with the root, so a choice still fits;
+-- "one any-of with 2,047 marks is accepted and a choice is then refused 8".
+unfoldable pub last-choices : List ℕ
+last-choices =
+    said (chooseOf (sheet 1 (root 1 ∷ any-of 2046 ∷ replicate 2046 P)) 0 true .answer)
+    ∷ said (chooseOf (sheet 1 (root 1 ∷ any-of 2047 ∷ replicate 2047 P)) 0 true .answer)
+    ∷ []
+
+pub last-choices-answered : last-choices ≡ 0 ∷ 8 ∷ []
+unfolding definitions samples last-choices
+last-choices-answered = refl
