@@ -9,13 +9,3 @@ pub mod History
 pub mod Desk
 -- The starred cases.
 pub mod Cases
--- Further computed cases: what they are spelled with and see through, and then one subject each.
-pub mod Opened
-pub mod Samples
-pub mod CallCases
-pub mod DeskCases
-pub mod BookCases
-pub mod SheetCases
-pub mod StepCases
-pub mod ListCases
-pub mod OrderCases

@@ -5,9 +5,9 @@ use mathlib.Core.Path.{_≡_, refl}
 use Prim.Native.Nat.{ℕ}
 use Prim.Native.String.{String}
 use lib.ListN.{replicate}
 use Rattle.calls.specs.Desk.{first-line, deskOf}
-use Rattle.calls.specs.Opened.{definitions}
-use Rattle.calls.specs.Samples.{text, P, Q, True, any-of, book, first-book, samples}
+use Rattle.cases.specs.Opened.{definitions}
+use Rattle.cases.specs.Samples.{text, P, Q, True, any-of, book, first-book, samples}
 
 -- A book with these choices keyed.
 unfoldable pub keyed-on : List ℕ → String → List ℕ

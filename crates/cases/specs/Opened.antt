@@ -1,4 +1,4 @@
--- What computed cases see through, by one name: the definitions of `model` and of this crate. To unfold a name is to unfold all
+-- What computed cases see through, by one name: the definitions of `model` and `calls`. To unfold a name is to unfold all
 -- that its own line lists.
 use mathlib.Core.List
 use Rattle.model.specs.Base

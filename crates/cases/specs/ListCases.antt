@@ -6,9 +6,9 @@ use Prim.Native.Nat.{ℕ}
 use Rattle.model.specs.Literal.{Literal, pos, neg}
 use Rattle.model.specs.Strategy.{most-steps}
 use Rattle.model.specs.Sheet.{nodes-in}
 use Rattle.calls.specs.History.{Call, choose, step, run, State, after-calls, loaded, account-calls, meaning, is-stretch, steps-of, ends-settled}
-use Rattle.calls.specs.Opened.{definitions}
-use Rattle.calls.specs.Samples.{P, Q, not-Q, any-of, root, first-book, sheet, samples}
+use Rattle.cases.specs.Opened.{definitions}
+use Rattle.cases.specs.Samples.{P, Q, not-Q, any-of, root, first-book, sheet, samples}
 
 -- "P or Q", as the loader fills a sheet from it; then with "choice not Q".
 unfoldable pub start : State

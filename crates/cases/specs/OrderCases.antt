@@ -7,9 +7,9 @@ use mathlib.Core.Path.{_≡_, refl}
 use Prim.Native.Nat.{ℕ}
 use Prim.Native.String.{String}
 use lib.ListN.{replicate}
 use Rattle.calls.specs.Calls.{checkOf, lookupOf, loadOf, writeOf, reportOf, completeOf, chooseOf, stepOf, runOf}
-use Rattle.calls.specs.Opened.{definitions}
-use Rattle.calls.specs.Samples.{P, True, plain, any-of, root, text, codes, book-of, book, sheet, said, samples}
+use Rattle.cases.specs.Opened.{definitions}
+use Rattle.cases.specs.Samples.{P, True, plain, any-of, root, text, codes, book-of, book, sheet, said, samples}
 
 unfoldable pub checked : List ℕ → ℕ
 checked b = let bytes = b in said (checkOf bytes)

@@ -7,11 +7,11 @@ use lib.ListN.{replicate}
 use Rattle.model.specs.Base.{maybe}
 use Rattle.model.specs.Code.{node-of, number-of}
 use Rattle.model.specs.Rules.{step}
 use Rattle.calls.specs.Refusals.{rule-refused, step-refused}
 use Rattle.calls.specs.Outcomes.{refused, accepted, Outcome}
 use Rattle.calls.specs.Calls.{stepOf}
-use Rattle.calls.specs.Opened.{definitions}
-use Rattle.calls.specs.Samples.{P, Q, R, not-P, not-R, True, False, all-of, any-of, root, sheet, samples}
+use Rattle.cases.specs.Opened.{definitions}
+use Rattle.cases.specs.Samples.{P, Q, R, not-P, not-R, True, False, all-of, any-of, root, sheet, samples}
 
 -- The nodes after a step (rule, place, i, j), if it applies.
 unfoldable pub turned : ℕ → ℕ → ℕ → ℕ → List ℕ → Option (List ℕ)

@@ -6,10 +6,10 @@ use mathlib.Core.Path.{_≡_, refl}
 use Prim.Native.Nat.{ℕ}
 use Prim.Native.String.{String}
 use lib.ListN.{length, replicate}
 use Rattle.calls.specs.Outcomes.{Answer, accepted, Outcome}
 use Rattle.calls.specs.Calls.{Ran, loadOf, chooseOf, runOf, reportOf, completeOf}
-use Rattle.calls.specs.Opened.{definitions}
-use Rattle.calls.specs.Samples.{P, Q, R, not-P, not-Q, not-R, True, False, all-of, any-of, root, book, sheet, said, samples}
+use Rattle.cases.specs.Opened.{definitions}
+use Rattle.cases.specs.Samples.{P, Q, R, not-P, not-Q, not-R, True, False, all-of, any-of, root, book, sheet, said, samples}
 
 -- A case: its codes, its rules, its choices (the option, and whether it is barred).
 pub record Order : Type 0 where
