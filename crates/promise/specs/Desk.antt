@@ -38,11 +38,12 @@ pub record Printed (book sheet written : List ℕ) : Type 0 where
   pub prints :
       written ≡ first-line (told .contradictory) ran ++ pick (told .contradictory) [] (option-lines (codes-of book) (told .marks))
 
+-- A sheet just loaded, as the first call of a list is lent it.
 abbrev fresh : Outcome (List ℕ) (Unit {0}) → State
 fresh o = record { sheet = o .lent }
 
--- The program "reads `book.bin`, then choices from standard input, one a line. It keys them in order, then makes one run with a
--- budget of 100,000." A refusal "ends the program": the first that is met, of the book or of a line.
+-- The program "reads `book.bin`", "then choices from standard input, one a line"; it "keys them in order, then makes one run with a
+-- budget of 100,000". A refusal "ends the program": the first that is met, of the book or of a line.
 module _ (book input : List ℕ) where
   abbrev load : Outcome (List ℕ) (Unit {0})
   load = loadOf book (replicate sheet-length 0)

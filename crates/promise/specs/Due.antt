@@ -1,6 +1,7 @@
--- Demand 1: "a result or one refusal, due on its condition in document 01 and on no other". For each call its refusals stand here in
--- their order, each with its condition: "11 for the sheet; the book as 1 (under 8), 2, 1, 3, 4, 5, 6; 11 for N; then 7, 8, 9, 10; last
--- 12". The call is refused by one exactly if its condition holds and no earlier one does, and gives a result exactly if none holds.
+-- Demand 1: "a result or one refusal numbered 1 to 12, due on its condition in document 01 and on no other". For each call its
+-- refusals stand here in their order, each with its condition: "11 for the sheet; the book as 1 (under 8), 2, 1, 3, 4, 5, 6; 11 for N;
+-- then 7, 8, 9, 10; last 12". The call is refused by one exactly if its condition holds and no earlier one does, and gives a result
+-- exactly if none holds.
 use mathlib.Core.Bool.{Bool, not}
 use mathlib.Core.List.{List, [], _∷_, _++_}
 use mathlib.Core.Path.{_≡_}

@@ -24,46 +24,63 @@ pub record Counts (sheet : List ℕ) (budget : ℕ) : Type 0 where
   pub says : runOf sheet budget .answer ≡ accepted ran
   pub few : ran .count ≤ most-steps (nodes-in sheet)
 
--- From an accepted book, after any calls at all, and whatever calls follow.
-module _ (book target : List ℕ) (ok : checkOf book ≡ accepted tt) (long : length target ≡ sheet-length) (before : List Call) where
+-- What a run with this budget says after a list of calls: settled, and the sheet that it leaves is a normal form of the account.
+pub record Settles (book : List ℕ) (start : State) (before : List Call) (budget : ℕ) : Type 0 where
+  pub ran : Ran
+  pub says : runOf (after-calls before start .sheet) budget .answer ≡ accepted ran
+  pub settled : ran .settled ≡ true
+  pub normal :
+      Normal
+      (account-calls (before ++ (run budget ∷ [])) start (loaded book))
+      (after-calls (before ++ (run budget ∷ [])) start .sheet)
+
+module _ (book target : List ℕ) where
   abbrev start : State
   start = record { sheet = loadOf book target .lent }
 
-  abbrev here : List ℕ
-  here = after-calls before start .sheet
+  -- The sheet after some calls, and the count of a run there, by demand 3.
+  module _ (ok : checkOf book ≡ accepted tt) (long : length target ≡ sheet-length) (before : List Call) where
+    abbrev here : List ℕ
+    here = after-calls before start .sheet
 
-  here-sheet : is-sheet here ≡ true
-  here-sheet = demand-3 book target ok long before .means .is-a-sheet
+    here-sheet : is-sheet here ≡ true
+    here-sheet = demand-3 book target ok long before .means .is-a-sheet
 
-  -- "Whatever the budgets, no stretch of the list without an accepted choice does more steps than the cube of n + 2l": a run is a
-  -- stretch, whatever follows it.
-  counted : (budget : ℕ) (rest : List Call) → strategy.run budget (nodes-in here) .count ≤ most-steps (nodes-in here)
-  unfolding is-stretch chooses steps-of steps-of-call if-accepted
-  counted budget rest =
-      let calls = before ++ ((run budget ∷ []) ++ rest) in
-      let bound = demand-3 book target ok long calls .bounded before (run budget ∷ []) rest refl refl in
-      omega (arith, rw (run-outcome here budget here-sheet) at bound)
+    counted :
+        (calls rest : List Call) (budget : ℕ) →
+        calls ≡ before ++ (run budget ∷ rest) →
+        strategy.run budget (nodes-in here) .count ≤ most-steps (nodes-in here)
+    unfolding is-stretch chooses steps-of steps-of-call if-accepted
+    counted calls rest budget parts =
+        let bound = demand-3 book target ok long calls .bounded before (run budget ∷ []) rest parts refl in
+        omega (arith, rw (run-outcome here budget here-sheet) at bound)
 
-  pub run-counts : (budget : ℕ) (rest : List Call) → Counts here budget
-  run-counts budget rest =
-      record { ran = _; says = ap (λ o. o .answer) (run-outcome here budget here-sheet); few = counted budget rest }
+  -- "Whatever the budgets, no stretch of the list without an accepted choice does more steps than the cube of n + 2l": a run in the
+  -- midst of any list is a stretch.
+  pub run-counts :
+      checkOf book ≡ accepted tt →
+      length target ≡ sheet-length →
+      (calls before rest : List Call) (budget : ℕ) →
+      calls ≡ before ++ (run budget ∷ rest) →
+      Counts (after-calls before start .sheet) budget
+  run-counts ok long calls before rest budget parts =
+      let said = run-outcome (here ok long before) budget (here-sheet ok long before) in
+      record { ran = _; says = ap (λ o. o .answer) said; few = counted ok long before calls rest budget parts }
 
   -- "Where the list ends in a run that says settled, no rule applies to the sheet": with a budget of at least that cube it does say
-  -- settled, and the sheet that it leaves is a normal form of the account.
-  pub record Settles (budget : ℕ) : Type 0 where
-    pub ran : Ran
-    pub says : runOf here budget .answer ≡ accepted ran
-    pub settled : ran .settled ≡ true
-    pub normal :
-        Normal
-        (account-calls (before ++ (run budget ∷ [])) start (loaded book))
-        (after-calls (before ++ (run budget ∷ [])) start .sheet)
-
-  pub run-settles : (budget : ℕ) → most-steps (nodes-in here) ≤ budget → Settles budget
+  -- settled.
+  pub run-settles :
+      checkOf book ≡ accepted tt →
+      length target ≡ sheet-length →
+      (before : List Call) (budget : ℕ) →
+      most-steps (nodes-in (after-calls before start .sheet)) ≤ budget →
+      Settles book start before budget
   unfolding says-settled if-accepted
-  run-settles budget enough =
-      let said = run-outcome here budget here-sheet in
-      let settled = run-enough budget (nodes-in here) (omega (arith, counted (suc budget) [])) in
+  run-settles ok long before budget enough =
+      let said = run-outcome (here ok long before) budget (here-sheet ok long before) in
+      let more = before ++ (run (suc budget) ∷ []) in
+      let few = counted ok long before more [] (suc budget) refl in
+      let settled = run-enough budget (nodes-in (here ok long before)) (omega arith) in
       let calls = before ++ (run budget ∷ []) in
       let last : ends-settled calls start ≡ true = rw (ends-last before (run budget) start, says-settled, said) settled in
       record {
