@@ -1,15 +1,14 @@
 """Document 003's claim, rerun: on random theories by its Figure 3 our report infers exactly the
 literals that propagation on the multiplied-out clauses infers, and never multiplies out.
 
-    python3 tests/claim_003.py [THEORIES]     after tests/build-probe; prints the table of
-                                              docs/EVIDENCE.md
+    python3 tests/claim_003.py [THEORIES]     after tools/build-library; prints the table
+                                              of docs/EVIDENCE.md
 
 Clauses are lists of sets of literals, as the document's DUP-BCP has them. A theory whose clauses do
 not fit is counted and left out of the averages where they fit.
 """
 import random
 import sys
-from pathlib import Path
 
 from driver.library import Library
 from driver.theories import LIMIT, measured, random_theory
@@ -40,8 +39,7 @@ def table(every):
 
 
 def main(count=1000, library=None):
-    library = library or Library(
-        Path(__file__).resolve().parent.parent / "target/probe/libnibdrumlin.so")
+    library = library or Library()
     for name, negative in (("Variables only, as Figure 3 prints it", 0.0),
                            ("Every second literal negative", 0.5)):
         every = [measured(library, *random_theory(random.Random("003/%d" % number), negative))

@@ -1,6 +1,6 @@
 //! Links the static library that holds every call on sheets.
 //!
-//! `tests/build-probe`, run at the repository's top, writes it to
+//! `tools/build-library`, run at the repository's top, writes it to
 //! `target/staticlib/libprobe.a`.  The environment variable `ND_STATICLIB_DIR`
 //! names another folder to take `libprobe.a` from.
 
@@ -19,7 +19,7 @@ fn main() {
     println!("cargo:rerun-if-changed={}", archive.display());
     if !archive.is_file() {
         panic!(
-            "no {}: run `tests/build-probe` at the repository's top",
+            "no {}: run `tools/build-library` at the repository's top",
             archive.display()
         );
     }

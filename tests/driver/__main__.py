@@ -14,7 +14,7 @@ from .comparing import CAN_REFUSE, SAYS, Comparing
 from .library import Library
 
 TOP = Path(__file__).resolve().parent.parent.parent
-LIBRARY, DESK = TOP / "target/probe/libnibdrumlin.so", TOP / "target/bin/desk"
+DESK = TOP / "target/bin/desk"
 LISTS, ORDERS, THEORIES, DESKS = 20_000, 300, 150, 2_000
 
 
@@ -122,7 +122,7 @@ def main(library=None, arguments=None):
     parser.add_argument("--without-desk", action="store_true",
                         help="leave the desk program out, and say so")
     options = parser.parse_args(arguments)
-    comparing, start = Comparing(library or Library(LIBRARY)), time.time()
+    comparing, start = Comparing(library or Library()), time.time()
     desk = None if options.without_desk else str(DESK)
     if desk is None:
         print("=== THE DESK PROGRAM IS NOT TESTED (--without-desk) ===")

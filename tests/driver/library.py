@@ -1,6 +1,9 @@
 """The calls of the shared library, over ctypes, and the memory that is lent to them."""
 import ctypes
 from array import array
+from pathlib import Path
+
+LIBRARY = Path(__file__).resolve().parent.parent.parent / "target/library/libnibdrumlin_sheets.so"
 
 from . import expect
 
@@ -55,7 +58,9 @@ def sheet(values):
 class Library:
     """call(name, arguments) answers (refusal, value)."""
 
-    def __init__(self, path):
+    def __init__(self, path=LIBRARY):
+        if not Path(path).exists():
+            raise SystemExit("no %s: run 'tools/build-library' first" % path)
         functions = ctypes.CDLL(str(path))
         self.functions = {}
         for name, (symbol, arguments) in CALLS.items():

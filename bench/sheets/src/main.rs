@@ -2,7 +2,7 @@
 //! next to plain Rust's in the same process.  Every answer is compared first; a difference
 //! stops the benchmark with the case printed.
 //!
-//!     tests/build-probe                                           at the repository's top
+//!     tools/build-library                                         at the repository's top
 //!     cd bench/sheets && cargo run --release --offline --locked -- [FLAGS]
 //!
 //!     --doc FILE          put the tables between the marks of this file too
