@@ -41,6 +41,9 @@
  * bytes.  Otherwise it must point to as many readable bytes as its length says.
  * The functions write to none of these bytes, keep no state, allocate no memory
  * and may be called from several threads at a time, each on its own buffers.
+ * ND_STACK_BOOK, below, is how many bytes of stack suffice for either.
+ *
+ * The calls on order sheets stand in nibdrumlin_sheets.h.
  */
 #ifndef NIBDRUMLIN_H
 #define NIBDRUMLIN_H
@@ -51,6 +54,12 @@
 #ifdef __cplusplus
 extern "C" {
 #endif
+
+/*
+ * Bytes of stack that suffice for one call, with a margin over what was measured;
+ * tests/library/stack.c measures it again.
+ */
+#define ND_STACK_BOOK 8192
 
 /*
  * Checks the book_len bytes at book.

@@ -1,0 +1,178 @@
+/*
+ * Order sheets: a book loaded onto a sheet, choices, steps, runs, reports, and the sheet
+ * written back as a book.  The book check and the code lookup stand in nibdrumlin.h, which
+ * this header includes, with what a book is and how an answer is packed.
+ *
+ * A sheet is exactly 4,098 numbers of 16 bits, in the machine's own byte order:
+ *
+ *   sheet[0]     N, the number of options (0 to 512)
+ *   sheet[1]     the count of nodes used, the root among them (1 to 4,096)
+ *   sheet[2..]   the nodes from the root on as one tree, a node before its children, each
+ *                kind * 4096 + value as in a book; kind 5 is the root, at the head and nowhere
+ *                else, and its value is the number of its children
+ *   the rest     zeros
+ *
+ * The root's children are the rules in book order, then the choices.  The weight of a sheet is
+ * its nodes, the root counted, plus its marks (nodes of kind 1 or 2), and is at most 4,096.
+ * Anything else is no sheet.  Nothing outside the 4,098 numbers belongs to a sheet: it may be
+ * copied, kept and lent again at will.
+ *
+ * Every function answers one number.  Its low 8 bits are the refusal, 0 where the call is
+ * accepted; the rest is the value (nd_refusal and nd_value of nibdrumlin.h take it apart).  A
+ * refused call has the value 0.  The refusals:
+ *
+ *    1 to 6  of the book, as in nibdrumlin.h and in the same order:
+ *            1 (fewer than 8 bytes), 2, 1 (not the length due), 3, 4, 5, 6
+ *    7       no such option number
+ *    8       sheet full: its weight + 2 is over 4,096
+ *    9       rule not 1 to 14
+ *   10       the step does not apply
+ *   11       not a sheet; in writing also a book whose N is not the sheet's; in loading only a
+ *            length that is not 4,098
+ *   12       output shorter than needed; for a report, not exactly N bytes long
+ *
+ * What each function can be refused stands beside it, in the order of the tests: the first that
+ * holds is the answer.
+ *
+ * Who owns what: all memory is the caller's, lent for the time of the call.  A function writes
+ * to what it takes without const and to nothing else, and after a refusal to nothing at all.  It
+ * keeps no pointer and no state and allocates nothing, so calls may be made from several threads
+ * at a time, each on its own buffers.  No buffer that a call writes may overlap another that it
+ * is lent.
+ *
+ * Every input has an answer: there is nothing that the caller must have tested before.  Lengths
+ * count elements: bytes of a book or an output, 16-bit numbers of a sheet.  A pointer may be null
+ * where its length is 0; that is an empty run.  Otherwise it must point to as many elements as
+ * its length says, and a sheet must be aligned as uint16_t is.
+ *
+ * Stack: the ND_STACK_ numbers, here and in nibdrumlin.h, are bytes that suffice for one call,
+ * with a margin over what was measured; tests/library/stack.c measures it again.
+ */
+#ifndef NIBDRUMLIN_SHEETS_H
+#define NIBDRUMLIN_SHEETS_H
+
+#include <nibdrumlin.h>
+
+#include <stdbool.h>
+#include <stddef.h>
+#include <stdint.h>
+
+#ifdef __cplusplus
+extern "C" {
+#endif
+
+/* The length of a sheet, in numbers of 16 bits. */
+#define ND_SHEET_LENGTH 4098
+
+/* The most options of a book: 512 bytes are enough for every report. */
+#define ND_OPTIONS_MOST 512
+
+/* The length of the longest book, in bytes: an output of so many is enough for every write. */
+#define ND_BOOK_LONGEST 31234
+
+/* The bytes of a report. */
+#define ND_OPEN 0
+#define ND_IN 1
+#define ND_OUT 2
+#define ND_CONTRADICTORY 3
+
+/* Bytes of stack that suffice for nd_load, nd_write and nd_choose; nd_step; nd_run; nd_report
+ * and nd_complete. */
+#define ND_STACK_SHEET 8192
+#define ND_STACK_STEP 16384
+#define ND_STACK_RUN 40960
+#define ND_STACK_REPORT 65536
+
+/*
+ * Loads the book_len bytes at book onto a sheet.
+ *
+ * sheet_len must be 4,098; what the sheet held before does not matter.  Accepted, the whole
+ * sheet is filled.  The value is always 0.
+ *
+ * Refused 11 (sheet_len is not 4,098), then 1 to 6.
+ */
+uint64_t nd_load(const uint8_t *book, size_t book_len, uint16_t *sheet, size_t sheet_len);
+
+/*
+ * Writes a sheet as a book whose codes are those of the book lent: its rules and choices are
+ * the root's children as they stand now.
+ *
+ * Accepted, the bytes stand at the start of out, those beyond stay, and the value is their
+ * number: 8 + 13N + 4M + 2T, for M children of the root and T nodes beside the root.
+ *
+ * Refused 11 (not a sheet), 1 to 6, 11 (a book whose N is not the sheet's), then 12 (out_len is
+ * under that number).
+ */
+uint64_t nd_write(const uint16_t *sheet, size_t sheet_len, const uint8_t *book, size_t book_len,
+                  uint8_t *out, size_t out_len);
+
+/*
+ * Reports which options are forced by the rules and choices on a sheet, whether or not it was
+ * run before.
+ *
+ * out_len must be N.  Accepted, out holds a byte for each option: ND_OPEN, ND_IN or ND_OUT; all
+ * are ND_CONTRADICTORY where the sheet is contradictory.  The value is 1 where it is
+ * contradictory, which the bytes cannot say where N is 0, else 0.
+ *
+ * Refused 11 (not a sheet), then 12 (out_len is not N).
+ */
+uint64_t nd_report(const uint16_t *sheet, size_t sheet_len, uint8_t *out, size_t out_len);
+
+/*
+ * Asks whether a sheet is complete: not contradictory, and every option in or out.
+ *
+ * The value is 1 where it is, else 0.
+ *
+ * Refused 11 (not a sheet).
+ */
+uint64_t nd_complete(const uint16_t *sheet, size_t sheet_len);
+
+/*
+ * Keys a choice: the option, taken or (negative) barred, becomes the root's last child.
+ *
+ * The value is always 0.
+ *
+ * Refused 11 (not a sheet), 7 (option is N or more), then 8.
+ */
+uint64_t nd_choose(uint16_t *sheet, size_t sheet_len, uint16_t option, bool negative);
+
+/*
+ * Does one step of the fourteen rules: rule 1 to 14, at a place (nodes counted from the root, 0),
+ * child i and inner child j, from 0.  An index that the rule has no use for must be 0.
+ *
+ * The value is always 0.
+ *
+ * Refused 11 (not a sheet), 9, then 10.
+ */
+uint64_t nd_step(uint16_t *sheet, size_t sheet_len, uint64_t rule, uint64_t place, uint64_t i,
+                 uint64_t j);
+
+/*
+ * Does house steps, the applicable one of lowest rule, place, i and j each time, until no rule
+ * applies or budget steps are done.
+ *
+ * The value is twice the count of the steps done, plus 1 where the run is settled: no rule
+ * applies to the sheet any more.  Without that 1 it stopped: budget steps are done and a rule
+ * still applies.  nd_run_steps and nd_run_settled, below, take an accepted answer apart.
+ *
+ * Refused 11 (not a sheet).
+ */
+uint64_t nd_run(uint16_t *sheet, size_t sheet_len, uint64_t budget);
+
+/* The steps done, in the accepted answer of a run. */
+static inline uint64_t nd_run_steps(uint64_t answer)
+{
+    return answer >> 9;
+}
+
+/* Whether no rule applies any more, in the accepted answer of a run. */
+static inline bool nd_run_settled(uint64_t answer)
+{
+    return (answer >> 8 & 1u) != 0;
+}
+
+#ifdef __cplusplus
+}
+#endif
+
+#endif
