@@ -1,0 +1,109 @@
+/*
+ * order [BOOK] < CHOICES: what the desk program prints, by the C functions.
+ *
+ * At the repository's top, after tools/build-library:
+ *
+ *   gcc -O2 -Wall -Wextra -Iinclude examples/order.c target/library/libnibdrumlin_sheets.a -o target/order
+ *   cd examples && ../target/order book.bin < choices.txt
+ *
+ * Choices are lines: + or - and a code.  The last may lack its line end.
+ */
+#include <nibdrumlin_sheets.h>
+
+#include <stdio.h>
+#include <stdlib.h>
+
+#define BUDGET 100000
+#define NO_SUCH_CODE 7
+#define CODE_LENGTH 13
+#define CODES_START 8
+
+/* A sign and a code, and room for one character more, by which an over-long code is known. */
+#define LINE_ROOM (1 + CODE_LENGTH + 1)
+
+/* One byte more than the longest book: so a longer one is refused as it would be whole. */
+static uint8_t book[ND_BOOK_LONGEST + 1];
+static size_t book_len;
+static uint16_t sheet[ND_SHEET_LENGTH];
+
+/* A refusal prints only itself, and ends the program. */
+static void accept(uint64_t answer)
+{
+    if (nd_refusal(answer) != 0) {
+        printf("refused %u\n", nd_refusal(answer));
+        exit(0);
+    }
+}
+
+/* Reads the book; one that cannot be opened counts as empty. */
+static void read_book(const char *path)
+{
+    FILE *file = fopen(path, "rb");
+
+    if (file == NULL)
+        return;
+    book_len = fread(book, 1, sizeof book, file);
+    fclose(file);
+}
+
+/* Keys the choice of one line.  A line of another form is refused as an unknown code is. */
+static void key(const uint8_t *line, size_t length)
+{
+    uint64_t found;
+
+    if (length == 0 || (line[0] != '+' && line[0] != '-'))
+        accept(NO_SUCH_CODE);
+    found = nd_code_lookup(book, book_len, line + 1, length - 1);
+    accept(found);
+    accept(nd_choose(sheet, ND_SHEET_LENGTH, (uint16_t)nd_value(found), line[0] == '-'));
+}
+
+/* Keys the choices of standard input in order. */
+static void key_lines(void)
+{
+    uint8_t line[LINE_ROOM];
+    size_t length = 0;
+    int byte;
+
+    while ((byte = getchar()) != EOF) {
+        if (byte == '\n') {
+            key(line, length);
+            length = 0;
+        } else if (length < sizeof line) {
+            line[length++] = (uint8_t)byte;
+        }
+    }
+    if (length != 0)
+        key(line, length);
+}
+
+static void print_states(const uint8_t *states)
+{
+    static const char *const words[] = {"open", "in", "out"};
+
+    for (size_t option = 0; option < sheet[0]; option++)
+        printf("%.*s %s\n", CODE_LENGTH, (const char *)book + CODES_START + CODE_LENGTH * option,
+               words[states[option]]);
+}
+
+int main(int count, char **arguments)
+{
+    uint8_t states[ND_OPTIONS_MOST];
+    uint64_t ran, reported;
+
+    read_book(count > 1 ? arguments[1] : "book.bin");
+    accept(nd_load(book, book_len, sheet, ND_SHEET_LENGTH));
+    key_lines();
+    ran = nd_run(sheet, ND_SHEET_LENGTH, BUDGET);
+    accept(ran);
+    reported = nd_report(sheet, ND_SHEET_LENGTH, states, sheet[0]);
+    accept(reported);
+    if (nd_value(reported) == 1) {
+        printf("contradiction %llu\n", (unsigned long long)nd_run_steps(ran));
+        return 0;
+    }
+    printf("%s %llu\n", nd_run_settled(ran) ? "settled" : "stopped",
+           (unsigned long long)nd_run_steps(ran));
+    print_states(states);
+    return 0;
+}
