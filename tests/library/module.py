@@ -70,6 +70,11 @@ class Lent:
     def is_unchanged(self):
         return self.memory.tobytes() == self.before
 
+    def has_guards(self):
+        size = GUARD * self.memory.itemsize
+        after = self.memory.tobytes()
+        return after[:size] == self.before[:size] and after[-size:] == self.before[-size:]
+
 
 def number_of(work, *arguments):
     """The refusal of a call, 0 where it is accepted."""
@@ -137,6 +142,21 @@ def check_refusals():
     for call, numbers in CAN_REFUSE.items():
         expect(seen[call] == set(numbers), "%s: only refusals %s were seen" % (call, seen[call]))
     return count
+
+
+def check_accepted():
+    """An accepted call writes what it is due to write and nothing beside it."""
+    sheet, out, states = Lent(BLANK), Lent(b"\x09" * (len(BOOK) + 3)), Lent(b"\x09" * 2)
+    nibdrumlin.nd_load(BOOK, sheet.part)
+    expect(sheet.part.tolist() == SHEET, "nd_load: the sheet differs")
+    expect(nibdrumlin.nd_write(sheet.part, BOOK, out.part) == len(BOOK), "nd_write: its length")
+    expect(out.part.tobytes() == BOOK + b"\x09" * 3, "nd_write: the bytes, or those beyond")
+    contradictory = nibdrumlin.nd_report(sheet.part, states.part)
+    _, bad, (due,) = calls.report(SHEET, [9, 9])
+    expect((contradictory, states.part.tolist()) == (bool(bad), due), "nd_report differs")
+    nibdrumlin.nd_choose(sheet.part, 1, True)
+    nibdrumlin.nd_run(sheet.part, MOST)
+    expect(all(lent.has_guards() for lent in (sheet, out, states)), "a guard was written")
 
 
 def check_books():
@@ -237,6 +257,7 @@ def main():
     start = time.monotonic()
     try:
         refusals = check_refusals()
+        check_accepted()
         check_books()
         check_sheets()
         check_misuse()
