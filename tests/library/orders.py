@@ -6,28 +6,31 @@ import sys
 import time
 
 from checker import desk
-from desk.cases import DESK, FULL, TOP, book_cases, line_cases, sample_cases
+from desk.cases import (DESK, FULL, LONG_CODE, TOP, WIDE, book_cases, line_cases,
+                        sample_cases)
 from driver.comparing import Difference
-from driver.desks import FOLDER, printed
+from driver.desks import FOLDER, comb, printed
 
 PROGRAMS = {"C": TOP / "target/library/order", "C++": TOP / "target/library/order-c++",
             "Python": TOP / "examples/order.py"}
 SECONDS = 2
 
 
-def all_cases():
-    yield from sample_cases()
-    yield from line_cases()
-    yield from book_cases()
-    for count in (1, 2):
-        yield "full sheet: %d choices" % count, FULL, b"+P\n" * count
+def due_cases():
+    """(name, book, choices, what is due); all but the last are due by the checker."""
+    more = [("full sheet: %d choices" % count, FULL, b"+P\n" * count) for count in (1, 2)]
+    more += [("the longest code", WIDE, b"-" + LONG_CODE),
+             ("the longest code and a character more", WIDE, b"-" + LONG_CODE + b"A\n")]
+    for name, book, stdin in [*sample_cases(), *line_cases(), *book_cases(), *more]:
+        yield name, book, stdin, desk.output(None if book is FOLDER else book, stdin)
+    # The checker would need an hour for this run; the book's meaning is seen by eye.
+    yield "a run that stops", comb(2200), b"", b"stopped 100000\nP open\nQ open\nZ open\nR open\n"
 
 
 def compare(programs):
-    """Each program prints what the checker says, in the time allowed; the slowest time."""
+    """Each program prints what is due, in the time allowed: how many cases, the slowest time."""
     count, slowest = 0, 0.0
-    for name, book, stdin in all_cases():
-        due = desk.output(None if book is FOLDER else book, stdin)
+    for name, book, stdin, due in due_cases():
         for language, program in programs.items():
             start = time.monotonic()
             given = printed(str(program), book, stdin)
