@@ -1,5 +1,5 @@
--- Document 01's starred cases by the calls: each is loaded from its book's bytes, chosen on, run and
--- reported. What is said of its sheet before the run is computed in `Cases`.
+-- Document 01's starred cases by the calls: each is loaded from its book's bytes, chosen on, run and reported. (What is said of its
+-- sheet before the run is computed in `Cases`.) Then budgets, the "complete" question, and the last choice that fits.
 use mathlib.Core.Bool.{Bool, true, false}
 use mathlib.Core.List.{List, [], _∷_, _++_, map}
 use mathlib.Core.Path.{_≡_, refl}

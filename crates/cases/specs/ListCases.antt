@@ -3,14 +3,17 @@ use mathlib.Core.Bool.{Bool, true, false}
 use mathlib.Core.List.{List, [], _∷_}
 use mathlib.Core.Path.{_≡_, refl}
 use Prim.Native.Nat.{ℕ}
-use Rattle.model.specs.Literal.{Literal, pos, neg}
+use Rattle.model.specs.Literal.{pos, neg}
 use Rattle.model.specs.Strategy.{most-steps}
 use Rattle.model.specs.Sheet.{nodes-in}
-use Rattle.calls.specs.History.{Call, choose, step, run, State, after-calls, loaded, account-calls, meaning, is-stretch, steps-of, ends-settled}
+use Rattle.calls.specs.History.{Call, choose, step, run, State, after-calls, Account, loaded, account-calls, meaning, is-stretch, steps-of, ends-settled}
 use Rattle.cases.specs.Opened.{definitions}
-use Rattle.cases.specs.Samples.{P, Q, not-Q, any-of, root, first-book, sheet, samples}
+use Rattle.cases.specs.Samples.{P, Q, not-Q, any-of, root, book, first-book, sheet, samples}
 
--- "P or Q", as the loader fills a sheet from it; then with "choice not Q".
+-- "P or Q": the book, the sheet that the loader fills from it (`CallCases`), and the sheet with "choice not Q".
+unfoldable pub P-or-Q : List ℕ
+P-or-Q = book ("P" ∷ "Q" ∷ []) ((any-of 2 ∷ P ∷ Q ∷ []) ∷ [])
+
 unfoldable pub start : State
 start = record { sheet = sheet 2 (root 1 ∷ any-of 2 ∷ P ∷ Q ∷ []) }
 
@@ -31,7 +34,7 @@ unfoldable pub no-sheet : State
 no-sheet = record { sheet = 2 ∷ 1 ∷ [] }
 
 pub record Listed : Type 0 where
-  pub choices : List (List Literal)
+  pub accounts : List Account
   pub left : List (List ℕ)
   pub steps : List ℕ
   pub ends : List Bool
@@ -40,10 +43,8 @@ pub record Listed : Type 0 where
 unfoldable pub listed : Listed
 listed =
     record {
-      choices =
-          account-calls whole start (loaded first-book) .choices
-          ∷ account-calls whole no-sheet (loaded first-book) .choices
-          ∷ [];
+      accounts =
+          account-calls whole start (loaded P-or-Q) ∷ account-calls whole no-sheet (loaded P-or-Q) ∷ [];
       left = after-calls whole start .sheet ∷ after-calls whole no-sheet .sheet ∷ [];
       steps = steps-of whole start ∷ steps-of stretch after-first-choice ∷ steps-of whole no-sheet ∷ [];
       ends =
@@ -65,7 +66,10 @@ pub lists-come-to :
     listed
     ≡ record {
       -- "A call is accepted when it is not refused."
-      choices = (neg 1 ∷ pos 0 ∷ []) ∷ [] ∷ [];
+      accounts =
+          record { book = P-or-Q; choices = neg 1 ∷ pos 0 ∷ [] }
+          ∷ record { book = P-or-Q; choices = [] }
+          ∷ [];
       -- "Each call is lent the sheet as the call before left it, unchanged by a refused one."
       left = sheet 2 (root 2 ∷ P ∷ not-Q ∷ []) ∷ (2 ∷ 1 ∷ []) ∷ [];
       -- "The steps it does are its accepted single steps and the counts that its runs returned, added up": 1 + 1 + 3; 1 + 1; none.
@@ -75,7 +79,7 @@ pub lists-come-to :
       -- "A stretch is any unbroken part of the list that holds no accepted choice."
       stretches = true ∷ true ∷ false ∷ false ∷ [];
     }
-unfolding definitions samples start after-first-choice stretch whole no-sheet listed
+unfolding definitions samples P-or-Q start after-first-choice stretch whole no-sheet listed
 lists-come-to = refl
 
 -- "With the choices they mean these clauses: those of every body, and for each accepted choice the clause of its mark alone." Of P or (P
