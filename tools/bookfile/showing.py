@@ -53,7 +53,7 @@ class Writer:
         self.column += len(text)
 
     def new_line(self):
-        self.column = min(INDENT * (len(self.open) + 1), DEEPEST_INDENT)
+        self.column = min(INDENT * len(self.open), DEEPEST_INDENT)
         self.pieces.append("\n" + " " * self.column)
 
     def start(self, length):

@@ -1,0 +1,132 @@
+"""The verbs of tools/book."""
+import argparse
+import os
+import sys
+
+from . import Mistake, books, checking, comparing, drawing, files, notation, showing
+from .checking import Refused, counted, in_thousands
+from .words import NotationMistake
+
+NOTATION = """\
+the notation:
+  # a comment, to the end of the line
+  option BODY-A             # a code: 1 to 13 of A-Z, a-z, 0-9 and hyphen
+  rule one_of(BODY-A, BODY-B)
+  rule BODY-A -> any(THREAD-G1,
+                     all(THREAD-G2, not LID-STEEL))
+
+  all(..), any(..)          every part holds; at least one part holds
+  not A, not any(..)        it does not hold; goes inwards, down to the options
+  A -> B                    any(not A, B)
+  A <-> B                   all(any(not A, B), any(A, not B))
+  at_most_one(A, B, ..)     all(..) of any(not X, not Y) for each pair
+  one_of(A, B, ..)          all(any(A, B, ..), and the same pairs)
+  true, false               all(), any()
+  ( .. )                    holds a formula together, makes no node
+
+  Each statement starts on a line of its own and may go on over several. An option
+  may be declared below the rules that name it; the options' numbers and the rules
+  follow the order of the text. A formula has at most one arrow; more want
+  parentheses. A code that is a word of the notation (all, any, not, true, false,
+  option, rule) is written in quotes: "all". Any code may be.
+
+  A book has no room for comments, nor for ->, <->, one_of, at_most_one or a `not`
+  before a group: `show` writes the rules spelled out and without comments. So keep
+  the text; it is the source.
+
+Options, rules, nodes and bytes are counted from 0, as document 01 counts them.
+Exit status: 0 done, 1 refused or not understood (one line says why and where), and
+then every file is as it was."""
+
+
+class Parser(argparse.ArgumentParser):
+    def error(self, message):
+        """One line, as for every other mistake."""
+        raise Mistake("%s: %s (%s --help tells more)" % (self.prog, message, self.prog))
+
+
+def main(arguments=None):
+    try:
+        given = parser().parse_args(arguments)
+        status = given.work(given) or 0
+        sys.stdout.flush()
+        return status
+    except Mistake as mistake:
+        print(" ".join(str(mistake).split("\n")), file=sys.stderr)
+    except BrokenPipeError:
+        # whoever read the output has seen enough; nothing more can be written, not even at the end
+        os.dup2(os.open(os.devnull, os.O_WRONLY), sys.stdout.fileno())
+    return 1
+
+
+def parser():
+    top = Parser(prog="book", description="Option books: made from a text, shown, checked, compared and drawn.",
+                 epilog=NOTATION, formatter_class=argparse.RawDescriptionHelpFormatter)
+    verbs = top.add_subparsers(title="verbs", metavar="VERB", required=True)
+    for name, work, names, words in (
+            ("make", make, ("TEXT", "BOOK"), "write the book that a text describes"),
+            ("show", show, ("BOOK",), "print the text of a book; `make` gives the same bytes again"),
+            ("check", check, ("BOOK",), "say whether a file is a book, and if not, why and where; if so, the room used"),
+            ("diff", diff, ("OLD", "NEW"), "say which options and rules were added, removed and moved"),
+            ("draw", draw, ("BOOK",), "draw the rules as trees (SVG)")):
+        verb = verbs.add_parser(name, help=words, description=words, epilog=NOTATION if name in ("make", "show") else None,
+                                formatter_class=argparse.RawDescriptionHelpFormatter)
+        for each in names:
+            verb.add_argument(each)
+        if name == "draw":
+            verb.add_argument("-o", metavar="FILE", help="the file to write; without it, standard output")
+        verb.set_defaults(work=work)
+    return top
+
+
+def make(given):
+    try:
+        book = notation.book_of(files.read(given.TEXT))
+    except NotationMistake as mistake:
+        raise Mistake("%s:%d:%d: %s" % (given.TEXT, mistake.line, mistake.column, mistake)) from None
+    files.write(given.BOOK, books.to_bytes(book), checking.read)
+
+
+def show(given):
+    sys.stdout.write(showing.text_of(read_book(given.BOOK)))
+
+
+def check(given):
+    try:
+        book = checking.read(files.read(given.BOOK))
+    except Refused as refusal:
+        print("%s: %s" % (printable(given.BOOK), refusal))
+        return 1
+    weight = books.weight(book)
+    print("%s: accepted" % printable(given.BOOK))
+    for what, used, most in (
+            ("options", len(book.codes), books.MOST_OPTIONS), ("rules", len(book.bodies), books.MOST_RULES),
+            ("nodes", books.count_nodes(book), books.MOST_NODES), ("weight", weight, books.MOST_WEIGHT)):
+        print("%-8s%5s of %s" % (what, in_thousands(used), in_thousands(most)))
+    # each choice at the desk is one more mark, of weight 2
+    print("A sheet of this book takes %s." % counted((books.MOST_WEIGHT - weight) // 2, "choice"))
+    return 0
+
+
+def diff(given):
+    print("\n".join(comparing.report(read_book(given.OLD), read_book(given.NEW))))
+
+
+def draw(given):
+    drawn = drawing.picture(read_book(given.BOOK))
+    if given.o is None:
+        sys.stdout.write(drawn)
+    else:
+        files.write(given.o, drawn.encode("ascii"))
+
+
+def read_book(path):
+    try:
+        return checking.read(files.read(path))
+    except Refused as refusal:
+        raise Mistake("%s: %s" % (path, refusal)) from None
+
+
+def printable(path):
+    """A file's name may hold bytes that are no text."""
+    return path.encode("utf-8", "backslashreplace").decode("utf-8")
