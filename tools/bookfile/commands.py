@@ -84,7 +84,10 @@ def make(given):
         book = notation.book_of(files.read(given.TEXT))
     except NotationMistake as mistake:
         raise Mistake("%s:%d:%d: %s" % (given.TEXT, mistake.line, mistake.column, mistake)) from None
-    files.write(given.BOOK, books.to_bytes(book), checking.read)
+    try:
+        files.write(given.BOOK, books.to_bytes(book), checking.read)
+    except Refused as refusal:  # the text was accepted, so this is a fault of the tool or of the disk
+        raise Mistake("%s: not written, since what was made is no book: %s" % (given.BOOK, refusal)) from None
 
 
 def show(given):

@@ -1,0 +1,121 @@
+"""The program as it is called: its output, its status, and the files that it leaves."""
+import os
+import subprocess
+import sys
+import tempfile
+from pathlib import Path
+from xml.etree import ElementTree
+
+from book import TOP, check
+from book.nests import DEEPEST, nest
+
+TOOL, EXAMPLES = str(TOP / "tools/book"), TOP / "examples"
+
+
+def call(*arguments, status=0):
+    """What the program prints; where it fails, its one line of standard error."""
+    done = subprocess.run([sys.executable, TOOL, *map(str, arguments)], capture_output=True, check=False)
+    printed, told = done.stdout.decode(), done.stderr.decode()
+    check(done.returncode == status, arguments, "ends with", done.returncode, told)
+    check("Traceback" not in told, arguments, told)
+    check(told.count("\n") == (1 if status and not printed else 0), arguments, "tells", repr(told))
+    return printed or told
+
+
+def sample_book(folder):
+    """The committed sample is the book of its text, and comes back from its own."""
+    made, text = folder / "book.bin", folder / "shown.txt"
+    call("make", EXAMPLES / "meter.txt", made)
+    check(made.read_bytes() == (EXAMPLES / "book.bin").read_bytes(), "examples/book.bin is not the book of examples/meter.txt")
+    text.write_text(call("show", made))
+    call("make", text, folder / "again.bin")
+    check((folder / "again.bin").read_bytes() == made.read_bytes(), "the sample shown and made again is another book")
+    check("one_of" in call("--help") and "no room for comments" in call("make", "--help"), "the help lacks the notation")
+    due = ["options    13 of 512", "rules      10 of 4,095", "nodes      60 of 4,095", "weight     97 of 4,096"]
+    check(call("check", made).split("\n")[1:5] == due, "the sample's room is told wrong:", call("check", made))
+
+
+def refused_files(folder):
+    """After a refusal the target is as it was, and nothing stands beside it."""
+    text, target, bad = folder / "bad.txt", folder / "target.bin", folder / "bad.bin"
+    target.write_bytes(b"as it was")
+    text.write_text("option A\nrule A -> \n")
+    before = sorted(os.listdir(folder))
+    check(call("make", text, target, status=1) == "%s:2:8: a formula is missing after `->`\n" % text, "another message")
+    for arguments, words in (
+            (("make", folder / "none.txt", target), "none.txt: cannot be read: No such file or directory"),
+            (("make", folder, target), "cannot be read: Is a directory"),
+            (("make", EXAMPLES / "meter.txt", folder / "no" / "book.bin"), "book.bin: cannot be written: No such file or directory"),
+            (("make", EXAMPLES / "meter.txt", folder), "cannot be written: it is no plain file"),
+            (("make", EXAMPLES / "meter.txt", "/dev/null"), "/dev/null: cannot be written: it is no plain file"),
+            (("show", target), "target.bin: refused 2: byte 0: the head says 29,537 options; 512 is the most"),
+            (("draw", target, "-o", target), "target.bin: refused 2"), (("diff", EXAMPLES / "book.bin", target), "refused 2"),
+            (("check", folder / "none.bin"), "none.bin: cannot be read"), (("mkae", text, target), "invalid choice"),
+            (("make", text), "required: BOOK"), ((), "required: VERB")):
+        check(words in call(*arguments, status=1), arguments, "tells", call(*arguments, status=1))
+    check(target.read_bytes() == b"as it was" and sorted(os.listdir(folder)) == before, "a refusal left its traces")
+    bad.write_bytes(bytes(7))
+    check("refused 1: the file has 7 bytes" in call("check", bad, status=1), "refusal 1 is not told")
+
+
+def written_files(folder):
+    """The empty file is the empty book; rights and links stay."""
+    text, target, link = folder / "empty.txt", folder / "kept.bin", folder / "link.bin"
+    text.write_bytes(b"")
+    target.write_bytes(b"old")
+    os.chmod(target, 0o640)
+    link.symlink_to(target)
+    call("make", text, link)
+    check(target.read_bytes() == bytes(8), "the empty text is not the empty book")
+    check(link.is_symlink() and target.stat().st_mode & 0o777 == 0o640, "the link or the rights of the target are lost")
+    text.write_bytes(b"\xef\xbb\xbf# caf\xc3\xa9\r\noption A # the small one\r\n\trule A\r\n")
+    call("make", text, target)
+    check(call("show", target) == "option A\n\nrule A\n", "a text from another system is not read")
+
+
+def changes(folder):
+    def report(old, new):
+        for name, text in (("old", old), ("new", new)):
+            (folder / (name + ".txt")).write_text(text)
+            call("make", folder / (name + ".txt"), folder / (name + ".bin"))
+        return call("diff", folder / "old.bin", folder / "new.bin").rstrip("\n").split("\n")
+    ab = "option A\noption B\n"
+    only = "only the order moved: both books have the same options and rules"
+    check(report(ab, ab + "# same\n") == ["no difference: the same options and rules in the same order"], "no difference")
+    check(report(ab + "rule A\nrule B\nrule A -> B", "option B\noption A\nrule B\nrule A -> B\nrule A") == [
+        "2 options: 0 added, 0 removed, 1 moved", "> option 0, now option 1: A", "3 rules: 0 added, 0 removed, 1 moved",
+        "> rule 0, now rule 2: A", only], "moved:", report)
+    check(report(ab + "rule any(A, B)\nrule A", "option C\n" + ab + "rule A\nrule A") == [
+        "3 options: 1 added, 0 removed, 0 moved", "+ option 0: C", "2 rules: 1 added, 1 removed, 0 moved", "- rule 0: any(A, B)",
+        "+ rule 1: A"], "added and removed")
+    check(report(ab + "rule any(A, all(A, B))", ab + "rule any(all(B, A), A)")[2:] == [
+        "= rule 0, now rule 0: the same parts in another order: any(all(B, A), A)", only], "order inside a rule")
+
+
+def pictures(folder):
+    drawn = ElementTree.fromstring(call("draw", EXAMPLES / "book.bin"))
+    boxes = [each for each in drawn.iter() if each.tag.endswith("rect") and each.get("class")]
+    check(len(boxes) == 60, "the sample's picture has", len(boxes), "boxes")
+    call("draw", EXAMPLES / "book.bin", "-o", folder / "book.svg")
+    check((folder / "book.svg").read_text() == call("draw", EXAMPLES / "book.bin"), "-o writes another picture")
+
+
+def deep_files(folder):
+    text, book = folder / "deep.txt", folder / "deep.bin"
+    text.write_bytes(nest(DEEPEST))
+    call("make", text, book)
+    check("weight  4,096 of 4,096" in call("check", book), "a deep book's weight")
+    text.write_text(call("show", book))
+    call("make", text, folder / "deep-again.bin")
+    check("no difference" in call("diff", book, folder / "deep-again.bin"), "a deep book shown and made again is another")
+    check(call("draw", book).count("<rect class") == DEEPEST + 1, "a deep book is not drawn whole")
+
+
+def run(accepted):
+    with tempfile.TemporaryDirectory() as name:
+        for part in (sample_book, refused_files, written_files, changes, pictures, deep_files):
+            folder = Path(name) / part.__name__
+            folder.mkdir()
+            part(folder)
+            check(not list(folder.glob(".book-*")), "a file was left beside its target")
+    return "every verb"
