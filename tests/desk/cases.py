@@ -1,7 +1,8 @@
 """Named cases for the desk program: the sample book, odd lines, books that cannot be read, input past its buffers. What is due
 comes from the checker alone."""
-import importlib.machinery
-import importlib.util
+import subprocess
+import sys
+import tempfile
 from pathlib import Path
 
 from checker import desk
@@ -32,12 +33,12 @@ def crate_cases():
 
 def sample_cases():
     """The sample book of examples/, which is the one that its text describes."""
-    loader = importlib.machinery.SourceFileLoader("make_book", str(EXAMPLES / "make_book"))
-    maker = importlib.util.module_from_spec(importlib.util.spec_from_loader("make_book", loader))
-    loader.exec_module(maker)
     book = (EXAMPLES / "book.bin").read_bytes()
-    if maker.book((EXAMPLES / "meter.txt").read_text()) != book:
-        raise SystemExit("examples/book.bin is not the book of examples/meter.txt")
+    with tempfile.TemporaryDirectory() as folder:
+        made = Path(folder) / "book.bin"
+        subprocess.run([sys.executable, str(TOP / "tools/book"), "make", str(EXAMPLES / "meter.txt"), str(made)], check=True)
+        if made.read_bytes() != book:
+            raise SystemExit("examples/book.bin is not the book of examples/meter.txt")
     yield "sample book, no choices", book, b""
     yield "sample book, its choices", book, (EXAMPLES / "choices.txt").read_bytes()
     yield "sample book, choices that clash", book, b"+LID-STEEL\n+BAND-868\n"
