@@ -13,6 +13,7 @@ def round_trip(data, accepted):
     text = showing.text_of(checking.read(data))
     again = books.to_bytes(notation.book_of(text.encode()))
     check(again == data, "shown and made again it is another book:", data.hex(), text)
+    check(max(map(len, text.split("\n"))) <= showing.WIDTH, "a line is too long to read:", text)
     return text
 
 

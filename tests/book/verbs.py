@@ -3,10 +3,13 @@ import os
 import subprocess
 import sys
 import tempfile
+from itertools import combinations
 from pathlib import Path
 from xml.etree import ElementTree
 
-from book import TOP, check
+from bookfile import checking, files
+
+from book import TOP, Failed, check
 from book.nests import DEEPEST, nest
 
 TOOL, EXAMPLES = str(TOP / "tools/book"), TOP / "examples"
@@ -58,6 +61,19 @@ def refused_files(folder):
     check(target.read_bytes() == b"as it was" and sorted(os.listdir(folder)) == before, "a refusal left its traces")
     bad.write_bytes(bytes(7))
     check("refused 1: the file has 7 bytes" in call("check", bad, status=1), "refusal 1 is not told")
+    refused_writing(folder, target)
+
+
+def refused_writing(folder, target):
+    """Bytes that are no book get no name, and a full disk is told."""
+    try:
+        files.write(str(target), bytes(7), checking.read)
+        raise Failed("seven bytes were written as a book")
+    except checking.Refused as refusal:
+        check(refusal.number == 1 and target.read_bytes() == b"as it was", "a refused book was written")
+    with open("/dev/full", "wb") as full:
+        done = subprocess.run([sys.executable, TOOL, "show", str(EXAMPLES / "book.bin")], stdout=full, stderr=subprocess.PIPE, check=False)
+    check((done.returncode, done.stderr) == (1, b"standard output: cannot be written: No space left on device\n"), done)
 
 
 def written_files(folder):
@@ -98,6 +114,10 @@ def pictures(folder):
     printed = call("draw", EXAMPLES / "book.bin")
     boxes = [each for each in ElementTree.fromstring(printed).iter() if each.tag.endswith("rect") and each.get("class")]
     check(len(boxes) == 60, "the sample's picture has", len(boxes), "boxes")
+    places = [[float(box.get(name)) for name in ("x", "y", "width", "height")] for box in boxes]
+    for (left, top, width, height), (other_left, other_top, other_width, other_height) in combinations(places, 2):
+        check(left + width <= other_left or other_left + other_width <= left or top + height <= other_top
+              or other_top + other_height <= top, "two boxes of the picture overlap")
     call("draw", EXAMPLES / "book.bin", "-o", folder / "book.svg")
     check((folder / "book.svg").read_text() == printed, "-o writes another picture")
 

@@ -24,8 +24,8 @@ the notation:
   true, false               all(), any()
   ( .. )                    holds a formula together, makes no node
 
-  Each statement starts on a line of its own and may go on over several. An option
-  may be declared below the rules that name it; the options' numbers and the rules
+  Each statement starts on a line of its own; a rule may go on over several. An
+  option may stand below the rules that name it; the options' numbers and the rules
   follow the order of the text. A formula has at most one arrow; more want
   parentheses. A code that is a word of the notation (all, any, not, true, false,
   option, rule) is written in quotes: "all". Any code may be.
@@ -35,8 +35,8 @@ the notation:
   the text; it is the source.
 
 Options, rules, nodes and bytes are counted from 0, as document 01 counts them.
-Exit status: 0 done, 1 refused or not understood (one line says why and where), and
-then every file is as it was."""
+Exit status: 0 done (of diff, whether or not there is a difference), 1 refused or not
+understood: one line says why and where, and every file is as it was."""
 
 
 class Parser(argparse.ArgumentParser):
@@ -46,6 +46,7 @@ class Parser(argparse.ArgumentParser):
 
 
 def main(arguments=None):
+    """The exit status."""
     try:
         given = parser().parse_args(arguments)
         status = given.work(given) or 0
@@ -53,10 +54,17 @@ def main(arguments=None):
         return status
     except Mistake as mistake:
         print(" ".join(str(mistake).split("\n")), file=sys.stderr)
-    except BrokenPipeError:
-        # whoever read the output has seen enough; nothing more can be written, not even at the end
-        os.dup2(os.open(os.devnull, os.O_WRONLY), sys.stdout.fileno())
+    except BrokenPipeError:  # whoever read the output has seen enough
+        drop_output()
+    except OSError as error:
+        print("standard output: cannot be written: %s" % files.reason(error), file=sys.stderr)
+        drop_output()
     return 1
+
+
+def drop_output():
+    """What could not be written would be tried once more as the program ends."""
+    os.dup2(os.open(os.devnull, os.O_WRONLY), sys.stdout.fileno())
 
 
 def parser():

@@ -106,7 +106,7 @@ class Level:
 
     def is_empty(self):
         """Whether nothing stands behind the opening parenthesis yet."""
-        return not self.parts and self.value is self.arrow is self.negation is None
+        return not self.parts and self.value is None and self.arrow is None and self.negation is None
 
 
 def rule_formula(statement):

@@ -3,6 +3,7 @@ from itertools import combinations
 
 from . import books
 from .books import ALL_OF, ANY_OF, BARRED, MOST_NODES, PLAIN
+from .checking import in_thousands
 from .grammar import Formula
 from .words import NotationMistake
 
@@ -36,7 +37,8 @@ def fewest_nodes(formula):
 
 def check_room(nodes, start):
     if nodes > MOST_NODES:
-        raise NotationMistake(start, "this rule, spelled out in all-of and any-of, has more than 4,095 nodes, all that a book has room for")
+        raise NotationMistake(start, "this rule, spelled out in all-of and any-of, has more than %s nodes, all that a book has room for" % (
+            in_thousands(MOST_NODES)))
 
 
 def spelled(formula):
