@@ -9,7 +9,7 @@ import ctypes
 from pathlib import Path
 
 TOP = Path(__file__).resolve().parent.parent.parent
-LIBRARY = TOP / "target/probe/libnibdrumlin.so"
+LIBRARY = TOP / "target/library/libnibdrumlin_sheets.so"
 
 
 class Failed(Exception):
