@@ -1,5 +1,5 @@
-"""docs/third-case.svg: document 01's third starred case, the sheet after each step as a small tree,
-from the checker's trace. Run from anywhere: python3 tests/picture.py"""
+"""docs/third-case.svg: document 01's third starred case, the sheet before each step and after the last as
+a small tree, from the checker's trace. Run from anywhere: python3 tests/picture.py"""
 from pathlib import Path
 
 from checker import rules
@@ -14,7 +14,7 @@ WORDS = {7: "an all-of with one child: the child replaces it",
          14: "the mark that the all-ofs share is taken out"}
 LABELS = {ROOT: "root", CONJUNCTION: "all of", DISJUNCTION: "any of"}
 COLOURS = {ROOT: "#d9d9d9", CONJUNCTION: "#cfe3f7", DISJUNCTION: "#fbe3c0"}
-ACROSS, DOWN, WIDE, HIGH, PER_ROW = 58, 46, 310, 330, 4
+ACROSS, DOWN, WIDE, HIGH, PER_ROW = 58, 46, 310, 340, 4
 
 
 def trace():
@@ -57,7 +57,7 @@ def drawn(root, step, left, top):
     Box(root, 0, boxes, leaves)
     shift = left + (WIDE - ACROSS * (len(leaves) - 1)) / 2
     for place, box in enumerate(boxes):
-        x, y = shift + ACROSS * box.x, top + 62 + DOWN * box.y
+        x, y = shift + ACROSS * box.x, top + 74 + DOWN * box.y
         for child in box.below:
             lines.append('<line x1="%.0f" y1="%.0f" x2="%.0f" y2="%.0f" stroke="#888888"/>' % (
                 x, y, shift + ACROSS * child.x, y + DOWN))
@@ -70,15 +70,20 @@ def drawn(root, step, left, top):
                 3 if redex else 1))
         shapes.append('<text x="%.0f" y="%.0f" text-anchor="middle">%s</text>' % (
             x, y + 4, label(box.node)))
+        if redex:
+            # above the box, on the side that the line from its parent leaves free
+            left_free = any(box in other.below and other.x > box.x for other in boxes)
+            shapes.append('<text x="%.0f" y="%.0f" text-anchor="%s" fill="#c02020" font-size="11">place %d</text>' % (
+                x - 6 if left_free else x + 6, y - 17, "end" if left_free else "start", place))
     return lines + shapes
 
 
-def title(number, taken, left, top):
-    """What was done to come here."""
-    if taken is None:
-        words = ["loaded: (P and Q) or (P and R)", ""]
+def title(number, step, left, top):
+    """What is about to happen at the red node."""
+    if step is None:
+        words = ["after %d steps: settled" % number, "no rule applies; P is forced, Q and R are open"]
     else:
-        words = ["step %d: rule %d at place %d, i %d, j %d" % (number, *taken), WORDS[taken[0]]]
+        words = ["step %d: rule %d at place %d, i %d, j %d" % (number + 1, *step), WORDS[step[0]]]
     styles = 'font-weight="bold"', 'fill="#444444"'
     return ['<text x="%d" y="%d" %s>%s</text>' % (left + 8, top + 20 + 16 * at, style, line)
             for at, (line, style) in enumerate(zip(words, styles))]
@@ -92,7 +97,7 @@ def main():
              '<rect width="%d" height="%d" fill="#ffffff"/>' % (width, height)]
     for number, (root, step) in enumerate(states):
         left, top = WIDE * (number % PER_ROW), HIGH * (number // PER_ROW)
-        parts += title(number, states[number - 1][1] if number else None, left, top)
+        parts += title(number, step, left, top)
         parts += drawn(root, step, left, top)
     target = Path(__file__).resolve().parent.parent / "docs/third-case.svg"
     target.write_text("\n".join(parts + ["</svg>"]) + "\n")
