@@ -1,62 +1,51 @@
-//! The plot: a small panel a family, time against nodes, both by powers of ten.
+//! The plot: for each family the library's time over plain Rust's, a line a family, one point a
+//! weight for the run and one for the report. The middle line is "as fast as plain Rust".
 
 use crate::rows::Row;
 use std::fmt::Write;
 
-const COLUMNS: usize = 5;
-const PANEL: [f64; 2] = [212.0, 168.0];
-/// The panel's box: left, top, width, height.
-const FRAME: [f64; 4] = [44.0, 24.0, 158.0, 116.0];
-const TOP: f64 = 46.0;
-/// Powers of ten at the ends of the axes: nodes, seconds.
-const NODES: [f64; 2] = [2.5, 3.75];
-const SECONDS: [f64; 2] = [-6.0, 2.0];
+/// The names' column, the axis and the margins.
+const NAMES: f64 = 232.0;
+const AXIS: f64 = 640.0;
+const TOP: f64 = 64.0;
+const LINE: f64 = 20.0;
+/// The ends of the axis, by powers of ten.
+const RATIOS: [f64; 2] = [-1.0, 0.7];
 
-/// What is drawn of a row: the colour, whether dashed, the time.
-struct Curve {
+/// What is drawn of a row: the colour, how far beside the family's line, the ratio.
+struct Series {
     said: &'static str,
     colour: &'static str,
-    dashed: bool,
+    beside: f64,
     of: fn(&Row) -> f64,
 }
 
-const CURVES: [Curve; 5] = [
-    curve("run", "#1f5fa8", false, |row| row.run[0]),
-    curve("run, plain Rust by bounds", "#1f5fa8", true, |row| {
-        row.run[1]
+const SERIES: [Series; 3] = [
+    series("run", "#1f5fa8", -4.0, |row| row.run[0] / row.run[1]),
+    series("report", "#c4541a", 0.0, |row| {
+        row.before[0] / row.before[1]
     }),
-    curve("report", "#c4541a", false, |row| row.before[0]),
-    curve("report, plain Rust by parts", "#c4541a", true, |row| {
-        row.before[1]
-    }),
-    curve("load", "#6b6b6b", false, |row| row.load[0]),
+    series("load", "#6b6b6b", 4.0, |row| row.load[0] / row.load[1]),
 ];
 
-const fn curve(
+const fn series(
     said: &'static str,
     colour: &'static str,
-    dashed: bool,
+    beside: f64,
     of: fn(&Row) -> f64,
-) -> Curve {
-    Curve {
+) -> Series {
+    Series {
         said,
         colour,
-        dashed,
+        beside,
         of,
     }
 }
 
-/// Where a value stands between the ends of its axis, from 0 to 1.
-fn share(value: f64, [low, high]: [f64; 2]) -> f64 {
-    ((value.log10() - low) / (high - low)).clamp(0.0, 1.0)
-}
-
-fn point(nodes: f64, seconds: f64) -> [f64; 2] {
-    let [left, top, width, height] = FRAME;
-    [
-        left + width * share(nodes, NODES),
-        top + height * (1.0 - share(seconds, SECONDS)),
-    ]
+/// Where a ratio stands on the axis.
+fn across(ratio: f64) -> f64 {
+    let [low, high] = RATIOS;
+    NAMES + AXIS * ((ratio.log10() - low) / (high - low)).clamp(0.0, 1.0)
 }
 
 fn label(svg: &mut String, at: [f64; 2], anchor: &str, text: &str) {
@@ -68,98 +57,69 @@ fn label(svg: &mut String, at: [f64; 2], anchor: &str, text: &str) {
     .expect("a string");
 }
 
-/// The box with its lines and labels.
-fn frame(svg: &mut String, name: &str) {
-    let [left, top, width, height] = FRAME;
-    label(svg, [left, top - 7.0], "start", name);
-    let mut rule = |from: [f64; 2], to: [f64; 2]| {
-        writeln!(
-            svg,
-            r##"<path d="M{:.1} {:.1}L{:.1} {:.1}" stroke="#ddd"/>"##,
-            from[0], from[1], to[0], to[1]
-        )
-        .expect("a string");
-    };
-    for power in -6..=2 {
-        let y = point(1.0, 10f64.powi(power))[1];
-        rule([left, y], [left + width, y]);
-    }
-    for nodes in [512.0, 1024.0, 2048.0, 4096.0] {
-        let x = point(nodes, 1.0)[0];
-        rule([x, top], [x, top + height]);
-    }
-    for (power, said) in [(-6, "1 µs"), (-3, "1 ms"), (0, "1 s")] {
-        let y = point(1.0, 10f64.powi(power))[1];
-        label(svg, [left - 4.0, y + 3.0], "end", said);
-    }
-    for (nodes, said) in [
-        (512.0, "512"),
-        (1024.0, "1,024"),
-        (2048.0, "2,048"),
-        (4096.0, "4,096"),
-    ] {
-        let x = point(nodes, 1.0)[0];
-        label(svg, [x, top + height + 12.0], "middle", said);
-    }
-}
-
-/// Whether a curve shows a run that was stopped early.
-fn is_stopped(curve: &Curve, row: &Row) -> bool {
-    curve.said.starts_with("run") && !row.is_whole()
-}
-
-/// A curve: a line through the points of one kind, and the points, hollow where stopped.
-fn draw(svg: &mut String, rows: &[&Row], curve: &Curve) {
-    let place = |row: &Row| point(row.nodes as f64, (curve.of)(row));
-    let (colour, dashes) = (curve.colour, dashes(curve));
-    let path: Vec<String> = rows
-        .iter()
-        .filter(|row| !is_stopped(curve, row))
-        .map(|row| format!("{:.1},{:.1}", place(row)[0], place(row)[1]))
-        .collect();
+fn line(svg: &mut String, from: [f64; 2], to: [f64; 2], stroke: &str) {
     writeln!(
         svg,
-        r#"<polyline points="{}" fill="none" stroke="{colour}"{dashes}/>"#,
-        path.join(" ")
+        r#"<path d="M{:.1} {:.1}L{:.1} {:.1}" {stroke}/>"#,
+        from[0], from[1], to[0], to[1]
     )
     .expect("a string");
-    for row in rows {
-        let fill = if is_stopped(curve, row) {
-            "#fff"
-        } else {
-            colour
-        };
-        let [x, y] = place(row);
-        writeln!(
-            svg,
-            r#"<circle cx="{x:.1}" cy="{y:.1}" r="2.2" fill="{fill}" stroke="{colour}"/>"#
-        )
-        .expect("a string");
-    }
 }
 
-fn dashes(curve: &Curve) -> &'static str {
-    if curve.dashed {
-        r#" stroke-dasharray="3 2""#
-    } else {
-        ""
-    }
-}
-
+/// What is shown, and by which colour and size.
 fn legend(svg: &mut String) {
-    for (at, curve) in CURVES.iter().enumerate() {
-        let x = 44.0 + 190.0 * at as f64;
-        let dashes = dashes(curve);
+    let said = "the library's time over plain Rust's by the same method, at the weights 1,024, 2,048 and 4,096 (the larger the point)";
+    label(svg, [10.0, 18.0], "start", said);
+    for (at, series) in SERIES.iter().enumerate() {
+        let x = NAMES + 90.0 * at as f64;
         writeln!(
             svg,
-            r#"<path d="M{x} 16h24" stroke="{}" stroke-width="1.5"{dashes}/>"#,
-            curve.colour
+            r#"<circle cx="{x}" cy="32" r="3.5" fill="{}"/>"#,
+            series.colour
         )
         .expect("a string");
-        label(svg, [x + 30.0, 19.5], "start", curve.said);
+        label(svg, [x + 8.0, 35.5], "start", series.said);
     }
-    let said = "time against nodes, both by powers of ten; a hollow point is a run stopped early";
-    label(svg, [44.0, 36.0], "start", said);
+}
+
+/// The lines of the axis: 1 is as fast as plain Rust, 3 is the bar.
+fn axis(svg: &mut String, bottom: f64) {
+    for (ratio, said, stroke) in [
+        (0.1, "0.1", r##"stroke="#ddd""##),
+        (0.2, "0.2", r##"stroke="#ddd""##),
+        (0.5, "0.5", r##"stroke="#ddd""##),
+        (
+            1.0,
+            "1: as fast as plain Rust",
+            r##"stroke="#333" stroke-width="1.5""##,
+        ),
+        (2.0, "2", r##"stroke="#ddd""##),
+        (
+            3.0,
+            "3: the bar",
+            r##"stroke="#b02020" stroke-dasharray="4 3""##,
+        ),
+    ] {
+        let x = across(ratio);
+        line(svg, [x, TOP - 10.0], [x, bottom], stroke);
+        label(svg, [x, TOP - 14.0], "middle", said);
+    }
+}
+
+/// A family's points; the larger its book, the larger the point.
+fn points(svg: &mut String, family: &[&Row], y: f64) {
+    for series in &SERIES {
+        for (at, row) in family.iter().enumerate() {
+            let (x, radius) = (across((series.of)(row)), 1.8 + 0.9 * at as f64);
+            writeln!(
+                svg,
+                r#"<circle cx="{x:.1}" cy="{:.1}" r="{radius:.1}" fill="{}" fill-opacity="0.75"/>"#,
+                y + series.beside,
+                series.colour
+            )
+            .expect("a string");
+        }
+    }
 }
 
 /// The picture of all families that were measured at several weights.
@@ -172,23 +132,25 @@ pub fn svg(rows: &[Row]) -> String {
         }
     }
     families.retain(|family| family.len() > 1);
-    let width = PANEL[0] * COLUMNS as f64;
-    let height = TOP + PANEL[1] * families.len().div_ceil(COLUMNS) as f64;
+    let bottom = TOP + LINE * families.len() as f64;
+    let (width, height) = (NAMES + AXIS + 60.0, bottom + 12.0);
     let mut svg = format!(
         "<svg xmlns=\"http://www.w3.org/2000/svg\" viewBox=\"0 0 {width} {height}\" \
-         font-family=\"sans-serif\" font-size=\"10\">\n<rect width=\"100%\" height=\"100%\" \
+         font-family=\"sans-serif\" font-size=\"11\">\n<rect width=\"100%\" height=\"100%\" \
          fill=\"#fff\"/>\n"
     );
     legend(&mut svg);
+    axis(&mut svg, bottom);
     for (at, family) in families.iter().enumerate() {
-        let x = PANEL[0] * (at % COLUMNS) as f64;
-        let y = TOP + PANEL[1] * (at / COLUMNS) as f64;
-        writeln!(svg, r#"<g transform="translate({x} {y})">"#).expect("a string");
-        frame(&mut svg, &family[0].name);
-        for curve in &CURVES {
-            draw(&mut svg, family, curve);
-        }
-        svg.push_str("</g>\n");
+        let y = TOP + LINE * (at as f64 + 0.5);
+        label(&mut svg, [NAMES - 12.0, y + 4.0], "end", &family[0].name);
+        line(
+            &mut svg,
+            [NAMES, y],
+            [NAMES + AXIS, y],
+            r##"stroke="#eee""##,
+        );
+        points(&mut svg, family, y);
     }
     svg.push_str("</svg>\n");
     svg
