@@ -1,7 +1,11 @@
 // The desk program: reads the option book `book.bin` and the choices on standard input, and prints what the order gives. All that is
 // decided is decided by `sessions::session`, which is proved to give every byte; here the bytes are only read and written. No more
-// than 65,536 of either are read: the rest cannot change what is printed (`sessions`: `Buffers.desk-cut`).
+// than 65,536 of either are read: the rest cannot change what is printed (`sessions`: `Buffers.desk-cut`). Where choices are typed at
+// a terminal, standard error has a word on how, and why a line was refused; where they are piped, nothing is written there.
+ghost use Prim.Native.Nat.{_≤_};
+ghost use lib.ListN.{length};
 ghost use Rattle.io.specs.Counts.{Counts};
+use libc::STDERR_FILENO;
 use libc::STDIN_FILENO;
 use libc::STDOUT_FILENO;
 
@@ -15,12 +19,112 @@ fn read_book(buf: &mut [u8]) -> usize
     n
 }
 
+// What to type, and how to end; and that there is no book, where nothing could be read of it.
+fn say_how(book: &[u8]) {
+    if book.len() == 0 {
+        io::write_all(STDERR_FILENO, b"book.bin cannot be read, or is empty.\n");
+    }
+    io::write_all(
+        STDERR_FILENO,
+        b"Choices, one a line: +CODE takes an option, -CODE bars it. End with Ctrl-D on a line of its own.\n",
+    );
+}
+
+// Where the line that begins at a place ends.
+fn line_end(input: &[u8], from: usize) -> usize
+    requires { ⌜ from ≤ length (now input) ⌝ }
+    ensures { λ r. ⌜ (from ≤ r) × (r ≤ length (now (input .entry))) ⌝ }
+{
+    let mut at = from;
+    while at < input.len() {
+        if input[at] == 10 {
+            return at;
+        }
+        at += 1;
+    }
+    at
+}
+
+// What the program prints for this input is a refusal: no other output begins with an r.
+fn is_refused(book: &[u8], input: &[u8]) -> bool {
+    let mut out = [0u8; 16384];
+    sessions::session(book, input, &mut out);
+    out[0] == b'r'
+}
+
+// A line of the input: its number from 1, and where it stands.
+struct Line {
+    number: u64,
+    from: usize,
+    to: usize,
+}
+
+// The first line that is refused: with it, its end too, the input is refused, and not before. (The last line may lack its end.)
+fn refused_line(book: &[u8], input: &[u8]) -> Line
+    ensures { λ r. ⌜ (r .from ≤ r .to) × (r .to ≤ length (now (input .entry))) ⌝ }
+{
+    let mut number = 1;
+    let mut from = 0;
+    let mut to = line_end(input, 0);
+    while to < input.len() {
+        let next = to + 1;
+        if is_refused(book, &input[..next]) {
+            return Line {
+                number: number,
+                from: from,
+                to: to,
+            };
+        }
+        number += 1;
+        from = next;
+        to = line_end(input, from);
+    }
+    Line {
+        number: number,
+        from: from,
+        to: to,
+    }
+}
+
+// The words for a refusal by its digit: of a book (1 to 6), or of a line.
+fn say_why(book: &[u8], input: &[u8], digit: u8) {
+    if digit < b'7' {
+        io::write_all(
+            STDERR_FILENO,
+            b"book.bin is no book that can be used; tools/book check says why.\n",
+        );
+        return;
+    }
+    let line = refused_line(book, input);
+    let from = line.from;
+    let to = line.to;
+    io::write_all(STDERR_FILENO, b"Line ");
+    io::print_decimal(STDERR_FILENO, line.number);
+    io::write_all(STDERR_FILENO, b", \"");
+    io::write_all(STDERR_FILENO, &input[from..to]);
+    if digit == b'7' {
+        io::write_all(
+            STDERR_FILENO,
+            b"\", is not + or - and a code of this book.\n",
+        );
+    } else {
+        io::write_all(STDERR_FILENO, b"\", finds the sheet full.\n");
+    }
+}
+
 fn main() {
+    let typed = libc::isatty(STDIN_FILENO) == 1;
     let mut book = io::large_buffer();
     let n = read_book(&mut book);
+    if typed {
+        say_how(&book[..n]);
+    }
     let mut input = io::large_buffer();
     let m = io::read_full(STDIN_FILENO, &mut input);
     let mut out = [0u8; 16384];
     let k = sessions::session(&book[..n], &input[..m], &mut out);
     io::write_all(STDOUT_FILENO, &out[..k]);
+    if typed && out[0] == b'r' {
+        say_why(&book[..n], &input[..m], out[8]);
+    }
 }
