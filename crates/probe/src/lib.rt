@@ -1,4 +1,4 @@
-// For tests and benchmarks only: every call on sheets, for C. Each answers one number, as the calls of `c_calls` do: the low 8 bits are
+// Every call on sheets, for C (include/nibdrumlin_sheets.h). Each answers one number, as the calls of `c_calls` do: the low 8 bits are
 // the refusal (0: accepted), the rest is the value.
 ghost use mathlib.Core.Path.{_≡_};
 ghost use Rattle.calls.specs.Calls.{loadOf, writeOf, reportOf, completeOf, chooseOf, stepOf, runOf};
