@@ -27,7 +27,8 @@ use Rattle.theory.specs.Codes.{decode-encode}
 use Rattle.theory.specs.Clauses.{clauses-⊕, clauses-root, clauses-lit}
 use Rattle.call_laws.specs.Valuations.{SameModels, model-holds, same-of, same-trans, same-append}
 use Rattle.call_laws.specs.Soundness.{step-holds}
-use Rattle.theory.specs.Shape.{Shaped, shaped-rooted, step-shaped, shaped-decode}
+use Rattle.theory.specs.Shape.{Shaped, shaped-rooted, shaped-decode}
+use Rattle.theory.specs.ShapeKept.{step-shaped}
 use Rattle.theory.specs.Steps.{Steps, done, more, steps-append, steps-shaped, steps-weight}
 use Rattle.theory.specs.Runs.{run-steps}
 use Rattle.theory.specs.Reached.{strategy-steps}

@@ -1,7 +1,6 @@
 -- The nodes of a sheet, number by number from the right, and the values of the trees that they spell.
 use mathlib.Core.Bool.{Bool, true, false, _||_}
 use mathlib.Core.List.{List, [], _∷_, map}
-use mathlib.Core.Logic.{⊎-elim}
 use mathlib.Core.Option.{some}
 use mathlib.Core.Path.{_≡_, refl, sym, ap, ap₂, _∙_}
 use Prim.Native.Nat.{ℕ, zero, suc, _+_, _-_, _*_, _≤_, _<_}
@@ -15,8 +14,9 @@ use Rattle.model.specs.Limits.{most-literals}
 use Rattle.model.specs.Forest.{Conn, and, or, root, Forest, nil, lit, node, size}
 use Rattle.model.specs.Code.{head, kind, value, node-of, decode, push, trees, joined, children}
 use Rattle.model.specs.Sheet.{numbers-in, nodes-in, used-in, options-in, rooted, body-node}
-use Rattle.theory.specs.Logic.{true-false, and-split, or-split, or-neither, then-some, only-some}
+use Rattle.theory.specs.Logic.{true-false, and-split, or-neither, then-some, only-some}
 use Rattle.theory.specs.Scan.{is-literal, inner-node}
+use Rattle.theory.specs.Leaves.{literal-kind}
 use Rattle.theory.specs.Codes.{encode-decode, trees-drop, size-length}
 use Rattle.theory.specs.Lists.{map-drop}
 use Rattle.theory.specs.Shape.{shaped-trees}
@@ -25,15 +25,8 @@ use Rattle.theory.specs.Evaluation.{Set, fails-all, values}
 use Rattle.theory.specs.Families.{unwrapped-values}
 use Rattle.theory.specs.Values.{and-root, values-first, values-after}
 use Rattle.theory.specs.Tables.{place-of, set-of}
-use Rattle.evaluation.specs.Reading.{place-at, with-node, tree-fails, Spells-tree}
-
-pub literal-kind : (x : ℕ) → is-literal x ≡ true → (1 ≤ kind x) × (kind x ≤ 2)
-unfolding is-literal
-literal-kind x h =
-    ⊎-elim
-    (λ e. let k = eqb-true (kind x) 1 e in (omega arith, omega arith))
-    (λ e. let k = eqb-true (kind x) 2 e in (omega arith, omega arith))
-    (or-split (eqb (kind x) 1) _ h)
+use Rattle.theory.specs.Leaves.{place-at}
+use Rattle.evaluation.specs.Reading.{with-node, tree-fails, Spells-tree}
 
 -- The values of the trees that numbers spell.
 unfoldable pub values-of : List ℕ → List ℕ → List Bool

@@ -3,20 +3,17 @@ use mathlib.Core.Bool.{Bool, true}
 use mathlib.Core.List.{List, _∷_, map}
 use mathlib.Core.Option.{some}
 use mathlib.Core.Path.{_≡_}
-use Prim.Native.Nat.{ℕ, _+_, _-_, _*_, _<_}
+use Prim.Native.Nat.{ℕ, _-_, _<_}
 use lib.Dec.{eqb}
 use lib.ListN.{length, getD, take, drop}
 use Rattle.model.specs.Base.{pick}
 use Rattle.model.specs.Limits.{most-literals}
 use Rattle.model.specs.Forest.{or, root}
-use Rattle.model.specs.Code.{kind, value, children, node-of, decode, trees}
+use Rattle.model.specs.Code.{kind, children, node-of, decode, trees}
 use Rattle.theory.specs.Scan.{is-literal}
+use Rattle.theory.specs.Leaves.{place-at}
 use Rattle.theory.specs.Evaluation.{fails-all, fails}
 use Rattle.theory.specs.Tables.{set-of}
-
--- The place in a table of the literal that a number of kind 1 or 2 is.
-unfoldable pub place-at : ℕ → ℕ
-place-at x = 2 * value x + kind x - 1
 
 -- The values of trees under a table of failed literals, after one node more before them, by its number.
 unfoldable pub with-node : List ℕ → ℕ → List Bool → List Bool

@@ -3,7 +3,7 @@
 ghost use mathlib.Core.Path.{_≡_};
 ghost use mathlib.Core.Bool.{true};
 ghost use Rattle.theory.specs.Scan.{«is-literal»};
-ghost use Rattle.evaluation.specs.Reading.{«place-at»};
+ghost use Rattle.theory.specs.Leaves.{«place-at»};
 
 // The place in a table of the literal that a number of kind 1 or 2 is.
 pub fn place_of(x: usize) -> usize

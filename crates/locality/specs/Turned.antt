@@ -14,7 +14,7 @@ use Rattle.theory.specs.Codes.{decode-encode, encode-decode, trees-after, trees
 use Rattle.theory.specs.Changes.{Change}
 use Rattle.theory.specs.Inversion.{rewritten}
 use Rattle.theory.specs.Bounds.{step-within}
-use Rattle.theory.specs.Fine.{change-size}
+use Rattle.theory.specs.FineKept.{change-size}
 use Rattle.theory.specs.Turns.{family-at, family-of}
 use Rattle.locality.specs.Places.{Rest, rest-of}
 

@@ -14,7 +14,7 @@ use Rattle.model.specs.Sheet.{used-in, numbers-in}
 use Rattle.theory.specs.Logic.{either, true-false}
 use Rattle.theory.specs.Scan.{is-literal}
 use Rattle.theory.specs.Sheets.{Formed}
-use Rattle.evaluation.specs.Reading.{place-at}
+use Rattle.theory.specs.Leaves.{place-at}
 use Rattle.evaluation.proofs.Nodes.{numbers-long, sheet-tree}
 use Rattle.parts.specs.Parts.{Claimed, Occurs, Latest, Linked}
 

@@ -23,7 +23,8 @@ use Rattle.theory.specs.Flat.{spell, Fits, fits-⊕, take-trees, drop-trees}
 use Rattle.theory.specs.Evaluation.{Set, fails-all, fails}
 use Rattle.theory.specs.Tables.{set-of}
 use Rattle.theory.specs.Values.{fails-values, root-empty, root-and, root-with, root-⊕}
-use Rattle.evaluation.specs.Reading.{place-at, with-node, tree-fails}
+use Rattle.theory.specs.Leaves.{place-at}
+use Rattle.evaluation.specs.Reading.{with-node, tree-fails}
 use Rattle.evaluation.proofs.Nodes.{values-of, values-none, values-more, with-literal, with-inner}
 
 -- A list from a place on, of which the start was kept.

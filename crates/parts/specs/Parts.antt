@@ -8,7 +8,8 @@ use lib.ListN.{length, getD, take, drop}
 use Rattle.model.specs.Limits.{sheet-length, most-literals}
 use Rattle.model.specs.Sheet.{used-in, numbers-in}
 use Rattle.theory.specs.Scan.{is-literal}
-use Rattle.evaluation.specs.Reading.{place-at, tree-fails, Spells-tree}
+use Rattle.theory.specs.Leaves.{place-at}
+use Rattle.evaluation.specs.Reading.{tree-fails, Spells-tree}
 
 -- The numbers from one place to another.
 abbrev pub stretch : ℕ → ℕ → List ℕ → List ℕ

@@ -20,7 +20,8 @@ use Rattle.theory.specs.Scan.{is-literal}
 use Rattle.theory.specs.Sheets.{Formed}
 use Rattle.theory.specs.Evaluation.{fails}
 use Rattle.theory.specs.Tables.{place-of, set-of, forced-by, place-below, Has-report, report-conflict, sheet-report, sheet-failed}
-use Rattle.evaluation.specs.Reading.{place-at, tree-fails}
+use Rattle.theory.specs.Leaves.{place-at}
+use Rattle.evaluation.specs.Reading.{tree-fails}
 use Rattle.parts.specs.Parts.{stretch, Part-fails, Parted, Occurs}
 use Rattle.parts.proofs.Trees.{same-fails}
 use Rattle.parts.proofs.Tables.{below-next}

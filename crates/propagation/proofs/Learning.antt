@@ -19,7 +19,8 @@ use Rattle.model.specs.Sheet.{nodes-in, numbers-in}
 use Rattle.theory.specs.Logic.{same-test}
 use Rattle.theory.specs.Scan.{is-literal}
 use Rattle.theory.specs.Tables.{place-of, forced-derived, fact-right}
-use Rattle.evaluation.specs.Reading.{place-at, tree-fails}
+use Rattle.theory.specs.Leaves.{place-at}
+use Rattle.evaluation.specs.Reading.{tree-fails}
 use Rattle.parts.specs.Parts.{stretch, Part, Occurs}
 use Rattle.parts.proofs.Trees.{same-fails}
 use Rattle.parts.proofs.Tables.{same-or-not}

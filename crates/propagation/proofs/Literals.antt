@@ -18,7 +18,8 @@ use Rattle.theory.specs.Scan.{is-literal}
 use Rattle.theory.specs.Evaluation.{fails-all}
 use Rattle.theory.specs.Values.{or-none, or-more}
 use Rattle.theory.specs.Sheets.{Formed}
-use Rattle.evaluation.specs.Reading.{place-at, tree-fails, Spells-tree}
+use Rattle.theory.specs.Leaves.{place-at}
+use Rattle.evaluation.specs.Reading.{tree-fails, Spells-tree}
 use Rattle.evaluation.proofs.Nodes.{values-of, values-none, values-more, with-literal, with-inner, tree-value}
 use Rattle.breaking.specs.Breaking.{opposite}
 use Rattle.parts.specs.Parts.{stretch, Part}

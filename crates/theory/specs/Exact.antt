@@ -22,24 +22,24 @@ pub refuted-others : (facts : List Literal) (l : Literal) (c : Clause) → (refu
 unfolding refuted
 refuted-others facts l c = rw (all-others (λ x. has (complement x) facts) l c) (all-but-one (λ x. has (complement x) facts) l c)
 
--- Facts are sound where each is derived, and settled where moreover no clause forces another.
+-- Facts are sound where each is derived, and saturated where moreover no clause forces another.
 abbrev pub Sound : List Clause → List Literal → Type 0
 Sound cs facts = (l : Literal) → has l facts ≡ true → Derived cs l
 
-pub record Settled (cs : List Clause) (facts : List Literal) : Type 0 where
+pub record Saturated (cs : List Clause) (facts : List Literal) : Type 0 where
   pub sound : Sound cs facts
   pub closed : (c : Clause) → List·Memᴰ c cs → (l : Literal) → List·Memᴰ l c → refuted facts (others l c) ≡ true → has l facts ≡ true
 
-module _ {cs : List Clause} {facts : List Literal} (s : Settled cs facts) where
-  -- Every derived literal is among settled facts.
+module _ {cs : List Clause} {facts : List Literal} (s : Saturated cs facts) where
+  -- Every derived literal is among saturated facts.
   complete : {l : Literal} → Derived cs l → has l facts ≡ true
   complete {l} (derived c m k h) = s .closed c m l k (refuted-others facts l c .1 (λ x k′ n. complete (h x k′ n)))
 
-  -- Settled facts are exactly the derived literals.
+  -- Saturated facts are exactly the derived literals.
   pub exact-derived : (l : Literal) → (has l facts ≡ true) ↔ Derived cs l
   exact-derived l = (s .sound l, complete)
 
-  -- A conflict with settled facts is exactly a contradiction.
+  -- A conflict with saturated facts is exactly a contradiction.
   pub exact-contradictory : (conflict facts cs ≡ true) ↔ Contradictory cs
   unfolding conflict refuted
   exact-contradictory = (λ e. there (any-at (refuted facts) cs e), λ w. any-from (refuted facts) cs (w .1) (all-from (λ x. has (complement x) facts) (w .0) (λ x m. complete (w .2 x m))))
@@ -112,8 +112,8 @@ missing-fewer facts (x ∷ ls) l f = rw (same-sym l x) (go (same x l) refl (has 
     go false e false g r = omega arith
 
 module _ (cs : List Clause) (facts : List Literal) (s : Sound cs facts) where
-  -- Where nothing is forced, sound facts are settled.
-  at-rest : forced facts cs ≡ none → Settled cs facts
+  -- Where nothing is forced, sound facts are saturated.
+  at-rest : forced facts cs ≡ none → Saturated cs facts
   at-rest e = record { sound = s; closed = λ c m l k r. go (has l facts) (refuted facts (others l c)) r (forced-none facts cs e m k) }
     where
       go : (h b : Bool) → b ≡ true → (not h && b) ≡ false → h ≡ true
@@ -131,31 +131,31 @@ module _ (cs : List Clause) (facts : List Literal) (s : Sound cs facts) where
         rw (mem-has (flatten cs) (mem-flatten cs (w .1) (w .2))) at (missing-fewer facts (flatten cs) l (not-true (has l facts) (t .0))),
       )
 
--- Rounds enough for all that is missing settle sound facts.
-settle : (n : ℕ) (cs : List Clause) (facts : List Literal) → Sound cs facts → missing facts (flatten cs) ≤ n → Settled cs (propagate n cs facts)
+-- Rounds enough for all that is missing saturate sound facts.
+saturate : (n : ℕ) (cs : List Clause) (facts : List Literal) → Sound cs facts → missing facts (flatten cs) ≤ n → Saturated cs (propagate n cs facts)
 unfolding propagate maybe
-settle zero cs facts s h = go (forced facts cs) refl
+saturate zero cs facts s h = go (forced facts cs) refl
   where
-    go : (o : Option Literal) → forced facts cs ≡ o → Settled cs facts
+    go : (o : Option Literal) → forced facts cs ≡ o → Saturated cs facts
     go none e = at-rest cs facts s e
     go (some l) e = let fewer = forced-more cs facts s l e .1 in absurd (omega arith)
-settle (suc n) cs facts s h = go (forced facts cs) refl (λ l. settle n cs (l ∷ facts))
+saturate (suc n) cs facts s h = go (forced facts cs) refl (λ l. saturate n cs (l ∷ facts))
   where
-    go : (o : Option Literal) → forced facts cs ≡ o → ((l : Literal) → Sound cs (l ∷ facts) → missing (l ∷ facts) (flatten cs) ≤ n → Settled cs (propagate n cs (l ∷ facts))) → Settled cs (maybe facts (λ l. propagate n cs (l ∷ facts)) o)
+    go : (o : Option Literal) → forced facts cs ≡ o → ((l : Literal) → Sound cs (l ∷ facts) → missing (l ∷ facts) (flatten cs) ≤ n → Saturated cs (propagate n cs (l ∷ facts))) → Saturated cs (maybe facts (λ l. propagate n cs (l ∷ facts)) o)
     go none e more = at-rest cs facts s e
     go (some l) e more = let w = forced-more cs facts s l e in let fewer = w .1 in more l (w .0) (omega arith)
 
--- Propagation arrives at settled facts.
-pub facts-settled : (cs : List Clause) → Settled cs (facts-of cs)
+-- Propagation arrives at saturated facts.
+pub facts-saturated : (cs : List Clause) → Saturated cs (facts-of cs)
 unfolding facts-of has any
-facts-settled cs = settle (length (flatten cs)) cs [] (λ l e. true-false (sym e)) (missing-few [] (flatten cs))
+facts-saturated cs = saturate (length (flatten cs)) cs [] (λ l e. true-false (sym e)) (missing-few [] (flatten cs))
 
 -- The facts that propagation computes are exactly the derived literals, and its conflict exactly a contradiction.
 pub facts-derived : (cs : List Clause) (l : Literal) → (has l (facts-of cs) ≡ true) ↔ Derived cs l
-facts-derived cs = exact-derived (facts-settled cs)
+facts-derived cs = exact-derived (facts-saturated cs)
 
 pub facts-contradictory : (cs : List Clause) → (conflict (facts-of cs) cs ≡ true) ↔ Contradictory cs
-facts-contradictory cs = exact-contradictory (facts-settled cs)
+facts-contradictory cs = exact-contradictory (facts-saturated cs)
 
 -- So both are decided.
 pub derived-or-not : (cs : List Clause) (l : Literal) → Derived cs l ⊎ (Derived cs l → ⊥)

@@ -14,7 +14,7 @@ use Rattle.model.specs.Clauses.{Clause, Derived, Contradictory}
 use Rattle.model.specs.Propagation.{Report, conflict, mark, count-from, report-by, report}
 use Rattle.theory.specs.Logic.{true-false, fails-if, same-test, pick-true}
 use Rattle.theory.specs.Lists.{count-length, count-at}
-use Rattle.theory.specs.Exact.{Settled, exact-derived, exact-contradictory, facts-settled, derived-or-not, contradictory-or-not, consistent}
+use Rattle.theory.specs.Exact.{Saturated, exact-derived, exact-contradictory, facts-saturated, derived-or-not, contradictory-or-not, consistent}
 
 -- What a report tells of the clauses: whether they are contradictory; if so, 3 for each option; if not, 1 for each option
 -- that is derived, 2 for each whose complement is, 0 for the others.
@@ -46,8 +46,8 @@ told x false false e p q n = (
   (λ h. (λ y. true-false (sym (p .1 y)), λ y. true-false (sym (q .1 y))), λ h. e),
 )
 
--- The report read off settled facts tells.
-pub report-by-tells : (n : ℕ) {cs : List Clause} {facts : List Literal} → Settled cs facts → Tells n cs (report-by n cs facts)
+-- The report read off saturated facts tells.
+pub report-by-tells : (n : ℕ) {cs : List Clause} {facts : List Literal} → Saturated cs facts → Tells n cs (report-by n cs facts)
 unfolding report-by mark complement pick
 report-by-tells n {cs} {facts} s =
     record {
@@ -78,7 +78,7 @@ report-by-tells n {cs} {facts} s =
 -- The report that contracts cite tells.
 pub report-tells : (n : ℕ) (cs : List Clause) → Tells n cs (report n cs)
 unfolding report
-report-tells n cs = report-by-tells n (facts-settled cs)
+report-tells n cs = report-by-tells n (facts-saturated cs)
 
 -- A report is settled by what it tells: with the same contradiction and, short of that, the same derived literals, two
 -- reports are one.
@@ -109,6 +109,6 @@ tells-equal n {cs} {ds} {r} {s} t u both facts = λ i. record { contradictory = 
 pub tells-same : (n : ℕ) {cs ds : List Clause} → Contradictory cs ↔ Contradictory ds → ((Contradictory cs → ⊥) → (l : Literal) → Derived cs l ↔ Derived ds l) → report n cs ≡ report n ds
 tells-same n {cs} {ds} = tells-equal n (report-tells n cs) (report-tells n ds)
 
--- Any settled facts give the report, however they were found.
-pub report-by-settled : (n : ℕ) {cs : List Clause} {facts : List Literal} → Settled cs facts → report-by n cs facts ≡ report n cs
-report-by-settled n {cs} s = tells-equal n (report-by-tells n s) (report-tells n cs) Iff·rfl (λ d l. Iff·rfl)
+-- Any saturated facts give the report, however they were found.
+pub report-by-saturated : (n : ℕ) {cs : List Clause} {facts : List Literal} → Saturated cs facts → report-by n cs facts ≡ report n cs
+report-by-saturated n {cs} s = tells-equal n (report-by-tells n s) (report-tells n cs) Iff·rfl (λ d l. Iff·rfl)

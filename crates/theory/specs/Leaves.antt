@@ -1,16 +1,31 @@
 -- The numbers of literals: told from those of groups, and equal only where the literals are.
 use mathlib.Core.Bool.{true, false}
+use mathlib.Core.Logic.{⊎-elim}
 use mathlib.Core.Path.{_≡_, sym, ap, _∙_}
-use Prim.Native.Nat.{ℕ}
+use Prim.Native.Nat.{ℕ, _+_, _-_, _*_, _≤_}
+use native.Mathlib.Omega.{arith}
 use borrow.Author.Tests.{eqb-true, eq-eqb}
 use lib.Dec.{eqb}
 use Rattle.model.specs.Literal.{Literal, pos, neg, option, same}
 use Rattle.model.specs.Forest.{Conn, and, or, root}
-use Rattle.model.specs.Code.{leaf, head, value, conn-kind, number-of, node-of}
-use Rattle.theory.specs.Logic.{true-false, fails-if, same-test}
+use Rattle.model.specs.Code.{leaf, head, kind, value, conn-kind, number-of, node-of}
+use Rattle.theory.specs.Logic.{true-false, or-split, fails-if, same-test}
 use Rattle.theory.specs.Literals.{same-is, is-same}
 use Rattle.theory.specs.Numbers.{amount, fits, kind-number, value-number, head-kind, node-number}
 use Rattle.theory.specs.Scan.{is-literal}
+
+-- A literal is of kind 1 or 2.
+pub literal-kind : (x : ℕ) → is-literal x ≡ true → (1 ≤ kind x) × (kind x ≤ 2)
+unfolding is-literal
+literal-kind x h =
+    ⊎-elim
+    (λ e. let k = eqb-true (kind x) 1 e in (omega arith, omega arith))
+    (λ e. let k = eqb-true (kind x) 2 e in (omega arith, omega arith))
+    (or-split (eqb (kind x) 1) _ h)
+
+-- The place in a table of the literal that a number of kind 1 or 2 is.
+unfoldable pub place-at : ℕ → ℕ
+place-at x = 2 * value x + kind x - 1
 
 -- What the number of a node that fits says of its kind and value.
 pub leaf-literal : (x : Literal) → fits (leaf x) ≡ true → is-literal (number-of (leaf x)) ≡ true

@@ -19,7 +19,9 @@ pub mod Values
 pub mod Families
 pub mod Rooted
 pub mod Fine
+pub mod FineKept
 pub mod Shape
+pub mod ShapeKept
 -- Steps grow fewer: the weight, the measure, the bound.
 pub mod Mass
 pub mod Measure

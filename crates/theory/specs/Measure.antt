@@ -14,7 +14,8 @@ use Rattle.model.specs.Rules.{neutral, deciding, assigned, step}
 use Rattle.theory.specs.Forests.{mentions-⊕}
 use Rattle.theory.specs.Codes.{encode-⊕, literals-append}
 use Rattle.theory.specs.Changes.{Change, absorbed, omitted, unwrapped, spreaded, lifted, merged, factored}
-use Rattle.theory.specs.Shape.{Changed, Shaped, shaped-trees, step-changed}
+use Rattle.theory.specs.Shape.{Shaped, shaped-trees}
+use Rattle.theory.specs.ShapeKept.{Changed, step-changed}
 use Rattle.theory.specs.Mass.{heft-one, mass, mass-⊕, mass-size, mass-mentioned, mass-shared}
 
 -- Nodes plus u times the literals: for 1 the weight.

@@ -10,7 +10,8 @@ use lib.ListN.{length}
 use Rattle.model.specs.Code.{Node, leaf, head, literals, weight}
 use Rattle.model.specs.Rules.{step}
 use Rattle.model.specs.Strategy.{cube}
-use Rattle.theory.specs.Shape.{Shaped, shaped-length, step-shaped}
+use Rattle.theory.specs.Shape.{Shaped, shaped-length}
+use Rattle.theory.specs.ShapeKept.{step-shaped}
 use Rattle.theory.specs.Measure.{bulk, pairs, Sooner, step-falls, step-weight}
 
 -- So many steps, of any rules at any places, one after another.

@@ -26,7 +26,7 @@ use Rattle.theory.specs.Clauses.{clauses-root, all-others, all-but-one}
 use Rattle.theory.specs.Sheets.{Formed}
 use Rattle.theory.specs.Shape.{shaped-decode}
 use Rattle.theory.specs.Exact.{Sound, refuted-others, contradictory-or-not}
-use Rattle.theory.specs.ExactReports.{report-tells, report-by-settled}
+use Rattle.theory.specs.ExactReports.{report-tells, report-by-saturated}
 use Rattle.theory.specs.Evaluation.{Set, fails, some-inside, bridge, with-one}
 
 -- The place of a literal in a table.
@@ -242,7 +242,7 @@ module _ (n : ℕ) (f : Forest) (t : List ℕ) (inside : all (all (λ l. ltb (op
   pub rest-report : Right (clauses root f) t → report-by n (clauses root f) (facts-in t) ≡ report n (clauses root f)
   rest-report right = ⊎-elim
       (λ d. conflict-report n (clauses root f) t (conflicting d) d)
-      (λ d. report-by-settled n (record { sound = right d; closed = closed }))
+      (λ d. report-by-saturated n (record { sound = right d; closed = closed }))
       (contradictory-or-not (clauses root f))
 
 -- The report of a sheet, read off a table that has it.

@@ -15,7 +15,8 @@ use Rattle.model.specs.Limits.{sheet-room, most-literals}
 use Rattle.model.specs.Code.{children}
 use Rattle.theory.specs.Logic.{either, true-false, fails-if}
 use Rattle.theory.specs.Scan.{is-literal}
-use Rattle.evaluation.specs.Reading.{place-at, with-node, tree-fails, Spells-tree}
+use Rattle.theory.specs.Leaves.{place-at}
+use Rattle.evaluation.specs.Reading.{with-node, tree-fails, Spells-tree}
 use Rattle.evaluation.proofs.Nodes.{values-of, values-none, values-more, values-length, trees-of, Node-here, node-here, tree-value}
 use Rattle.breaking.specs.Breaking.{opposite, Broken-by}
 use Rattle.breaking.specs.Stacks.{among, begin, failing, broken, bottom, tried, Blank, Stack}

@@ -12,7 +12,8 @@ use Rattle.model.specs.Forest.{or, root}
 use Rattle.model.specs.Code.{kind, children}
 use Rattle.theory.specs.Scan.{is-literal}
 use Rattle.theory.specs.Evaluation.{fails-all}
-use Rattle.evaluation.specs.Reading.{place-at, with-node}
+use Rattle.theory.specs.Leaves.{place-at}
+use Rattle.evaluation.specs.Reading.{with-node}
 use Rattle.evaluation.proofs.Nodes.{with-literal, with-inner}
 use Rattle.breaking.specs.Stacks.{broken, tried}
 use Rattle.breaking.proofs.Entries.{broken-take}

@@ -1,9 +1,9 @@
 -- `evaluation::place_of` meets its contract, by the definition; the kind is 1 or 2, so nothing wraps.
 use native.Mathlib.Omega.{arith}
 use borrow.Author.Needs.{needs}
-use Rattle.evaluation.specs.Reading.{place-at}
+use Rattle.theory.specs.Leaves.{place-at}
 use Rattle.theory.specs.Numbers.{value-small}
-use Rattle.evaluation.proofs.Nodes.{literal-kind}
+use Rattle.theory.specs.Leaves.{literal-kind}
 use Rattle.evaluation.proofs.place_of.Statement.{statement}
 use Rattle.evaluation.proofs.place_of.Tie as tie
 

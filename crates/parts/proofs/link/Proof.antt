@@ -10,7 +10,7 @@ use Rattle.model.specs.Limits.{sheet-length, most-literals}
 use Rattle.model.specs.Sheet.{used-in}
 use Rattle.theory.specs.Scan.{is-literal}
 use Rattle.theory.specs.Sheets.{Formed}
-use Rattle.evaluation.specs.Reading.{place-at}
+use Rattle.theory.specs.Leaves.{place-at}
 use Rattle.parts.proofs.Tables.{literal-place, Linking, linking-none, linking-other, linking-more, linked}
 use Rattle.parts.proofs.link.Statement.{statement}
 use Rattle.parts.proofs.link.Tie as tie

@@ -11,7 +11,7 @@ use lib.ListN.{getD}
 use Rattle.model.specs.Limits.{most-literals}
 use Rattle.model.specs.Code.{kind}
 use Rattle.theory.specs.Scan.{is-literal}
-use Rattle.evaluation.specs.Reading.{place-at}
+use Rattle.theory.specs.Leaves.{place-at}
 use Rattle.parts.proofs.Tables.{literal-place}
 use Rattle.propagation.proofs.Looking.{part-inside}
 use Rattle.propagation.proofs.Literals.{together-alone, together-below, Scanned, scanned-none, scanned-failed, scanned-first, scanned-again, scanned-two, scanned-all}
