@@ -11,7 +11,8 @@ use Rattle.model.specs.Sheet.{nodes-in, sheet-of, report-in}
 use Rattle.model.specs.Results.{appended, stepped, run-through}
 use Rattle.model.specs.Book.{options-of, codes-of, book-nodes, written, option-of-code}
 use Rattle.calls.specs.Outcomes.{Answer, answer, Outcome, outcome}
-use Rattle.calls.specs.Chains.{book-refusal, lookup-refusal, load-refusal, write-refusal, report-refusal, complete-refusal, choose-refusal, step-refusal, run-refusal}
+use Rattle.calls.specs.Chains.{book-refusal, lookup-refusal, load-refusal, write-refusal, report-refusal}
+use Rattle.calls.specs.Chains.{complete-refusal, choose-refusal, step-refusal, run-refusal}
 
 -- The book check.
 unfoldable pub checkOf : List ℕ → Answer (Unit {0})

@@ -155,17 +155,82 @@ pub starred :
       first =
           record { answer = accepted tt; lent = 2 ∷ 6 ∷ 20481 ∷ 16386 ∷ 4096 ∷ 12290 ∷ 4096 ∷ 4097 ∷ replicate 4090 0 };
       cases =
-          result (20481 ∷ 16386 ∷ 4096 ∷ 12290 ∷ 4096 ∷ 4097 ∷ []) (told (1 ∷ 0 ∷ [])) (9 ∷ 1 ∷ 7 ∷ 5 ∷ 8 ∷ []) (1 ∷ 3 ∷ 3 ∷ 1 ∷ 1 ∷ []) (20481 ∷ 4096 ∷ [])
-          ∷ result (20482 ∷ 4096 ∷ 16386 ∷ 12290 ∷ 8192 ∷ 4097 ∷ 16384 ∷ []) (contradiction 2) (5 ∷ 8 ∷ 10 ∷ 1 ∷ 7 ∷ 3 ∷ []) (2 ∷ 2 ∷ 0 ∷ 2 ∷ 2 ∷ 0 ∷ []) (20481 ∷ 16384 ∷ [])
-          ∷ result (20481 ∷ 16386 ∷ 12290 ∷ 4096 ∷ 4097 ∷ 12290 ∷ 4096 ∷ 4098 ∷ []) (told (1 ∷ 0 ∷ 0 ∷ [])) (14 ∷ 7 ∷ 7 ∷ 8 ∷ 12 ∷ 7 ∷ []) (1 ∷ 5 ∷ 6 ∷ 1 ∷ 0 ∷ 2 ∷ []) (20482 ∷ 4096 ∷ 16386 ∷ 4097 ∷ 4098 ∷ [])
-          ∷ result (20484 ∷ 8192 ∷ 16386 ∷ 4096 ∷ 8193 ∷ 16386 ∷ 4096 ∷ 8194 ∷ 16386 ∷ 4097 ∷ 4098 ∷ []) (contradiction 3) (10 ∷ 5 ∷ 5 ∷ 8 ∷ 8 ∷ 10 ∷ 5 ∷ 8 ∷ 10 ∷ 3 ∷ []) (0 ∷ 2 ∷ 4 ∷ 2 ∷ 3 ∷ 0 ∷ 4 ∷ 4 ∷ 0 ∷ 0 ∷ []) (20481 ∷ 16384 ∷ [])
-          ∷ result (20482 ∷ 16386 ∷ 4096 ∷ 4097 ∷ 16386 ∷ 8192 ∷ 4097 ∷ []) (told (0 ∷ 0 ∷ [])) [] [] (20482 ∷ 16386 ∷ 4096 ∷ 4097 ∷ 16386 ∷ 8192 ∷ 4097 ∷ [])
-          ∷ result (20481 ∷ 16386 ∷ 12290 ∷ 4096 ∷ 8192 ∷ 4097 ∷ []) (told (0 ∷ 0 ∷ [])) [] [] (20481 ∷ 16386 ∷ 12290 ∷ 4096 ∷ 8192 ∷ 4097 ∷ [])
-          ∷ result (20482 ∷ 16386 ∷ 4096 ∷ 4097 ∷ 8193 ∷ []) (told (1 ∷ 2 ∷ [])) (10 ∷ 5 ∷ 8 ∷ []) (0 ∷ 1 ∷ 1 ∷ []) (20482 ∷ 4096 ∷ 8193 ∷ [])
+          -- P or (P and Q)
+          result
+          (20481 ∷ 16386 ∷ 4096 ∷ 12290 ∷ 4096 ∷ 4097 ∷ [])
+          (told (1 ∷ 0 ∷ []))
+          (9 ∷ 1 ∷ 7 ∷ 5 ∷ 8 ∷ [])
+          (1 ∷ 3 ∷ 3 ∷ 1 ∷ 1 ∷ [])
+          (20481 ∷ 4096 ∷ [])
+          -- P; ((not P and Q) or false)
+          ∷ result
+          (20482 ∷ 4096 ∷ 16386 ∷ 12290 ∷ 8192 ∷ 4097 ∷ 16384 ∷ [])
+          (contradiction 2)
+          (5 ∷ 8 ∷ 10 ∷ 1 ∷ 7 ∷ 3 ∷ [])
+          (2 ∷ 2 ∷ 0 ∷ 2 ∷ 2 ∷ 0 ∷ [])
+          (20481 ∷ 16384 ∷ [])
+          -- (P and Q) or (P and R)
+          ∷ result
+          (20481 ∷ 16386 ∷ 12290 ∷ 4096 ∷ 4097 ∷ 12290 ∷ 4096 ∷ 4098 ∷ [])
+          (told (1 ∷ 0 ∷ 0 ∷ []))
+          (14 ∷ 7 ∷ 7 ∷ 8 ∷ 12 ∷ 7 ∷ [])
+          (1 ∷ 5 ∷ 6 ∷ 1 ∷ 0 ∷ 2 ∷ [])
+          (20482 ∷ 4096 ∷ 16386 ∷ 4097 ∷ 4098 ∷ [])
+          -- not P; P or not Q; P or not R; Q or R
+          ∷ result
+          (20484 ∷ 8192 ∷ 16386 ∷ 4096 ∷ 8193 ∷ 16386 ∷ 4096 ∷ 8194 ∷ 16386 ∷ 4097 ∷ 4098 ∷ [])
+          (contradiction 3)
+          (10 ∷ 5 ∷ 5 ∷ 8 ∷ 8 ∷ 10 ∷ 5 ∷ 8 ∷ 10 ∷ 3 ∷ [])
+          (0 ∷ 2 ∷ 4 ∷ 2 ∷ 3 ∷ 0 ∷ 4 ∷ 4 ∷ 0 ∷ 0 ∷ [])
+          (20481 ∷ 16384 ∷ [])
+          -- P or Q; not P or Q
+          ∷ result
+          (20482 ∷ 16386 ∷ 4096 ∷ 4097 ∷ 16386 ∷ 8192 ∷ 4097 ∷ [])
+          (told (0 ∷ 0 ∷ []))
+          []
+          []
+          (20482 ∷ 16386 ∷ 4096 ∷ 4097 ∷ 16386 ∷ 8192 ∷ 4097 ∷ [])
+          -- (P and not P) or Q
+          ∷ result
+          (20481 ∷ 16386 ∷ 12290 ∷ 4096 ∷ 8192 ∷ 4097 ∷ [])
+          (told (0 ∷ 0 ∷ []))
+          []
+          []
+          (20481 ∷ 16386 ∷ 12290 ∷ 4096 ∷ 8192 ∷ 4097 ∷ [])
+          -- P or Q, choice not Q
+          ∷ result
+          (20482 ∷ 16386 ∷ 4096 ∷ 4097 ∷ 8193 ∷ [])
+          (told (1 ∷ 2 ∷ []))
+          (10 ∷ 5 ∷ 8 ∷ [])
+          (0 ∷ 1 ∷ 1 ∷ [])
+          (20482 ∷ 4096 ∷ 8193 ∷ [])
+          -- only rule false; only rule true
           ∷ result (20481 ∷ 16384 ∷ []) (contradiction 0) [] [] (20481 ∷ 16384 ∷ [])
           ∷ result (20481 ∷ 12288 ∷ []) (told []) (6 ∷ []) (0 ∷ []) (20480 ∷ [])
           ∷ [];
       empty = record { answer = accepted tt; lent = 0 ∷ 1 ∷ 20480 ∷ replicate 4095 0 };
     }
-unfolding Base.pick Base.only-if Base.first-of Base.is-some Base.all Base.any Base.least Base.maybe Base.then Base.same-list Literal.complement Literal.option Literal.same Literal.has Forest.same-conn Forest._⊕_ Forest.size Forest.first Forest.after Forest.kids Forest.literal-at Forest.conjunction-at Forest.constant-at Forest.literals-only Forest.has-unit Forest.mentions Code.encode Code.push Code.decode Code.joined Code.trees Code.exactly-one Code.one-tree Code.literals Code.weight Code.kind Code.value Code.number Code.conn-kind Code.conn-value Code.children Code.number-of Code.node-of Clauses.unions Clauses.need Clauses.no-tree Clauses.one-tree-more Clauses.some-of Clauses.clauses Propagation.others Propagation.refuted Propagation.forced-in Propagation.forced Propagation.propagate Propagation.facts-of Propagation.conflict Propagation.mark Propagation.count-from Propagation.report-by Propagation.report Rules.neutral Rules.deciding Rules.assigned Rules.without-unit Rules.shares Rules.units Rules.groups-without Rules.groups Rules.absorb Rules.omit Rules.unwrap Rules.spread Rules.lift Rules.merge Rules.factor Rules.change Rules.table Rules.row-of Rules.turn Rules.rewrite Rules.step Strategy.least-j Strategy.least-i Strategy.least-place Strategy.next Strategy.contract Strategy.next-step Strategy.one-more Strategy.run Sheet.body-node Sheet.options-in Sheet.used-in Sheet.numbers-in Sheet.nodes-in Sheet.rest-in Sheet.rooted Sheet.is-sheet Sheet.sheet-of Sheet.clauses-in Sheet.with-child Sheet.chosen Book.word Book.words Book.bytes-of Book.options-of Book.rules-of Book.size-of Book.head-in-limits Book.codes-end Book.contents-end Book.length-due Book.pieces Book.codes-of Book.entries Book.contents-of Book.numbers-of Book.between Book.character Book.then-zeros Book.code-ok Book.same-code Book.codes-ok Book.in-line Book.cut Book.bodies-of Book.body-ok Book.book-nodes Outcomes.outcome Chains.part-refusal Chains.book-refusal Chains.load-refusal Calls.loadOf mathlib.Core.List.flatten starred-cases compute with-choices redexes all-computed empty-book first-book
+unfolding Base.pick Base.only-if Base.first-of Base.is-some Base.all Base.any Base.least Base.maybe Base.then Base.same-list
+    Literal.complement Literal.option Literal.same Literal.has
+    Forest.same-conn Forest._⊕_ Forest.size Forest.first Forest.after Forest.kids Forest.literal-at Forest.conjunction-at
+    Forest.constant-at Forest.literals-only Forest.has-unit Forest.mentions
+    Code.encode Code.push Code.decode Code.joined Code.trees Code.exactly-one Code.one-tree Code.literals Code.weight Code.kind
+    Code.value Code.number Code.conn-kind Code.conn-value Code.children Code.number-of Code.node-of
+    Clauses.unions Clauses.need Clauses.no-tree Clauses.one-tree-more Clauses.some-of Clauses.clauses
+    Propagation.others Propagation.refuted Propagation.forced-in Propagation.forced Propagation.propagate Propagation.facts-of
+    Propagation.conflict Propagation.mark Propagation.count-from Propagation.report-by Propagation.report
+    Rules.neutral Rules.deciding Rules.assigned Rules.without-unit Rules.shares Rules.units Rules.groups-without Rules.groups
+    Rules.absorb Rules.omit Rules.unwrap Rules.spread Rules.lift Rules.merge Rules.factor Rules.change Rules.table Rules.row-of
+    Rules.turn Rules.rewrite Rules.step
+    Strategy.least-j Strategy.least-i Strategy.least-place Strategy.next Strategy.contract Strategy.next-step Strategy.one-more
+    Strategy.run
+    Sheet.body-node Sheet.options-in Sheet.used-in Sheet.numbers-in Sheet.nodes-in Sheet.rest-in Sheet.rooted Sheet.is-sheet
+    Sheet.sheet-of Sheet.clauses-in Sheet.with-child Sheet.chosen
+    Book.word Book.words Book.bytes-of Book.options-of Book.rules-of Book.size-of Book.head-in-limits Book.codes-end Book.contents-end
+    Book.length-due Book.pieces Book.codes-of Book.entries Book.contents-of Book.numbers-of Book.between Book.character
+    Book.then-zeros Book.code-ok Book.same-code Book.codes-ok Book.in-line Book.cut Book.bodies-of Book.body-ok Book.book-nodes
+    Outcomes.outcome
+    Chains.part-refusal Chains.book-refusal Chains.load-refusal
+    Calls.loadOf
+    mathlib.Core.List.flatten starred-cases compute with-choices redexes all-computed empty-book first-book
 starred = refl

@@ -8,8 +8,11 @@ use lib.ListN.{length}
 use Rattle.model.specs.Rules.{is-rule}
 use Rattle.model.specs.Sheet.{options-in, is-sheet}
 use Rattle.model.specs.Book.{head-in-limits, written}
-use Rattle.calls.specs.Refusals.{Refusal, length-refused, head-refused, code-refused, contents-refused, body-refused, weight-refused, option-refused, full-refused, rule-refused, step-refused, sheet-refused, output-refused, due, _or-else_}
-use Rattle.calls.specs.Conditions.{lacks-head, is-length-due, has-good-codes, has-good-contents, has-good-bodies, is-light, has-option, has-code, is-full, applies, is-book-of, is-long-enough, is-shorter, is-exactly}
+use Rattle.calls.specs.Refusals.{Refusal, due, _or-else_}
+use Rattle.calls.specs.Refusals.{length-refused, head-refused, code-refused, contents-refused, body-refused, weight-refused}
+use Rattle.calls.specs.Refusals.{option-refused, full-refused, rule-refused, step-refused, sheet-refused, output-refused}
+use Rattle.calls.specs.Conditions.{lacks-head, is-length-due, has-good-codes, has-good-contents, has-good-bodies, is-light}
+use Rattle.calls.specs.Conditions.{has-option, has-code, is-full, applies, is-book-of, is-long-enough, is-shorter, is-exactly}
 
 -- What is tested of a book once its head and its length are right.
 unfoldable pub part-refusal : List ℕ → Option Refusal

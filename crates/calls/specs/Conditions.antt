@@ -9,7 +9,8 @@ use Rattle.model.specs.Code.{weight}
 use Rattle.model.specs.Rules.{step}
 use Rattle.model.specs.Limits.{usual, sheet-length, head-length, literal-weight}
 use Rattle.model.specs.Sheet.{options-in, nodes-in}
-use Rattle.model.specs.Book.{options-of, size-of, length-due, codes-of, codes-ok, contents-of, in-line, bodies-of, body-ok, book-nodes, option-of-code}
+use Rattle.model.specs.Book.{options-of, size-of, length-due, codes-of, codes-ok, contents-of, in-line, bodies-of, body-ok}
+use Rattle.model.specs.Book.{book-nodes, option-of-code}
 
 -- "1 length (fewer than 8 bytes, or not the length due)."
 abbrev pub lacks-head : List ℕ → Bool

@@ -98,4 +98,8 @@ deskOf book input =
     let chosen = all-keyed book (lines input) (loaded .lent) in
     let done = runOf (chosen .lent) desk-budget in
     let told = reportOf (done .lent) (replicate (options-of book) 0) in
-    printed (loaded .answer) (λ u. printed (chosen .answer) (λ v. printed (done .answer) (λ ran. printed (told .answer) (λ contradictory. first-line contradictory ran ++ pick contradictory [] (option-lines (codes-of book) (told .lent))))))
+    printed (loaded .answer) (λ u.
+    printed (chosen .answer) (λ v.
+    printed (done .answer) (λ ran.
+    printed (told .answer) (λ contradictory.
+    first-line contradictory ran ++ pick contradictory [] (option-lines (codes-of book) (told .lent))))))

@@ -44,8 +44,16 @@ clauses c f = some-of f (need c (size f))
 -- "Facts are the least set such that a mark of a clause is a fact when the opposite of every other mark in that clause is a
 -- fact." Document 01's fact is a derived literal here.
 pub data Derived (cs : List Clause) : Literal → Type 0 where
-  derived : {l : Literal} (c : Clause) → List·Memᴰ c cs → List·Memᴰ l c → ((x : Literal) → List·Memᴰ x c → (x ≡ l → ⊥) → Derived cs (complement x)) → Derived cs l
+  derived :
+      {l : Literal} (c : Clause) →
+      List·Memᴰ c cs →
+      List·Memᴰ l c →
+      ((x : Literal) → List·Memᴰ x c → (x ≡ l → ⊥) → Derived cs (complement x)) →
+      Derived cs l
 
 -- "The sheet is contradictory when some clause has the opposite of every mark among the facts."
 abbrev pub Contradictory : List Clause → Type 0
-Contradictory cs = (c : Clause) × List·Memᴰ c cs × ((x : Literal) → List·Memᴰ x c → Derived cs (complement x))
+Contradictory cs =
+    (c : Clause)
+    × List·Memᴰ c cs
+    × ((x : Literal) → List·Memᴰ x c → Derived cs (complement x))

@@ -8,7 +8,8 @@ use lib.Dec.{eqb, leb}
 use lib.ListN.{getElem?, take, drop}
 use Rattle.model.specs.Base.{pick, only-if, is-some, then}
 use Rattle.model.specs.Literal.{Literal, complement, option, same}
-use Rattle.model.specs.Forest.{Conn, and, or, root, Forest, nil, lit, node, constant, _⊕_, size, first, after, literal-at, conjunction-at, constant-at, literals-only, has-unit, mentions}
+use Rattle.model.specs.Forest.{Conn, and, or, root, Forest, nil, lit, node, constant, _⊕_, size, first, after}
+use Rattle.model.specs.Forest.{literal-at, conjunction-at, constant-at, literals-only, has-unit, mentions}
 use Rattle.model.specs.Code.{Node, encode, decode, conn-kind}
 
 -- The connective whose empty group adds nothing among a node's children, and the one whose empty group decides it.
