@@ -22,19 +22,32 @@ use Rattle.theory.specs.ExactReports.{report-tells}
 -- No contradiction, and every option is derived in or out.
 pub record Complete (n : ℕ) (cs : List Clause) : Type 0 where
   pub consistent : Contradictory cs → ⊥
-  pub decided : (v : ℕ) → v < n → Derived cs (pos v) ⊎ Derived cs (neg v)
+  pub decided :
+      (v : ℕ) →
+      (is-option : v < n) →
+      Derived cs (pos v) ⊎ Derived cs (neg v)
 
 -- A test of every number of a list, by their places.
-all-places : (p : ℕ → Bool) (xs : List ℕ) → (all p xs ≡ true) ↔ ((v : ℕ) → v < length xs → p (getD xs v 0) ≡ true)
+all-places :
+    (p : ℕ → Bool) (xs : List ℕ) →
+    (all p xs ≡ true) ↔ ((v : ℕ) → v < length xs → p (getD xs v 0) ≡ true)
 unfolding all
 all-places p xs = (at-place xs, from-places xs)
   where
-    at-place : (xs : List ℕ) → all p xs ≡ true → (v : ℕ) → v < length xs → p (getD xs v 0) ≡ true
+    at-place :
+        (xs : List ℕ) →
+        all p xs ≡ true →
+        (v : ℕ) →
+        v < length xs →
+        p (getD xs v 0) ≡ true
     at-place [] e v h = absurd (omega arith)
     at-place (x ∷ xs) e zero h = and-split (p x) (all p xs) e .0
     at-place (x ∷ xs) e (suc v) h = at-place xs (and-split (p x) (all p xs) e .1) v (omega arith)
 
-    from-places : (xs : List ℕ) → ((v : ℕ) → v < length xs → p (getD xs v 0) ≡ true) → all p xs ≡ true
+    from-places :
+        (xs : List ℕ) →
+        ((v : ℕ) → v < length xs → p (getD xs v 0) ≡ true) →
+        all p xs ≡ true
     from-places [] h = refl
     from-places (x ∷ xs) h = and-join (h 0 (omega arith)) (from-places xs (λ v l. h (suc v) (omega arith)))
 
@@ -42,22 +55,34 @@ all-places p xs = (at-place xs, from-places xs)
 abbrev in-or-out : ℕ → Bool
 in-or-out m = eqb m 1 || eqb m 2
 
-decides : {A B : Type 0} (m : ℕ) → (m ≡ 1) ↔ A → (m ≡ 2) ↔ B → (in-or-out m ≡ true) ↔ (A ⊎ B)
+decides :
+    {A B : Type 0} (m : ℕ) →
+    (m ≡ 1) ↔ A →
+    (m ≡ 2) ↔ B →
+    (in-or-out m ≡ true) ↔ (A ⊎ B)
 decides m a b = (
   λ e. ⊎-elim (λ q. inl (a .0 (eqb-true m 1 q))) (λ q. inr (b .0 (eqb-true m 2 q))) (or-split (eqb m 1) (eqb m 2) e),
   ⊎-elim (λ x. or-left (eqb m 2) (eq-eqb m 1 (a .1 x))) (λ y. or-right (eqb m 1) (eq-eqb m 2 (b .1 y))),
 )
 
 -- The report of clauses is complete exactly if they are.
-complete-report : (n : ℕ) (cs : List Clause) → (complete (report n cs) ≡ true) ↔ Complete n cs
+complete-report :
+    (n : ℕ) (cs : List Clause) →
+    (complete (report n cs) ≡ true) ↔ Complete n cs
 unfolding complete
 complete-report n cs = (to, from)
   where
     r : Report
     r = report n cs
 
-    mark : (Contradictory cs → ⊥) → (v : ℕ) → v < n → (in-or-out (getD (r .marks) v 0) ≡ true) ↔ (Derived cs (pos v) ⊎ Derived cs (neg v))
-    mark fine v h = let t = report-tells n cs in decides (getD (r .marks) v 0) (t .is-in fine v h) (t .is-out fine v h)
+    mark :
+        (Contradictory cs → ⊥) →
+        (v : ℕ) →
+        v < n →
+        (in-or-out (getD (r .marks) v 0) ≡ true) ↔ (Derived cs (pos v) ⊎ Derived cs (neg v))
+    mark fine v h =
+        let t = report-tells n cs in
+        decides (getD (r .marks) v 0) (t .is-in fine v h) (t .is-out fine v h)
 
     to : (not (r .contradictory) && all in-or-out (r .marks)) ≡ true → Complete n cs
     to e =
@@ -77,20 +102,30 @@ complete-report n cs = (to, from)
         (ap not quiet)
         (all-places in-or-out (r .marks) .1 (λ v h. let l = rw (t .width) at h in mark (w .consistent) v l .1 (w .decided v l)))
 
-complete-sheet : (sheet : List ℕ) → (complete (report-in sheet) ≡ true) ↔ Complete (options-in sheet) (clauses-in sheet)
+complete-sheet :
+    (sheet : List ℕ) →
+    (complete (report-in sheet) ≡ true) ↔ Complete (options-in sheet) (clauses-in sheet)
 unfolding report-in
 complete-sheet sheet = complete-report (options-in sheet) (clauses-in sheet)
 
-complete-given : (sheet : List ℕ) → is-sheet sheet ≡ true → completeOf sheet ≡ accepted (complete (report-in sheet))
+complete-given :
+    (sheet : List ℕ) →
+    is-sheet sheet ≡ true →
+    completeOf sheet ≡ accepted (complete (report-in sheet))
 unfolding completeOf complete-refusal answer only-if
 complete-given sheet h = rw h
 
 -- On a sheet the question is answered true exactly if the sheet's clauses are complete, and false exactly if they are not.
 pub record Answers (sheet : List ℕ) : Type 0 where
-  pub says-complete : (completeOf sheet ≡ accepted true) ↔ Complete (options-in sheet) (clauses-in sheet)
-  pub says-incomplete : (completeOf sheet ≡ accepted false) ↔ (Complete (options-in sheet) (clauses-in sheet) → ⊥)
+  pub says-complete :
+      (completeOf sheet ≡ accepted true) ↔ Complete (options-in sheet) (clauses-in sheet)
+  pub says-incomplete :
+      (completeOf sheet ≡ accepted false) ↔ (Complete (options-in sheet) (clauses-in sheet) → ⊥)
 
-pub complete-exact : (sheet : List ℕ) → is-sheet sheet ≡ true → Answers sheet
+pub complete-exact :
+    (sheet : List ℕ) →
+    (is-one : is-sheet sheet ≡ true) →
+    Answers sheet
 complete-exact sheet h =
     record {
       says-complete = rw given ((λ e. w .0 (cc)), λ c. ap accepted (w .1 c));

@@ -34,9 +34,12 @@ pub record Printed (book sheet written : List ℕ) : Type 0 where
   pub ran : Ran
   pub told : Report
   pub run-says : runOf sheet desk-budget .answer ≡ accepted ran
-  pub report-says : reportOf (runOf sheet desk-budget .lent) (replicate (options-of book) 0) ≡ reported told
+  pub report-says :
+      reportOf (runOf sheet desk-budget .lent) (replicate (options-of book) 0) ≡ reported told
   pub prints :
-      written ≡ first-line (told .contradictory) ran ++ pick (told .contradictory) [] (option-lines (codes-of book) (told .marks))
+      written
+      ≡ first-line (told .contradictory) ran
+      ++ pick (told .contradictory) [] (option-lines (codes-of book) (told .marks))
 
 -- A sheet just loaded, as the first call of a list is lent it.
 abbrev fresh : Outcome (List ℕ) (Unit {0}) → State
@@ -49,17 +52,20 @@ module _ (book input : List ℕ) where
   load = loadOf book (replicate sheet-length 0)
 
   pub record Desk-writes : Type 0 where
-    pub book-refused : (r : Refusal) → load .answer ≡ refused r → deskOf book input ≡ refusal-line r
+    pub book-refused :
+        (r : Refusal) →
+        (load-refused : load .answer ≡ refused r) →
+        deskOf book input ≡ refusal-line r
     pub line-refused :
         (before rest : List (List ℕ)) (one : List ℕ) (r : Refusal) →
-        lines input ≡ before ++ (one ∷ rest) →
-        load .answer ≡ accepted tt →
-        all-keyed book before (load .lent) .answer ≡ accepted tt →
-        keyed book one (all-keyed book before (load .lent) .lent) .answer ≡ refused r →
+        (lines-are : lines input ≡ before ++ (one ∷ rest)) →
+        (load-accepted : load .answer ≡ accepted tt) →
+        (earlier-accepted : all-keyed book before (load .lent) .answer ≡ accepted tt) →
+        (one-refused : keyed book one (all-keyed book before (load .lent) .lent) .answer ≡ refused r) →
         deskOf book input ≡ refusal-line r
     pub all-accepted :
-        load .answer ≡ accepted tt →
-        all-keyed book (lines input) (load .lent) .answer ≡ accepted tt →
+        (load-accepted : load .answer ≡ accepted tt) →
+        (lines-accepted : all-keyed book (lines input) (load .lent) .answer ≡ accepted tt) →
         Printed book (all-keyed book (lines input) (load .lent) .lent) (deskOf book input)
 
   -- A book that is loaded is accepted.
@@ -70,24 +76,33 @@ module _ (book input : List ℕ) where
       check-none book .1 (none-due _ sheet-refused _ none .1)
 
   -- Lines that are all accepted leave what a list of calls leaves, so demand 3 speaks of the sheet, and of what a run makes of it.
-  module _ (good : load .answer ≡ accepted tt) (cs : List Call) (s : List ℕ) (e : s ≡ after-calls cs (fresh load) .sheet) where
-    abbrev means : (calls : List Call) → Means (account-calls calls (fresh load) (loaded book)) (after-calls calls (fresh load) .sheet)
-    means calls =
-        demand-3 book (replicate sheet-length 0) (loaded-book good) (length-replicate {A = ℕ} sheet-length 0) calls .means
+  module _
+      (good : load .answer ≡ accepted tt)
+      (cs : List Call)
+      (s : List ℕ)
+      (e : s ≡ after-calls cs (fresh load) .sheet)
+    where
+      abbrev means :
+          (calls : List Call) →
+          Means (account-calls calls (fresh load) (loaded book)) (after-calls calls (fresh load) .sheet)
+      means calls =
+          demand-3 book (replicate sheet-length 0) (loaded-book good) (length-replicate {A = ℕ} sheet-length 0) calls .means
 
-    keyed-sheet : is-sheet s ≡ true
-    keyed-sheet = rw e (means cs .is-a-sheet)
+      keyed-sheet : is-sheet s ≡ true
+      keyed-sheet = rw e (means cs .is-a-sheet)
 
-    report-told : (told : Report) × (reportOf (runOf s desk-budget .lent) (replicate (options-of book) 0) ≡ reported told)
-    unfolding after-calls after-call
-    report-told =
-        let calls = cs ++ (run desk-budget ∷ []) in
-        let after = after-append cs (run desk-budget ∷ []) (fresh load) in
-        let left : after-calls calls (fresh load) .sheet ≡ runOf s desk-budget .lent = rw (after, e) in
-        let room : List ℕ = replicate (options-of book) 0 in
-        let same = kept-book calls (fresh load) (loaded book) in
-        let wide = length-replicate {A = ℕ} (options-of book) 0 ∙ ap options-of (sym same) in
-        (report _ _, rw left at (means calls .report-is room wide))
+      report-told :
+          (told : Report)
+          × (reportOf (runOf s desk-budget .lent) (replicate (options-of book) 0) ≡ reported told)
+      unfolding after-calls after-call
+      report-told =
+          let calls = cs ++ (run desk-budget ∷ []) in
+          let after = after-append cs (run desk-budget ∷ []) (fresh load) in
+          let left : after-calls calls (fresh load) .sheet ≡ runOf s desk-budget .lent = rw (after, e) in
+          let room : List ℕ = replicate (options-of book) 0 in
+          let same = kept-book calls (fresh load) (loaded book) in
+          let wide = length-replicate {A = ℕ} (options-of book) 0 ∙ ap options-of (sym same) in
+          (report _ _, rw left at (means calls .report-is room wide))
 
   pub desk-writes : Desk-writes
   unfolding deskOf printed all-keyed go-on

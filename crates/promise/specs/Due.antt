@@ -39,31 +39,50 @@ pub record First-due : Type 0 where
   pub check : (book : List ℕ) → By-chain (checkOf book) (of-book book)
   pub lookup :
       (book code : List ℕ) →
-      By-chain (lookupOf book code) (of-book book ++ (option-refused on not (has-code book code) ∷ []))
+      By-chain
+      (lookupOf book code)
+      (of-book book
+      ++ (option-refused on not (has-code book code)
+      ∷ []))
   pub load :
       (book target : List ℕ) →
-      By-chain (loadOf book target .answer) (sheet-refused on not (is-long-enough target) ∷ of-book book)
+      By-chain
+      (loadOf book target .answer)
+      (sheet-refused on not (is-long-enough target)
+      ∷ of-book book)
   pub write :
       (s book out : List ℕ) →
       By-chain
       (writeOf s book out .answer)
       (of-sheet s
       ∷ (of-book book
-      ++ (sheet-refused on not (is-book-of s book) ∷ output-refused on is-shorter out (length (written s book)) ∷ [])))
+      ++ (sheet-refused on not (is-book-of s book)
+      ∷ output-refused on is-shorter out (length (written s book))
+      ∷ [])))
   pub report :
       (s out : List ℕ) →
-      By-chain (reportOf s out .answer) (of-sheet s ∷ output-refused on not (is-exactly out (options-in s)) ∷ [])
+      By-chain
+      (reportOf s out .answer)
+      (of-sheet s
+      ∷ output-refused on not (is-exactly out (options-in s))
+      ∷ [])
   pub complete : (s : List ℕ) → By-chain (completeOf s) (of-sheet s ∷ [])
   pub choose :
       (s : List ℕ) (v : ℕ) (negative : Bool) →
       By-chain
       (chooseOf s v negative .answer)
-      (of-sheet s ∷ option-refused on not (has-option s v) ∷ full-refused on is-full s ∷ [])
+      (of-sheet s
+      ∷ option-refused on not (has-option s v)
+      ∷ full-refused on is-full s
+      ∷ [])
   pub step :
       (s : List ℕ) (r p i j : ℕ) →
       By-chain
       (stepOf s r p i j .answer)
-      (of-sheet s ∷ rule-refused on not (is-rule r) ∷ step-refused on not (applies s r p i j) ∷ [])
+      (of-sheet s
+      ∷ rule-refused on not (is-rule r)
+      ∷ step-refused on not (applies s r p i j)
+      ∷ [])
   pub run : (s : List ℕ) (budget : ℕ) → By-chain (runOf s budget .answer) (of-sheet s ∷ [])
 
 -- A book's refusals are those of its chain.

@@ -35,10 +35,12 @@ pub record Means (account : Account) (sheet : List ℕ) : Type 0 where
   pub is-a-sheet : is-sheet sheet ≡ true
   pub options : options-in sheet ≡ options-of (account .book)
   pub report-is :
-      (out : List ℕ) → length out ≡ options-of (account .book) →
+      (out : List ℕ) →
+      (out-is-n-long : length out ≡ options-of (account .book)) →
       reportOf sheet out ≡ reported (report (options-of (account .book)) (meaning account))
   pub report-says :
-      (out : List ℕ) → length out ≡ options-of (account .book) →
+      (out : List ℕ) →
+      (out-is-n-long : length out ≡ options-of (account .book)) →
       Reported (options-of (account .book)) (meaning account) (reportOf sheet out)
 
 -- "No rule applies to the sheet; it holds the lone contradiction exactly when those rules and choices are contradictory, and
@@ -47,27 +49,33 @@ pub record Normal (account : Account) (sheet : List ℕ) : Type 0 where
   pub no-rule : NoRule (nodes-in sheet)
   pub falsum : Falsum sheet ↔ Contradictory (meaning account)
   pub units :
-      (Contradictory (meaning account) → ⊥) →
-      (l : Literal) → (is-unit l sheet ≡ true) ↔ Derived (meaning account) l
+      (consistent : Contradictory (meaning account) → ⊥) →
+      (l : Literal) →
+      (is-unit l sheet ≡ true) ↔ Derived (meaning account) l
 
 -- "No stretch of the list without an accepted choice does more steps than the cube of n + 2l, for n nodes and l option marks at its
 -- start." Every way to cut the list into what is before, the stretch and the rest.
 abbrev pub Bounded : List Call → State → Type 0
 Bounded calls start =
-    (before stretch rest : List Call) → calls ≡ before ++ (stretch ++ rest) →
-    is-stretch stretch (after-calls before start) ≡ true →
+    (before stretch rest : List Call) →
+    (calls-are : calls ≡ before ++ (stretch ++ rest)) →
+    (without-choice : is-stretch stretch (after-calls before start) ≡ true) →
     steps-of stretch (after-calls before start) ≤ most-steps (nodes-in (after-calls before start .sheet))
 
 -- A list of calls on a state that begins with a freshly loaded book.
 pub record Demand-3 (book : List ℕ) (start : State) (calls : List Call) : Type 0 where
   pub means : Means (account-calls calls start (loaded book)) (after-calls calls start .sheet)
   pub settled :
-      ends-settled calls start ≡ true →
+      (said-settled : ends-settled calls start ≡ true) →
       Normal (account-calls calls start (loaded book)) (after-calls calls start .sheet)
   pub bounded : Bounded calls start
 
 -- The theorem from any state whose sheet keeps a book's rules.
-from-rules : (book : List ℕ) (start : State) → Keeps (loaded book) (start .sheet) → (calls : List Call) → Demand-3 book start calls
+from-rules :
+    (book : List ℕ) (start : State) →
+    Keeps (loaded book) (start .sheet) →
+    (calls : List Call) →
+    Demand-3 book start calls
 from-rules book start h calls =
     record {
       means =
@@ -104,14 +112,18 @@ from-rules book start h calls =
     k = calls-effect calls start (loaded book) h .keeps
 
     given :
-        (out : List ℕ) → length out ≡ options-of (account .book) →
+        (out : List ℕ) →
+        length out ≡ options-of (account .book) →
         reportOf left out ≡ reported (report (options-of (account .book)) (meaning account))
     given out long =
         report-given left out (k .sheet) (long ∙ sym (k .options))
         ∙ ap reported (rw (k .options) (same-report (k .models) (options-of (account .book))))
 
 -- What a book loads keeps its rules.
-loaded-keeps : (book : List ℕ) → Accepted book → Keeps (loaded book) (sheet-of (options-of book) (book-nodes book))
+loaded-keeps :
+    (book : List ℕ) →
+    Accepted book →
+    Keeps (loaded book) (sheet-of (options-of book) (book-nodes book))
 unfolding meaning choice-clauses
 loaded-keeps book good =
     record {
@@ -124,11 +136,11 @@ loaded-keeps book good =
 -- one before left": every accepted book, every target that a load fills, every list of calls with any arguments.
 pub demand-3 :
     (book target : List ℕ) →
-    checkOf book ≡ accepted tt →
-    length target ≡ sheet-length →
+    (book-accepted : checkOf book ≡ accepted tt) →
+    (target-long-enough : length target ≡ sheet-length) →
     (calls : List Call) →
     Demand-3 book (record { sheet = loadOf book target .lent }) calls
 demand-3 book target ok long calls =
     let fine = check-none book .0 ok in
-    rw (load-accepted book target fine long)
-    (from-rules book (record { sheet = sheet-of (options-of book) (book-nodes book) }) (loaded-keeps book (accepted-book book fine)) calls)
+    let filled : State = record { sheet = sheet-of (options-of book) (book-nodes book) } in
+    rw (load-accepted book target fine long) (from-rules book filled (loaded-keeps book (accepted-book book fine)) calls)

@@ -26,14 +26,15 @@ module _ (book other target target′ : List ℕ) (calls calls′ : List Call) w
   start′ = record { sheet = loadOf other target′ .lent }
 
   pub order-does-not-matter :
-      checkOf book ≡ accepted tt →
-      checkOf other ≡ accepted tt →
-      length target ≡ sheet-length →
-      length target′ ≡ sheet-length →
-      options-of book ≡ options-of other →
-      List·Permᴰ (bodies-of book) (bodies-of other) →
-      account-calls calls start (loaded book) .choices ≡ account-calls calls′ start′ (loaded other) .choices →
-      (out : List ℕ) → length out ≡ options-of book →
+      (book-accepted : checkOf book ≡ accepted tt) →
+      (other-accepted : checkOf other ≡ accepted tt) →
+      (target-long-enough : length target ≡ sheet-length) →
+      (target′-long-enough : length target′ ≡ sheet-length) →
+      (same-n : options-of book ≡ options-of other) →
+      (same-bodies : List·Permᴰ (bodies-of book) (bodies-of other)) →
+      (same-choices : account-calls calls start (loaded book) .choices ≡ account-calls calls′ start′ (loaded other) .choices) →
+      (out : List ℕ) →
+      (out-is-n-long : length out ≡ options-of book) →
       reportOf (after-calls calls start .sheet) out ≡ reportOf (after-calls calls′ start′ .sheet) out
   unfolding meaning clauses-of-book
   order-does-not-matter ok ok′ long long′ n p same out wide =

@@ -34,9 +34,14 @@ numbered output-refused = omega arith
 
 -- An outcome whose answer is a refusal has left what was lent as it was.
 abbrev pub Keeps : {L A : Type 0} → Outcome L A → L → Type 0
-Keeps o kept = (r : Refusal) → o .answer ≡ refused r → o .lent ≡ kept
+Keeps o kept =
+    (r : Refusal) →
+    (is-refused : o .answer ≡ refused r) →
+    o .lent ≡ kept
 
-outcome-keeps : {L A : Type 0} (due : Option Refusal) (a : A) (kept filled : L) → Keeps (outcome due a kept filled) kept
+outcome-keeps :
+    {L A : Type 0} (due : Option Refusal) (a : A) (kept filled : L) →
+    Keeps (outcome due a kept filled) kept
 unfolding outcome
 outcome-keeps none a kept filled r e = let z : _≡_ {A = ℕ} 0 1 = cc in absurd (omega arith)
 outcome-keeps (some x) a kept filled r e = refl
@@ -67,7 +72,10 @@ pub check-none : (book : List ℕ) → (checkOf book ≡ accepted tt) ↔ (book-
 unfolding checkOf answer
 check-none book = (go (book-refusal book), λ e. rw e)
   where
-    go : (o : Option Refusal) → answer {A = Unit {0}} o tt ≡ accepted tt → o ≡ none
+    go :
+        (o : Option Refusal) →
+        answer {A = Unit {0}} o tt ≡ accepted tt →
+        o ≡ none
     go none e = refl
     go (some r) e = let z : _≡_ {A = ℕ} 0 1 = cc in absurd (omega arith)
 

@@ -28,11 +28,25 @@ pub record Reported (n : ℕ) (cs : List Clause) (o : Outcome (List ℕ) Bool) :
   pub says-contradiction : (o .answer ≡ accepted true) ↔ Contradictory cs
   -- "A report writes N bytes: all 3 when contradictory,"
   pub bytes : length (o .lent) ≡ n
-  pub all-three : Contradictory cs → o .lent ≡ replicate n 3
+  pub all-three :
+      (contradictory : Contradictory cs) →
+      o .lent ≡ replicate n 3
   -- "1 in, 2 out, 0 open."
-  pub is-in : (Contradictory cs → ⊥) → (v : ℕ) → v < n → (getD (o .lent) v 0 ≡ 1) ↔ Derived cs (pos v)
-  pub is-out : (Contradictory cs → ⊥) → (v : ℕ) → v < n → (getD (o .lent) v 0 ≡ 2) ↔ Derived cs (neg v)
-  pub is-open : (Contradictory cs → ⊥) → (v : ℕ) → v < n → (getD (o .lent) v 0 ≡ 0) ↔ ((Derived cs (pos v) → ⊥) × (Derived cs (neg v) → ⊥))
+  pub is-in :
+      (consistent : Contradictory cs → ⊥) →
+      (v : ℕ) →
+      (is-option : v < n) →
+      (getD (o .lent) v 0 ≡ 1) ↔ Derived cs (pos v)
+  pub is-out :
+      (consistent : Contradictory cs → ⊥) →
+      (v : ℕ) →
+      (is-option : v < n) →
+      (getD (o .lent) v 0 ≡ 2) ↔ Derived cs (neg v)
+  pub is-open :
+      (consistent : Contradictory cs → ⊥) →
+      (v : ℕ) →
+      (is-option : v < n) →
+      (getD (o .lent) v 0 ≡ 0) ↔ ((Derived cs (pos v) → ⊥) × (Derived cs (neg v) → ⊥))
 
 -- The literal propagation on the clauses says exactly what they mean.
 pub propagation-exact : (n : ℕ) (cs : List Clause) → Reported n cs (reported (report n cs))
@@ -55,8 +69,8 @@ propagation-exact n cs =
 -- A report on a sheet, into an output of its N bytes, gives what propagation on the multiplied-out rules gives.
 pub report-given :
     (sheet out : List ℕ) →
-    is-sheet sheet ≡ true →
-    length out ≡ options-in sheet →
+    (sheet-is-one : is-sheet sheet ≡ true) →
+    (out-is-n-long : length out ≡ options-in sheet) →
     reportOf sheet out ≡ reported (report (options-in sheet) (clauses-in sheet))
 unfolding reportOf report-refusal report-in outcome only-if first-of
 report-given sheet out h e = rw (h, eq-eqb (length out) (options-in sheet) e)
@@ -64,8 +78,8 @@ report-given sheet out h e = rw (h, eq-eqb (length out) (options-in sheet) e)
 -- So it says exactly what the sheet's rules mean.
 pub report-exact :
     (sheet out : List ℕ) →
-    is-sheet sheet ≡ true →
-    length out ≡ options-in sheet →
+    (sheet-is-one : is-sheet sheet ≡ true) →
+    (out-is-n-long : length out ≡ options-in sheet) →
     Reported (options-in sheet) (clauses-in sheet) (reportOf sheet out)
 report-exact sheet out h e =
     rw (report-given sheet out h e) (propagation-exact (options-in sheet) (clauses-in sheet))

@@ -20,11 +20,12 @@ use Rattle.promise.specs.Refusals.{check-none}
 -- of bytes holds numbers below 256.)
 pub load-then-write :
     (book target out : List ℕ) →
-    checkOf book ≡ accepted tt →
-    ((i : ℕ) → getD book i 0 < 256) →
-    length target ≡ sheet-length →
-    length book ≤ length out →
-    writeOf (loadOf book target .lent) book out ≡ record { answer = accepted (length book); lent = placed book out }
+    (book-accepted : checkOf book ≡ accepted tt) →
+    (book-is-bytes : (i : ℕ) → getD book i 0 < 256) →
+    (target-long-enough : length target ≡ sheet-length) →
+    (out-has-room : length book ≤ length out) →
+    writeOf (loadOf book target .lent) book out
+    ≡ record { answer = accepted (length book); lent = placed book out }
 load-then-write book target out ok bytes = round.load-then-write book target out (check-none book .0 ok) bytes
 
 -- "A sheet written and loaded is the same sheet": for every sheet and every accepted book of its N.
@@ -36,11 +37,11 @@ pub record Written-and-loaded (sheet book target out : List ℕ) : Type 0 where
 
 pub write-then-load :
     (sheet book target out : List ℕ) →
-    is-sheet sheet ≡ true →
-    checkOf book ≡ accepted tt →
-    options-of book ≡ options-in sheet →
-    length (written sheet book) ≤ length out →
-    length target ≡ sheet-length →
+    (sheet-is-one : is-sheet sheet ≡ true) →
+    (book-accepted : checkOf book ≡ accepted tt) →
+    (book-of-its-n : options-of book ≡ options-in sheet) →
+    (out-has-room : length (written sheet book) ≤ length out) →
+    (target-long-enough : length target ≡ sheet-length) →
     Written-and-loaded sheet book target out
 write-then-load sheet book target out h ok same room long =
     let fine = check-none book .0 ok in

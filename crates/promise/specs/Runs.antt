@@ -39,29 +39,33 @@ module _ (book target : List ℕ) where
   start = record { sheet = loadOf book target .lent }
 
   -- The sheet after some calls, and the count of a run there, by demand 3.
-  module _ (ok : checkOf book ≡ accepted tt) (long : length target ≡ sheet-length) (before : List Call) where
-    abbrev here : List ℕ
-    here = after-calls before start .sheet
+  module _
+      (ok : checkOf book ≡ accepted tt)
+      (long : length target ≡ sheet-length)
+      (before : List Call)
+    where
+      abbrev here : List ℕ
+      here = after-calls before start .sheet
 
-    here-sheet : is-sheet here ≡ true
-    here-sheet = demand-3 book target ok long before .means .is-a-sheet
+      here-sheet : is-sheet here ≡ true
+      here-sheet = demand-3 book target ok long before .means .is-a-sheet
 
-    counted :
-        (calls rest : List Call) (budget : ℕ) →
-        calls ≡ before ++ (run budget ∷ rest) →
-        strategy.run budget (nodes-in here) .count ≤ most-steps (nodes-in here)
-    unfolding is-stretch chooses steps-of steps-of-call if-accepted
-    counted calls rest budget parts =
-        let bound = demand-3 book target ok long calls .bounded before (run budget ∷ []) rest parts refl in
-        omega (arith, rw (run-outcome here budget here-sheet) at bound)
+      counted :
+          (calls rest : List Call) (budget : ℕ) →
+          calls ≡ before ++ (run budget ∷ rest) →
+          strategy.run budget (nodes-in here) .count ≤ most-steps (nodes-in here)
+      unfolding is-stretch chooses steps-of steps-of-call if-accepted
+      counted calls rest budget parts =
+          let bound = demand-3 book target ok long calls .bounded before (run budget ∷ []) rest parts refl in
+          omega (arith, rw (run-outcome here budget here-sheet) at bound)
 
   -- "Whatever the budgets, no stretch of the list without an accepted choice does more steps than the cube of n + 2l": a run in the
   -- midst of any list is a stretch.
   pub run-counts :
-      checkOf book ≡ accepted tt →
-      length target ≡ sheet-length →
+      (book-accepted : checkOf book ≡ accepted tt) →
+      (target-long-enough : length target ≡ sheet-length) →
       (calls before rest : List Call) (budget : ℕ) →
-      calls ≡ before ++ (run budget ∷ rest) →
+      (calls-are : calls ≡ before ++ (run budget ∷ rest)) →
       Counts (after-calls before start .sheet) budget
   run-counts ok long calls before rest budget parts =
       let said = run-outcome (here ok long before) budget (here-sheet ok long before) in
@@ -70,10 +74,10 @@ module _ (book target : List ℕ) where
   -- "Where the list ends in a run that says settled, no rule applies to the sheet": with a budget of at least that cube it does say
   -- settled.
   pub run-settles :
-      checkOf book ≡ accepted tt →
-      length target ≡ sheet-length →
+      (book-accepted : checkOf book ≡ accepted tt) →
+      (target-long-enough : length target ≡ sheet-length) →
       (before : List Call) (budget : ℕ) →
-      most-steps (nodes-in (after-calls before start .sheet)) ≤ budget →
+      (budget-enough : most-steps (nodes-in (after-calls before start .sheet)) ≤ budget) →
       Settles book start before budget
   unfolding says-settled if-accepted
   run-settles ok long before budget enough =
