@@ -23,21 +23,9 @@ limits c =
 returns : tie.Need-returns
 returns c = refused-by _ _ (too-short _ (lt-ltb _ 8 (c .if1 .taken)))
 
-is-head-requires : tie.Need-is-head-requires
-is-head-requires c κs = search needs
-
 returns-2 : tie.Need-returns-2
 returns-2 c =
     refused-by _ _ (bad-head _ (le-ltb _ 8 (c .before .before .if1 .left)) (sym (c .before .is-head .ensures) ∙ not-true (c .before .is-head .result) (c .if2 .taken)))
-
-word-at-requires : tie.Need-word-at-requires
-word-at-requires c κs = search needs
-
-word-at-requires-2 : tie.Need-word-at-requires-2
-word-at-requires-2 c κs = search needs
-
-word-at-requires-3 : tie.Need-word-at-requires-3
-word-at-requires-3 c κs = search needs
 
 mul-if3 : tie.Need-mul-if3
 mul-if3 c = let l = limits c in omega arith
@@ -86,11 +74,11 @@ check-spec =
     tie.close
     (tie.spec
     returns
-    is-head-requires
+    (λ c κs. search needs)
     returns-2
-    word-at-requires
-    word-at-requires-2
-    word-at-requires-3
+    (λ c κs. search needs)
+    (λ c κs. search needs)
+    (λ c κs. search needs)
     mul-if3
     add-if3
     mul-if3-2

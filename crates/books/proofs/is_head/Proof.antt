@@ -25,28 +25,16 @@ module _ (b : List ℕ) (n m t : ℕ) (pn : n ≡ word b 0) (pm : m ≡ word b 2
   within : n ≤ most-options → m ≤ most-rules → t ≤ most-nodes → eqb (word b 6) 0 ≡ head-in-limits b
   within hn hm ht = sym (head-tests b n m t pn pm pt ∙ rw (le-leb n most-options hn, le-leb m most-rules hm, le-leb t most-nodes ht))
 
-word-at-requires : tie.Need-word-at-requires
-word-at-requires c κs = search needs
-
 returns : tie.Need-returns
 returns c = options-over _ _ _ _ (c .before .word-at .ensures) refl refl (c .if1 .taken)
 
-word-at-requires-2 : tie.Need-word-at-requires-2
-word-at-requires-2 c κs = search needs
-
 returns-2 : tie.Need-returns-2
 returns-2 c = rules-over _ _ _ _ (c .before .before .before .word-at .ensures) (c .before .word-at2 .ensures) refl (c .before .before .if1 .left) (c .if2 .taken)
-
-word-at-requires-3 : tie.Need-word-at-requires-3
-word-at-requires-3 c κs = search needs
 
 returns-3 : tie.Need-returns-3
 returns-3 c =
     let d = c .before .before .before .before in
     nodes-over _ _ _ _ (d .before .word-at .ensures) (c .before .before .before .word-at2 .ensures) (c .before .word-at3 .ensures) (d .if1 .left) (c .before .before .if2 .left) (c .if3 .taken)
-
-word-at-requires-4 : tie.Need-word-at-requires-4
-word-at-requires-4 c κs = search needs
 
 returns-4 : tie.Need-returns-4
 returns-4 c =
@@ -58,11 +46,11 @@ pub is-head-spec : {M : Type 1} → statement M
 is-head-spec =
     tie.close
     (tie.spec
-    word-at-requires
+    (λ c κs. search needs)
     returns
-    word-at-requires-2
+    (λ c κs. search needs)
     returns-2
-    word-at-requires-3
+    (λ c κs. search needs)
     returns-3
-    word-at-requires-4
+    (λ c κs. search needs)
     returns-4)

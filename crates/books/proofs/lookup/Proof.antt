@@ -11,12 +11,6 @@ use Rattle.books.proofs.Laws.{good-book, codes-room, lookup-refused, lo
 use Rattle.books.proofs.lookup.Statement.{statement}
 use Rattle.books.proofs.lookup.Tie as tie
 
-check-requires : tie.Need-check-requires
-check-requires c κs = search needs
-
-enum-known-checked : tie.Need-enum-known-checked
-enum-known-checked c = search needs
-
 returns : tie.Need-returns
 returns c = lookup-refused _ _ _ _ (c .before .before .before .check .ensures) (c .before .checked .given .1)
 
@@ -35,25 +29,16 @@ sub-find c = omega (arith, codes-room _ _ (good (c .before)) refl)
 part-find-start : tie.Need-part-find-start
 part-find-start c = omega (arith, codes-room _ _ (good (c .before)) refl)
 
-part-find-end : tie.Need-part-find-end
-part-find-end c = search needs
-
 find-requires : tie.Need-find-requires
 find-requires c κs =
     let b = c .before .before .before .before .before .before .before .args .book .now in
     rw (part-to-end b 8, length-drop 8 b) (omega (arith, codes-room b _ (good (c .before .before)) (c .before .word-at .ensures)))
-
-enum-known-place : tie.Need-enum-known-place
-enum-known-place c = search needs
 
 returns-2 : tie.Need-returns-2
 returns-2 c =
     let f = c .before .before .before in
     let w = f .before .before in
     lookup-found _ _ (good (w .before)) _ (found-code _ _ _ (w .word-at .ensures) (ap placeOf (sym (c .before .place .given .1)) ∙ f .find .ensures))
-
-enum-told-2 : tie.Need-enum-told-2
-enum-told-2 c = search needs
 
 returns-3 : tie.Need-returns-3
 returns-3 c =
@@ -65,16 +50,16 @@ pub lookup-spec : {M : Type 1} → statement M
 lookup-spec =
     tie.close
     (tie.spec
-    check-requires
-    enum-known-checked
+    (λ c κs. search needs)
+    (λ c. search needs)
     returns
     enum-told
     word-at-requires
     sub-find
     part-find-start
-    part-find-end
+    (λ c. search needs)
     find-requires
-    enum-known-place
+    (λ c. search needs)
     returns-2
-    enum-told-2
+    (λ c. search needs)
     returns-3)

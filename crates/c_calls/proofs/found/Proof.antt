@@ -7,15 +7,6 @@ use Rattle.c_calls.specs.Packed.{packedValue}
 use Rattle.c_calls.proofs.found.Statement.{statement}
 use Rattle.c_calls.proofs.found.Tie as tie
 
-enum-known-answer : tie.Need-enum-known-answer
-enum-known-answer c = search needs
-
-refused-requires : tie.Need-refused-requires
-refused-requires c κs = search needs
-
-enum-known-answer-2 : tie.Need-enum-known-answer-2
-enum-known-answer-2 c = search needs
-
 mul-result : tie.Need-mul-result
 mul-result c = omega (arith, c .before .before .before .pre _ (ap foundOf (sym (c .before .answer2 .given .1))))
 
@@ -28,4 +19,4 @@ returns-2 c = ap (λ a. packedValue (foundOf a)) (sym (c .before .answer2 .given
 pub found-spec : {M : Type 1} → statement M
 found-spec =
     tie.close
-    (tie.spec enum-known-answer refused-requires enum-known-answer-2 mul-result returns returns-2)
+    (tie.spec (λ c. search needs) (λ c κs. search needs) (λ c. search needs) mul-result returns returns-2)

@@ -5,14 +5,8 @@ use Rattle.c_calls.specs.Packed.{packedDone}
 use Rattle.c_calls.proofs.nd_book_check.Statement.{statement}
 use Rattle.c_calls.proofs.nd_book_check.Tie as tie
 
-check-requires : tie.Need-check-requires
-check-requires c κs = search needs
-
-done-requires : tie.Need-done-requires
-done-requires c κs = search needs
-
 returns : tie.Need-returns
 returns c = c .done .ensures ∙ ap packedDone (c .before .check .ensures)
 
 pub nd-book-check-spec : {M : Type 1} → statement M
-nd-book-check-spec = tie.close (tie.spec check-requires done-requires returns)
+nd-book-check-spec = tie.close (tie.spec (λ c κs. search needs) (λ c κs. search needs) returns)

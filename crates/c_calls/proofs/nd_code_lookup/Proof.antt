@@ -6,9 +6,6 @@ use Rattle.c_calls.proofs.Laws.{lookup-fits}
 use Rattle.c_calls.proofs.nd_code_lookup.Statement.{statement}
 use Rattle.c_calls.proofs.nd_code_lookup.Tie as tie
 
-lookup-requires : tie.Need-lookup-requires
-lookup-requires c κs = search needs
-
 found-requires : tie.Need-found-requires
 found-requires c κs = rw (c .lookup .ensures) (lookup-fits _ _)
 
@@ -16,4 +13,4 @@ returns : tie.Need-returns
 returns c = c .found .ensures ∙ ap packedValue (c .before .lookup .ensures)
 
 pub nd-code-lookup-spec : {M : Type 1} → statement M
-nd-code-lookup-spec = tie.close (tie.spec lookup-requires found-requires returns)
+nd-code-lookup-spec = tie.close (tie.spec (λ c κs. search needs) found-requires returns)

@@ -14,12 +14,6 @@ use Rattle.choices.proofs.Laws.{weight-counted, no-sheet, no-option, no
 use Rattle.choices.proofs.choose.Statement.{statement}
 use Rattle.choices.proofs.choose.Tie as tie
 
-is-sheet-requires : tie.Need-is-sheet-requires
-is-sheet-requires c κs = search needs
-
-same-length : tie.Need-same-length
-same-length c = search needs
-
 -- Past the first test it is a sheet; past the second the option is one of its own.
 good : (c : tie.Else1) → is-sheet (c .before .before .before .before .args .sheet .now) ≡ true
 good c = sym (c .before .is-sheet .ensures) ∙ not-false (c .before .is-sheet .result) (c .if1 .left)
@@ -37,9 +31,6 @@ returns c = no-sheet _ _ _ (sym (c .before .is-sheet .ensures) ∙ not-true (c .
 slice-read-if2 : tie.Need-slice-read-if2
 slice-read-if2 c = let f = sheet-first _ (good (c .before)) in omega arith
 
-same-length-2 : tie.Need-same-length-2
-same-length-2 c = search needs
-
 returns-2 : tie.Need-returns-2
 returns-2 c =
     let f = sheet-first _ (good (c .before .before)) in
@@ -48,17 +39,11 @@ returns-2 c =
 slice-read-wide16 : tie.Need-slice-read-wide16
 slice-read-wide16 c = let f = sheet-first _ (good (c .before .before .before)) in omega arith
 
-wide16-requires : tie.Need-wide16-requires
-wide16-requires c κs = search needs
-
 sub-count-literals : tie.Need-sub-count-literals
 sub-count-literals c = let f = sheet-first _ (good (c .before .before .before .before)) in omega arith
 
 part-count-literals-start : tie.Need-part-count-literals-start
 part-count-literals-start c = let f = sheet-first _ (good (c .before .before .before .before .before)) in omega arith
-
-part-count-literals-end : tie.Need-part-count-literals-end
-part-count-literals-end c = search needs
 
 count-literals-requires : tie.Need-count-literals-requires
 count-literals-requires c κs =
@@ -73,9 +58,6 @@ add-if3 c = omega (arith, counted c, sheet-weight _ (good (c .before .before .be
 add-if3-2 : tie.Need-add-if3-2
 add-if3-2 c = omega (arith, counted c, sheet-weight _ (good (c .before .before .before .before .before .before .before)))
 
-same-length-3 : tie.Need-same-length-3
-same-length-3 c = search needs
-
 returns-3 : tie.Need-returns-3
 returns-3 c =
     no-room _ _ _ (good (c .before .before .before .before .before .before .before .before)) (known (c .before .before .before .before .before .before)) (omega (arith, counted (c .before), c .if3 .taken))
@@ -83,9 +65,6 @@ returns-3 c =
 append-requires : tie.Need-append-requires
 append-requires c κs =
     (sheet-formed _ (good (c .before .before .before .before .before .before .before .before .before)), (known (c .before .before .before .before .before .before .before), omega (arith, counted (c .before .before), c .before .if3 .left)))
-
-same-length-4 : tie.Need-same-length-4
-same-length-4 c = search needs
 
 returns-4 : tie.Need-returns-4
 returns-4 c =
@@ -96,22 +75,22 @@ pub choose-spec : {M : Type 1} → statement M
 choose-spec =
     tie.close
     (tie.spec
-    is-sheet-requires
-    same-length
+    (λ c κs. search needs)
+    (λ c. search needs)
     returns
     slice-read-if2
-    same-length-2
+    (λ c. search needs)
     returns-2
     slice-read-wide16
-    wide16-requires
+    (λ c κs. search needs)
     sub-count-literals
     part-count-literals-start
-    part-count-literals-end
+    (λ c. search needs)
     count-literals-requires
     add-if3
     add-if3-2
-    same-length-3
+    (λ c. search needs)
     returns-3
     append-requires
-    same-length-4
+    (λ c. search needs)
     returns-4)

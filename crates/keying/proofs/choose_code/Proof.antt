@@ -8,17 +8,8 @@ use Rattle.keying.proofs.Laws.{choose-refused, choose-value}
 use Rattle.keying.proofs.choose_code.Statement.{statement}
 use Rattle.keying.proofs.choose_code.Tie as tie
 
-lookup-requires : tie.Need-lookup-requires
-lookup-requires c κs = search needs
-
-enum-known-found : tie.Need-enum-known-found
-enum-known-found c = search needs
-
 enum-told : tie.Need-enum-told
 enum-told c = search needs
-
-without-number-requires : tie.Need-without-number-requires
-without-number-requires c κs = search needs
 
 returns : tie.Need-returns
 returns c =
@@ -29,12 +20,6 @@ cast-choose c =
     let start = c .before .before .before .before .before .before .before .before in
     record { fits = omega (arith, found-small (start .args .book .now) (start .args .code .now) _ (ap foundOf (sym (c .before .before .found .given .1)) ∙ c .before .before .before .before .lookup .ensures)) }
 
-choose-requires : tie.Need-choose-requires
-choose-requires c κs = search needs
-
-same-length : tie.Need-same-length
-same-length c = search needs
-
 returns-2 : tie.Need-returns-2
 returns-2 c =
     let found = c .before .before .before .before .before in
@@ -44,12 +29,12 @@ pub choose-code-spec : {M : Type 1} → statement M
 choose-code-spec =
     tie.close
     (tie.spec
-    lookup-requires
-    enum-known-found
+    (λ c κs. search needs)
+    (λ c. search needs)
     enum-told
-    without-number-requires
+    (λ c κs. search needs)
     returns
     cast-choose
-    choose-requires
-    same-length
+    (λ c κs. search needs)
+    (λ c. search needs)
     returns-2)

@@ -13,24 +13,6 @@ returns : tie.Need-returns
 returns c =
     let a = c .before .before .before .before .args in keyed-empty (a .book .now) (a .sheet .now) (a .line .now) (c .if1 .taken)
 
-shared-slice-read-if2 : tie.Need-shared-slice-read-if2
-shared-slice-read-if2 c = search needs
-
-sub-choose-code : tie.Need-sub-choose-code
-sub-choose-code c = search needs
-
-part-choose-code-start : tie.Need-part-choose-code-start
-part-choose-code-start c = search needs
-
-part-choose-code-end : tie.Need-part-choose-code-end
-part-choose-code-end c = search needs
-
-choose-code-requires : tie.Need-choose-code-requires
-choose-code-requires c κs = search needs
-
-same-length : tie.Need-same-length
-same-length c = search needs
-
 returns-2 : tie.Need-returns-2
 returns-2 c =
     let test = c .before .before .before .before .before in
@@ -38,24 +20,6 @@ returns-2 c =
     c .before .before .choose-code .ensures
     ∙ ap (λ code. choose-found (lookupOf (a .book .now) code) false (a .sheet .now)) (part-to-end (a .line .now) 1)
     ∙ keyed-plus (a .book .now) (a .sheet .now) (a .line .now) (test .if2 .taken)
-
-shared-slice-read-if3 : tie.Need-shared-slice-read-if3
-shared-slice-read-if3 c = search needs
-
-sub-choose-code-2 : tie.Need-sub-choose-code-2
-sub-choose-code-2 c = search needs
-
-part-choose-code-start-2 : tie.Need-part-choose-code-start-2
-part-choose-code-start-2 c = search needs
-
-part-choose-code-end-2 : tie.Need-part-choose-code-end-2
-part-choose-code-end-2 c = search needs
-
-choose-code-requires-2 : tie.Need-choose-code-requires-2
-choose-code-requires-2 c κs = search needs
-
-same-length-2 : tie.Need-same-length-2
-same-length-2 c = search needs
 
 returns-3 : tie.Need-returns-3
 returns-3 c =
@@ -75,18 +39,18 @@ key-line-spec =
     tie.close
     (tie.spec
     returns
-    shared-slice-read-if2
-    sub-choose-code
-    part-choose-code-start
-    part-choose-code-end
-    choose-code-requires
-    same-length
+    (λ c. search needs)
+    (λ c. search needs)
+    (λ c. search needs)
+    (λ c. search needs)
+    (λ c κs. search needs)
+    (λ c. search needs)
     returns-2
-    shared-slice-read-if3
-    sub-choose-code-2
-    part-choose-code-start-2
-    part-choose-code-end-2
-    choose-code-requires-2
-    same-length-2
+    (λ c. search needs)
+    (λ c. search needs)
+    (λ c. search needs)
+    (λ c. search needs)
+    (λ c κs. search needs)
+    (λ c. search needs)
     returns-3
     returns-4)

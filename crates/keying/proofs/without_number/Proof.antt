@@ -6,9 +6,6 @@ use Rattle.keying.specs.Endings.{dropped}
 use Rattle.keying.proofs.without_number.Statement.{statement}
 use Rattle.keying.proofs.without_number.Tie as tie
 
-enum-known-found : tie.Need-enum-known-found
-enum-known-found c = search needs
-
 returns : tie.Need-returns
 unfolding dropped
 returns c = sym (ap (λ f. dropped (foundOf f)) (c .before .found .given .1))
@@ -21,4 +18,4 @@ unfolding dropped
 returns-2 c = sym (ap (λ f. dropped (foundOf f)) (c .enum-told .given .1))
 
 pub without-number-spec : {M : Type 1} → statement M
-without-number-spec = tie.close (tie.spec enum-known-found returns enum-told returns-2)
+without-number-spec = tie.close (tie.spec (λ c. search needs) returns enum-told returns-2)

@@ -11,9 +11,6 @@ use Rattle.printing.proofs.Decimals.{twenty-digits}
 use Rattle.printing.proofs.put_counted.Statement.{statement}
 use Rattle.printing.proofs.put_counted.Tie as tie
 
-slice-aggregate-put-decimal : tie.Need-slice-aggregate-put-decimal
-slice-aggregate-put-decimal c = search needs
-
 put-decimal-requires : tie.Need-put-decimal-requires
 put-decimal-requires c κs = let start = c .before .before .before in twenty-digits (start .args .n) (start .fits .n .fits)
 
@@ -34,9 +31,6 @@ put-line-requires c κs =
     let within = placed-within (decimal n) (replicate 20 0) (call .ensures) in
     omega (arith, length-take-le (call .result) (call .last .1 .0) within, placed-count (decimal n) (replicate 20 0) (call .ensures), twenty-digits n (start .fits .n .fits), start .pre)
 
-same-length : tie.Need-same-length
-same-length c = search needs
-
 returns : tie.Need-returns
 returns c =
     let start = c .before .before .before .before .before .before .before .before .before .before in
@@ -50,10 +44,10 @@ pub put-counted-spec : {M : Type 1} → statement M
 put-counted-spec =
     tie.close
     (tie.spec
-    slice-aggregate-put-decimal
+    (λ c. search needs)
     put-decimal-requires
     array-share-prefix-digits
     slice-aggregate-put-line
     put-line-requires
-    same-length
+    (λ c. search needs)
     returns)

@@ -10,9 +10,6 @@ use Rattle.calls.specs.Desk.{mark-word}
 use Rattle.printing.proofs.put_option.Statement.{statement}
 use Rattle.printing.proofs.put_option.Tie as tie
 
-count-characters-requires : tie.Need-count-characters-requires
-count-characters-requires c κs = search needs
-
 -- The code's characters, as they are lent.
 name-here : (c : tie.After-count-characters) → length (take (c .count-characters .result) (c .before .before .before .args .code .now)) ≡ c .count-characters .result
 name-here c = length-take-le (c .count-characters .result) (c .before .before .before .args .code .now) (omega arith)
@@ -20,14 +17,8 @@ name-here c = length-take-le (c .count-characters .result) (c .before .before .b
 slice-aggregate-name : tie.Need-slice-aggregate-name
 slice-aggregate-name c = sym (name-here (c .before))
 
-slice-aggregate-put-line : tie.Need-slice-aggregate-put-line
-slice-aggregate-put-line c = search needs
-
 put-line-requires : tie.Need-put-line-requires
 put-line-requires c κs = omega (arith, name-here (c .before .before .before .before))
-
-same-length : tie.Need-same-length
-same-length c = search needs
 
 returns : tie.Need-returns
 unfolding mark-word pick
@@ -36,14 +27,8 @@ returns c =
     let mark = tests .before .before .before .before .before .args .mark in
     rw (← tests .before .before .count-characters .ensures .1, eq-eqb mark 1 (tests .if1 .taken)) (c .before .before .put-line .ensures)
 
-slice-aggregate-put-line-2 : tie.Need-slice-aggregate-put-line-2
-slice-aggregate-put-line-2 c = search needs
-
 put-line-requires-2 : tie.Need-put-line-requires-2
 put-line-requires-2 c κs = omega (arith, name-here (c .before .before .before .before .before))
-
-same-length-2 : tie.Need-same-length-2
-same-length-2 c = search needs
 
 returns-2 : tie.Need-returns-2
 unfolding mark-word pick
@@ -53,14 +38,8 @@ returns-2 c =
     rw (← tests .before .before .before .count-characters .ensures .1, ne-eqb mark 1 (tests .before .if1 .left), eq-eqb mark 2 (tests .if2 .taken))
     (c .before .before .put-line2 .ensures)
 
-slice-aggregate-put-line-3 : tie.Need-slice-aggregate-put-line-3
-slice-aggregate-put-line-3 c = search needs
-
 put-line-requires-3 : tie.Need-put-line-requires-3
 put-line-requires-3 c κs = omega (arith, name-here (c .before .before .before .before .before))
-
-same-length-3 : tie.Need-same-length-3
-same-length-3 c = search needs
 
 returns-3 : tie.Need-returns-3
 unfolding mark-word pick
@@ -74,17 +53,17 @@ pub put-option-spec : {M : Type 1} → statement M
 put-option-spec =
     tie.close
     (tie.spec
-    count-characters-requires
+    (λ c κs. search needs)
     slice-aggregate-name
-    slice-aggregate-put-line
+    (λ c. search needs)
     put-line-requires
-    same-length
+    (λ c. search needs)
     returns
-    slice-aggregate-put-line-2
+    (λ c. search needs)
     put-line-requires-2
-    same-length-2
+    (λ c. search needs)
     returns-2
-    slice-aggregate-put-line-3
+    (λ c. search needs)
     put-line-requires-3
-    same-length-3
+    (λ c. search needs)
     returns-3)

@@ -5,17 +5,8 @@ use Rattle.probe.proofs.Laws.{told}
 use Rattle.probe.proofs.nd_choose.Statement.{statement}
 use Rattle.probe.proofs.nd_choose.Tie as tie
 
-choose-requires : tie.Need-choose-requires
-choose-requires c κs = search needs
-
-done-requires : tie.Need-done-requires
-done-requires c κs = search needs
-
-same-length : tie.Need-same-length
-same-length c = search needs
-
 returns : tie.Need-returns
 returns c = told packedDone (c .done .ensures) (c .before .before .before .choose .ensures)
 
 pub nd-choose-spec : {M : Type 1} → statement M
-nd-choose-spec = tie.close (tie.spec choose-requires done-requires same-length returns)
+nd-choose-spec = tie.close (tie.spec (λ c κs. search needs) (λ c κs. search needs) (λ c. search needs) returns)

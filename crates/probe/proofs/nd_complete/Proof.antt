@@ -7,20 +7,8 @@ use Rattle.probe.specs.Values.{packedBool}
 use Rattle.probe.proofs.nd_complete.Statement.{statement}
 use Rattle.probe.proofs.nd_complete.Tie as tie
 
-complete-requires : tie.Need-complete-requires
-complete-requires c κs = search needs
-
 enum-told : tie.Need-enum-told
 enum-told c = search needs
-
-enum-told-2 : tie.Need-enum-told-2
-enum-told-2 c = search needs
-
-enum-known-answer : tie.Need-enum-known-answer
-enum-known-answer c = search needs
-
-refused-requires : tie.Need-refused-requires
-refused-requires c κs = search needs
 
 returns : tie.Need-returns
 unfolding pick
@@ -39,11 +27,11 @@ pub nd-complete-spec : {M : Type 1} → statement M
 nd-complete-spec =
     tie.close
     (tie.spec
-    complete-requires
+    (λ c κs. search needs)
     enum-told
-    enum-told-2
-    enum-known-answer
-    refused-requires
+    (λ c. search needs)
+    (λ c. search needs)
+    (λ c κs. search needs)
     returns
     returns-2
     returns-3)

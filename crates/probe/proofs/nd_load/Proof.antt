@@ -5,17 +5,8 @@ use Rattle.probe.proofs.Laws.{told}
 use Rattle.probe.proofs.nd_load.Statement.{statement}
 use Rattle.probe.proofs.nd_load.Tie as tie
 
-load-requires : tie.Need-load-requires
-load-requires c κs = search needs
-
-done-requires : tie.Need-done-requires
-done-requires c κs = search needs
-
-same-length : tie.Need-same-length
-same-length c = search needs
-
 returns : tie.Need-returns
 returns c = told packedDone (c .done .ensures) (c .before .before .before .load .ensures)
 
 pub nd-load-spec : {M : Type 1} → statement M
-nd-load-spec = tie.close (tie.spec load-requires done-requires same-length returns)
+nd-load-spec = tie.close (tie.spec (λ c κs. search needs) (λ c κs. search needs) (λ c. search needs) returns)

@@ -8,37 +8,16 @@ use Rattle.probe.proofs.Laws.{told}
 use Rattle.probe.proofs.nd_report.Statement.{statement}
 use Rattle.probe.proofs.nd_report.Tie as tie
 
-report-requires : tie.Need-report-requires
-report-requires c κs = search needs
-
 enum-told : tie.Need-enum-told
 enum-told c = search needs
-
-enum-told-2 : tie.Need-enum-told-2
-enum-told-2 c = search needs
-
-enum-known-answer : tie.Need-enum-known-answer
-enum-known-answer c = search needs
-
-refused-requires : tie.Need-refused-requires
-refused-requires c κs = search needs
-
-same-length : tie.Need-same-length
-same-length c = search needs
 
 returns : tie.Need-returns
 unfolding pick
 returns c = told packedBool (ap (λ a. packedBool (reportedOf a)) (sym (c .enum-told .given .1))) (c .before .before .before .before .report .ensures)
 
-same-length-2 : tie.Need-same-length-2
-same-length-2 c = search needs
-
 returns-2 : tie.Need-returns-2
 unfolding pick
 returns-2 c = told packedBool (ap (λ a. packedBool (reportedOf a)) (sym (c .enum-told2 .given .1))) (c .before .before .before .before .report .ensures)
-
-same-length-3 : tie.Need-same-length-3
-same-length-3 c = search needs
 
 returns-3 : tie.Need-returns-3
 returns-3 c =
@@ -50,14 +29,14 @@ pub nd-report-spec : {M : Type 1} → statement M
 nd-report-spec =
     tie.close
     (tie.spec
-    report-requires
+    (λ c κs. search needs)
     enum-told
-    enum-told-2
-    enum-known-answer
-    refused-requires
-    same-length
+    (λ c. search needs)
+    (λ c. search needs)
+    (λ c κs. search needs)
+    (λ c. search needs)
     returns
-    same-length-2
+    (λ c. search needs)
     returns-2
-    same-length-3
+    (λ c. search needs)
     returns-3)

@@ -5,17 +5,8 @@ use Rattle.probe.proofs.Laws.{told}
 use Rattle.probe.proofs.nd_step.Statement.{statement}
 use Rattle.probe.proofs.nd_step.Tie as tie
 
-step-requires : tie.Need-step-requires
-step-requires c κs = search needs
-
-done-requires : tie.Need-done-requires
-done-requires c κs = search needs
-
-same-length : tie.Need-same-length
-same-length c = search needs
-
 returns : tie.Need-returns
 returns c = told packedDone (c .done .ensures) (c .before .before .before .step .ensures)
 
 pub nd-step-spec : {M : Type 1} → statement M
-nd-step-spec = tie.close (tie.spec step-requires done-requires same-length returns)
+nd-step-spec = tie.close (tie.spec (λ c κs. search needs) (λ c κs. search needs) (λ c. search needs) returns)

@@ -6,17 +6,11 @@ use Rattle.probe.proofs.Laws.{told, write-fits}
 use Rattle.probe.proofs.nd_write.Statement.{statement}
 use Rattle.probe.proofs.nd_write.Tie as tie
 
-write-requires : tie.Need-write-requires
-write-requires c κs = search needs
-
 found-requires : tie.Need-found-requires
 found-requires c κs = rw (ap (λ o. o .answer) (c .before .before .write .ensures)) (write-fits _ _ _)
-
-same-length : tie.Need-same-length
-same-length c = search needs
 
 returns : tie.Need-returns
 returns c = told packedValue (c .found .ensures) (c .before .before .before .write .ensures)
 
 pub nd-write-spec : {M : Type 1} → statement M
-nd-write-spec = tie.close (tie.spec write-requires found-requires same-length returns)
+nd-write-spec = tie.close (tie.spec (λ c κs. search needs) found-requires (λ c. search needs) returns)

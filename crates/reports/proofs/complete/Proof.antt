@@ -26,9 +26,6 @@ module _ (s : List ℕ) where
   unfolding completeOf complete-refusal only-if answer
   done h e = rw (h, e)
 
-is-sheet-requires : tie.Need-is-sheet-requires
-is-sheet-requires c κs = search needs
-
 returns : tie.Need-returns
 returns c =
     let call = c .before .is-sheet in
@@ -49,4 +46,4 @@ returns-3 c = done _ (sheet (c .before .before)) (sym (c .if2 .left) ∙ c .befo
 
 pub complete-spec : {M : Type 1} → statement M
 complete-spec =
-    tie.close (tie.spec is-sheet-requires returns is-complete-requires returns-2 returns-3)
+    tie.close (tie.spec (λ c κs. search needs) returns is-complete-requires returns-2 returns-3)

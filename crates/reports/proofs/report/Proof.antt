@@ -32,9 +32,6 @@ module _ (s out : List ℕ) where
   unfolding reportOf report-refusal only-if first-of outcome
   done h e p q = rw (h, eq-eqb (length out) (options-in s) e, p, q)
 
-is-sheet-requires : tie.Need-is-sheet-requires
-is-sheet-requires c κs = search needs
-
 returns : tie.Need-returns
 returns c =
     let call = c .before .is-sheet in
@@ -46,9 +43,6 @@ sheet c = sym (c .before .is-sheet .ensures) ∙ not-false (c .before .is-sheet 
 
 shared-slice-read-wide16 : tie.Need-shared-slice-read-wide16
 shared-slice-read-wide16 c = let k = sheet-formed _ (sheet (c .before)) in omega arith
-
-wide16-requires : tie.Need-wide16-requires
-wide16-requires c κs = search needs
 
 returns-2 : tie.Need-returns-2
 unfolding options-in
@@ -62,17 +56,11 @@ room c = c .if2 .left ∙ c .before .wide16 .ensures .0
 put-report-requires : tie.Need-put-report-requires
 put-report-requires c κs = (sheet-formed _ (sheet (c .before .before .before .before)), room (c .before))
 
-same-length : tie.Need-same-length
-same-length c = search needs
-
 returns-3 : tie.Need-returns-3
 returns-3 c =
     let n = c .before .before .before .before .before in
     let call = c .before .before .before .put-report in
     done _ _ (sheet (n .before .before .before)) (room n) (sym (c .if3 .taken) ∙ call .ensures .0) (call .ensures .1)
-
-same-length-2 : tie.Need-same-length-2
-same-length-2 c = search needs
 
 returns-4 : tie.Need-returns-4
 returns-4 c =
@@ -84,13 +72,13 @@ pub report-spec : {M : Type 1} → statement M
 report-spec =
     tie.close
     (tie.spec
-    is-sheet-requires
+    (λ c κs. search needs)
     returns
     shared-slice-read-wide16
-    wide16-requires
+    (λ c κs. search needs)
     returns-2
     put-report-requires
-    same-length
+    (λ c. search needs)
     returns-3
-    same-length-2
+    (λ c. search needs)
     returns-4)

@@ -13,28 +13,16 @@ use Rattle.runs.proofs.run.Tie as tie
 good : (c : tie.Else1) → is-sheet (c .before .before .before .before .args .sheet .now) ≡ true
 good c = sym (c .before .is-sheet .ensures) ∙ not-false (c .before .is-sheet .result) (c .if1 .left)
 
-is-sheet-requires : tie.Need-is-sheet-requires
-is-sheet-requires c κs = search needs
-
-same-length : tie.Need-same-length
-same-length c = search needs
-
 returns : tie.Need-returns
 returns c = no-sheet _ _ (sym (c .before .is-sheet .ensures) ∙ not-true (c .before .is-sheet .result) (c .if1 .taken))
 
 run-on-requires : tie.Need-run-on-requires
 run-on-requires c κs = sheet-formed _ (good (c .before))
 
-same-length-2 : tie.Need-same-length-2
-same-length-2 c = search needs
-
 returns-2 : tie.Need-returns-2
 returns-2 c =
     let r = c .before .before .before in
     done _ _ (good (r .before .before)) (c .if2 .taken) (r .run-on .ensures)
-
-same-length-3 : tie.Need-same-length-3
-same-length-3 c = search needs
 
 returns-3 : tie.Need-returns-3
 returns-3 c =
@@ -45,11 +33,11 @@ pub run-spec : {M : Type 1} → statement M
 run-spec =
     tie.close
     (tie.spec
-    is-sheet-requires
-    same-length
+    (λ c κs. search needs)
+    (λ c. search needs)
     returns
     run-on-requires
-    same-length-2
+    (λ c. search needs)
     returns-2
-    same-length-3
+    (λ c. search needs)
     returns-3)

@@ -16,9 +16,6 @@ use Rattle.sessions.proofs.Laws.{few-options, codes-fit, codes-lent, sh
 use Rattle.sessions.proofs.put_lines.Statement.{statement}
 use Rattle.sessions.proofs.put_lines.Tie as tie
 
-put-first-requires : tie.Need-put-first-requires
-put-first-requires c κs = search needs
-
 -- The first line is short.
 first-here : (c : tie.After-put-first) → c .put-first .result ≤ 35
 first-here c =
@@ -32,17 +29,11 @@ sub-put-options c = let start = c .before .before .before .before .before .befor
 part-put-options-start : tie.Need-part-put-options-start
 part-put-options-start c = let start = c .before .before .before .before .before .before .before in omega (arith, codes-fit (start .args .book .now) (start .pre .0))
 
-part-put-options-end : tie.Need-part-put-options-end
-part-put-options-end c = search needs
-
 sub-put-options-2 : tie.Need-sub-put-options-2
 sub-put-options-2 c = let call = c .before .before .before in omega (arith, first-here call, call .put-first .kept .1 .1 .1 .0, call .before .before .before .before .before .pre)
 
 part-put-options-start-2 : tie.Need-part-put-options-start-2
 part-put-options-start-2 c = let call = c .before .before .before in omega (arith, first-here call, call .put-first .kept .1 .1 .1 .0, call .before .before .before .before .before .pre)
-
-part-put-options-end-2 : tie.Need-part-put-options-end-2
-part-put-options-end-2 c = search needs
 
 put-options-requires : tie.Need-put-options-requires
 put-options-requires c κs =
@@ -67,9 +58,6 @@ add-result c =
     let within = placed-within (option-lines (pieces 13 (length marks) (take (length book - 8) (drop 8 book))) marks) rest (options .ensures) in
     omega (arith, within, options .kept .1 .1 .0, ap length (part-to-end out (call .put-first .result)), length-drop (call .put-first .result) out, first-here call, call .put-first .kept .1 .1 .1 .0, start .pre)
 
-same-length : tie.Need-same-length
-same-length c = search needs
-
 returns : tie.Need-returns
 returns c =
     let call = c .before .before .before .before .before .before .before in
@@ -87,14 +75,14 @@ pub put-lines-spec : {M : Type 1} → statement M
 put-lines-spec =
     tie.close
     (tie.spec
-    put-first-requires
+    (λ c κs. search needs)
     sub-put-options
     part-put-options-start
-    part-put-options-end
+    (λ c. search needs)
     sub-put-options-2
     part-put-options-start-2
-    part-put-options-end-2
+    (λ c. search needs)
     put-options-requires
     add-result
-    same-length
+    (λ c. search needs)
     returns)

@@ -34,36 +34,15 @@ array-borrow-prefix-room c = few-here c
 slice-aggregate-marks : tie.Need-slice-aggregate-marks
 slice-aggregate-marks c = sym (lent-here (c .before))
 
-run-requires : tie.Need-run-requires
-run-requires c κs = search needs
-
-enum-known-ran : tie.Need-enum-known-ran
-enum-known-ran c = search needs
-
 put-told-requires : tie.Need-put-told-requires
 put-told-requires c κs =
     let word = c .before .before .before .before .before .before .before .before .before .before in
     let start = word .before .before .before .before in (start .pre .0, lent-here word ∙ count-here word, start .pre .1)
 
-enum-known-ran-2 : tie.Need-enum-known-ran-2
-enum-known-ran-2 c = search needs
-
 put-told-requires-2 : tie.Need-put-told-requires-2
 put-told-requires-2 c κs =
     let word = c .before .before .before .before .before .before .before .before .before .before in
     let start = word .before .before .before .before in (start .pre .0, lent-here word ∙ count-here word, start .pre .1)
-
-enum-known-ran-3 : tie.Need-enum-known-ran-3
-enum-known-ran-3 c = search needs
-
-put-refusal-requires : tie.Need-put-refusal-requires
-put-refusal-requires c κs = search needs
-
-same-length : tie.Need-same-length
-same-length c = search needs
-
-same-length-2 : tie.Need-same-length-2
-same-length-2 c = search needs
 
 returns : tie.Need-returns
 unfolding desk-budget
@@ -76,12 +55,6 @@ returns c =
     c .before .before .before .put-told .ensures
     ∙ ap (λ l. filled l (start .args .out .now)) (ran-accepted (start .args .book .now) sheet _ _ (word .word-at .result) most-options (count-here word) (few-here word) answer)
 
-same-length-3 : tie.Need-same-length-3
-same-length-3 c = search needs
-
-same-length-4 : tie.Need-same-length-4
-same-length-4 c = search needs
-
 returns-2 : tie.Need-returns-2
 unfolding desk-budget
 returns-2 c =
@@ -92,12 +65,6 @@ returns-2 c =
     let answer = ap (λ t. afterCall (ranOf t) sheet) (sym (c .before .before .before .before .before .before .before .ran2 .given .1)) ∙ run .ensures in
     c .before .before .before .put-told2 .ensures
     ∙ ap (λ l. filled l (start .args .out .now)) (ran-accepted (start .args .book .now) sheet _ _ (word .word-at .result) most-options (count-here word) (few-here word) answer)
-
-same-length-5 : tie.Need-same-length-5
-same-length-5 c = search needs
-
-same-length-6 : tie.Need-same-length-6
-same-length-6 c = search needs
 
 returns-3 : tie.Need-returns-3
 unfolding desk-budget
@@ -116,19 +83,19 @@ put-ran-spec =
     word-at-requires
     array-borrow-prefix-room
     slice-aggregate-marks
-    run-requires
-    enum-known-ran
+    (λ c κs. search needs)
+    (λ c. search needs)
     put-told-requires
-    enum-known-ran-2
+    (λ c. search needs)
     put-told-requires-2
-    enum-known-ran-3
-    put-refusal-requires
-    same-length
-    same-length-2
+    (λ c. search needs)
+    (λ c κs. search needs)
+    (λ c. search needs)
+    (λ c. search needs)
     returns
-    same-length-3
-    same-length-4
+    (λ c. search needs)
+    (λ c. search needs)
     returns-2
-    same-length-5
-    same-length-6
+    (λ c. search needs)
+    (λ c. search needs)
     returns-3)

@@ -9,9 +9,6 @@ use Rattle.printing.specs.Placed.{filled}
 use Rattle.sessions.proofs.put_refused.Statement.{statement}
 use Rattle.sessions.proofs.put_refused.Tie as tie
 
-enum-known-answer : tie.Need-enum-known-answer
-enum-known-answer c = search needs
-
 enum-told : tie.Need-enum-told
 enum-told c = search needs
 
@@ -20,12 +17,6 @@ unfolding printed filled placed
 returns c =
     let out = c .before .before .before .args .out .now in
     sym (ap (λ d. filled (printed (doneOf d) (λ u. [])) out) (c .enum-told .given .1))
-
-put-refusal-requires : tie.Need-put-refusal-requires
-put-refusal-requires c κs = search needs
-
-same-length : tie.Need-same-length
-same-length c = search needs
 
 returns-2 : tie.Need-returns-2
 unfolding printed
@@ -37,4 +28,4 @@ returns-2 c =
 pub put-refused-spec : {M : Type 1} → statement M
 put-refused-spec =
     tie.close
-    (tie.spec enum-known-answer enum-told returns put-refusal-requires same-length returns-2)
+    (tie.spec (λ c. search needs) enum-told returns (λ c κs. search needs) (λ c. search needs) returns-2)

@@ -8,32 +8,8 @@ use Rattle.sessions.proofs.Laws.{told-consistent, told-contradictory, t
 use Rattle.sessions.proofs.put_told.Statement.{statement}
 use Rattle.sessions.proofs.put_told.Tie as tie
 
-report-requires : tie.Need-report-requires
-report-requires c κs = search needs
-
 enum-told : tie.Need-enum-told
 enum-told c = search needs
-
-put-lines-requires : tie.Need-put-lines-requires
-put-lines-requires c κs = search needs
-
-enum-told-2 : tie.Need-enum-told-2
-enum-told-2 c = search needs
-
-put-first-requires : tie.Need-put-first-requires
-put-first-requires c κs = search needs
-
-enum-known-told : tie.Need-enum-known-told
-enum-known-told c = search needs
-
-put-refusal-requires : tie.Need-put-refusal-requires
-put-refusal-requires c κs = search needs
-
-same-length : tie.Need-same-length
-same-length c = search needs
-
-same-length-2 : tie.Need-same-length-2
-same-length-2 c = search needs
 
 returns : tie.Need-returns
 returns c =
@@ -44,12 +20,6 @@ returns c =
     c .before .before .put-lines .ensures
     ∙ ap (λ l. filled l (start .args .out .now)) (told-consistent (start .args .book .now) _ marks _ answer)
 
-same-length-3 : tie.Need-same-length-3
-same-length-3 c = search needs
-
-same-length-4 : tie.Need-same-length-4
-same-length-4 c = search needs
-
 returns-2 : tie.Need-returns-2
 returns-2 c =
     let report = c .before .before .before .before .before .before .before .before .report in
@@ -58,12 +28,6 @@ returns-2 c =
     let answer = ap (λ t. afterCall (reportedOf t) marks) (sym (c .before .before .before .before .enum-told2 .given .1)) ∙ report .ensures in
     c .before .before .put-first .ensures
     ∙ ap (λ l. filled l (start .args .out .now)) (told-contradictory (start .args .book .now) _ marks _ answer)
-
-same-length-5 : tie.Need-same-length-5
-same-length-5 c = search needs
-
-same-length-6 : tie.Need-same-length-6
-same-length-6 c = search needs
 
 returns-3 : tie.Need-returns-3
 returns-3 c =
@@ -78,19 +42,19 @@ pub put-told-spec : {M : Type 1} → statement M
 put-told-spec =
     tie.close
     (tie.spec
-    report-requires
+    (λ c κs. search needs)
     enum-told
-    put-lines-requires
-    enum-told-2
-    put-first-requires
-    enum-known-told
-    put-refusal-requires
-    same-length
-    same-length-2
+    (λ c κs. search needs)
+    (λ c. search needs)
+    (λ c κs. search needs)
+    (λ c. search needs)
+    (λ c κs. search needs)
+    (λ c. search needs)
+    (λ c. search needs)
     returns
-    same-length-3
-    same-length-4
+    (λ c. search needs)
+    (λ c. search needs)
     returns-2
-    same-length-5
-    same-length-6
+    (λ c. search needs)
+    (λ c. search needs)
     returns-3)

@@ -13,23 +13,8 @@ use Rattle.sessions.proofs.session.Tie as tie
 returns : tie.Need-returns
 returns c = let a = c .before .before .before .before .args in session-short (a .book .now) (a .input .now) (a .out .now) (c .if1 .taken)
 
-slice-aggregate-load : tie.Need-slice-aggregate-load
-slice-aggregate-load c = search needs
-
-load-requires : tie.Need-load-requires
-load-requires c κs = search needs
-
 enum-told : tie.Need-enum-told
 enum-told c = search needs
-
-enum-told-2 : tie.Need-enum-told-2
-enum-told-2 c = search needs
-
-put-refused-requires : tie.Need-put-refused-requires
-put-refused-requires c κs = search needs
-
-same-length : tie.Need-same-length
-same-length c = search needs
 
 returns-2 : tie.Need-returns-2
 returns-2 c =
@@ -39,24 +24,6 @@ returns-2 c =
     c .before .before .put-refused .ensures
     ∙ session-printed (a .book .now) (a .input .now) (a .out .now) (test .if1 .left)
     (load-refused (a .book .now) (a .input .now) _ _ (load .load .ensures) _ (ap doneOf (c .before .before .before .before .enum-told2 .given .1)))
-
-slice-aggregate-key-lines : tie.Need-slice-aggregate-key-lines
-slice-aggregate-key-lines c = search needs
-
-key-lines-requires : tie.Need-key-lines-requires
-key-lines-requires c κs = search needs
-
-enum-told-3 : tie.Need-enum-told-3
-enum-told-3 c = search needs
-
-enum-told-4 : tie.Need-enum-told-4
-enum-told-4 c = search needs
-
-put-refused-requires-2 : tie.Need-put-refused-requires-2
-put-refused-requires-2 c κs = search needs
-
-same-length-2 : tie.Need-same-length-2
-same-length-2 c = search needs
 
 returns-3 : tie.Need-returns-3
 returns-3 c =
@@ -68,9 +35,6 @@ returns-3 c =
     ∙ session-printed (a .book .now) (a .input .now) (a .out .now) (test .if1 .left)
     (keys-refused (a .book .now) (a .input .now) _ _ (load .load .ensures) (ap doneOf (keys .before .before .enum-told .given .1)) _ _ (keys .key-lines .ensures) _ (ap doneOf (c .before .before .before .before .enum-told4 .given .1)))
 
-slice-aggregate-put-ran : tie.Need-slice-aggregate-put-ran
-slice-aggregate-put-ran c = search needs
-
 put-ran-requires : tie.Need-put-ran-requires
 put-ran-requires c κs =
     let load = c .before .before .before .before .before .before .before .before .before .before in
@@ -79,9 +43,6 @@ put-ran-requires c κs =
     let sheet = load .load .last .1 .0 in
     let answer = ap (λ d. afterCall (doneOf d) sheet) (sym (c .before .before .before .before .before .before .before .enum-told .given .1)) ∙ load .load .ensures in
     (loaded-good book (replicate sheet-length 0) sheet (length-replicate {A = ℕ} sheet-length 0) answer, test .if1 .left)
-
-same-length-3 : tie.Need-same-length-3
-same-length-3 c = search needs
 
 returns-4 : tie.Need-returns-4
 returns-4 c =
@@ -98,21 +59,21 @@ session-spec =
     tie.close
     (tie.spec
     returns
-    slice-aggregate-load
-    load-requires
+    (λ c. search needs)
+    (λ c κs. search needs)
     enum-told
-    enum-told-2
-    put-refused-requires
-    same-length
+    (λ c. search needs)
+    (λ c κs. search needs)
+    (λ c. search needs)
     returns-2
-    slice-aggregate-key-lines
-    key-lines-requires
-    enum-told-3
-    enum-told-4
-    put-refused-requires-2
-    same-length-2
+    (λ c. search needs)
+    (λ c κs. search needs)
+    (λ c. search needs)
+    (λ c. search needs)
+    (λ c κs. search needs)
+    (λ c. search needs)
     returns-3
-    slice-aggregate-put-ran
+    (λ c. search needs)
     put-ran-requires
-    same-length-3
+    (λ c. search needs)
     returns-4)

@@ -66,18 +66,6 @@ returns c =
     let s = c .before .before .args .s .now in
     rw (sheet-is s, ne-eqb (length s) sheet-length (c .if1 .taken))
 
-shared-slice-read-wide16 : tie.Need-shared-slice-read-wide16
-shared-slice-read-wide16 c = search needs
-
-wide16-requires : tie.Need-wide16-requires
-wide16-requires c κs = search needs
-
-shared-slice-read-wide16-2 : tie.Need-shared-slice-read-wide16-2
-shared-slice-read-wide16-2 c = search needs
-
-wide16-requires-2 : tie.Need-wide16-requires-2
-wide16-requires-2 c κs = search needs
-
 returns-2 : tie.Need-returns-2
 returns-2 c =
     let s = sheet (c .before) in
@@ -95,57 +83,15 @@ returns-4 c =
     let s = sheet (c .before .before .before) in
     rw (sheet-is s, lt-leb (getD s 1 0) sheet-room (omega arith), and-false)
 
-sub-is-rooted-tree : tie.Need-sub-is-rooted-tree
-sub-is-rooted-tree c = search needs
-
-part-is-rooted-tree-start : tie.Need-part-is-rooted-tree-start
-part-is-rooted-tree-start c = search needs
-
-part-is-rooted-tree-end : tie.Need-part-is-rooted-tree-end
-part-is-rooted-tree-end c = search needs
-
-is-rooted-tree-requires : tie.Need-is-rooted-tree-requires
-is-rooted-tree-requires c κs = search needs
-
 returns-5 : tie.Need-returns-5
 returns-5 c =
     let s = sheet (c .before .before .before .before .before .before) in
     rw (sheet-is s, told-tree (c .before), not-true (c .before .is-rooted-tree .result) (c .if5 .taken), and-false)
 
-add-end : tie.Need-add-end
-add-end c = search needs
-
-mul-is-clear : tie.Need-mul-is-clear
-mul-is-clear c = search needs
-
-sub-is-clear : tie.Need-sub-is-clear
-sub-is-clear c = search needs
-
-part-is-clear-start : tie.Need-part-is-clear-start
-part-is-clear-start c = search needs
-
-part-is-clear-end : tie.Need-part-is-clear-end
-part-is-clear-end c = search needs
-
-is-clear-requires : tie.Need-is-clear-requires
-is-clear-requires c κs = search needs
-
 returns-6 : tie.Need-returns-6
 returns-6 c =
     let s = sheet (c .before .before .before .before .before .before .before .before .before) in
     rw (sheet-is s, told-clear (c .before), not-true (c .before .is-clear .result) (c .if6 .taken), and-false)
-
-sub-count-literals : tie.Need-sub-count-literals
-sub-count-literals c = search needs
-
-part-count-literals-start : tie.Need-part-count-literals-start
-part-count-literals-start c = search needs
-
-part-count-literals-end : tie.Need-part-count-literals-end
-part-count-literals-end c = search needs
-
-count-literals-requires : tie.Need-count-literals-requires
-count-literals-requires c κs = search needs
 
 add-result : tie.Need-add-result
 add-result c =
@@ -169,28 +115,28 @@ is-sheet-spec =
     tie.close
     (tie.spec
     returns
-    shared-slice-read-wide16
-    wide16-requires
-    shared-slice-read-wide16-2
-    wide16-requires-2
+    (λ c. search needs)
+    (λ c κs. search needs)
+    (λ c. search needs)
+    (λ c κs. search needs)
     returns-2
     returns-3
     returns-4
-    sub-is-rooted-tree
-    part-is-rooted-tree-start
-    part-is-rooted-tree-end
-    is-rooted-tree-requires
+    (λ c. search needs)
+    (λ c. search needs)
+    (λ c. search needs)
+    (λ c κs. search needs)
     returns-5
-    add-end
-    mul-is-clear
-    sub-is-clear
-    part-is-clear-start
-    part-is-clear-end
-    is-clear-requires
+    (λ c. search needs)
+    (λ c. search needs)
+    (λ c. search needs)
+    (λ c. search needs)
+    (λ c. search needs)
+    (λ c κs. search needs)
     returns-6
-    sub-count-literals
-    part-count-literals-start
-    part-count-literals-end
-    count-literals-requires
+    (λ c. search needs)
+    (λ c. search needs)
+    (λ c. search needs)
+    (λ c κs. search needs)
     add-result
     returns-7)

@@ -40,21 +40,9 @@ asked c =
 applying : (c : tie.Else4) → let a = c .before .before .before .before .before .before .before .before .before .before .before .before .before .args in is-some (M.step (a .rule) (a .place) (a .i) (a .j) (nodes-in (a .sheet .now))) ≡ true
 applying c = sym (asked (c .before)) ∙ not-false (c .before .applies .result) (c .if4 .left)
 
-is-sheet-requires : tie.Need-is-sheet-requires
-is-sheet-requires c κs = search needs
-
-same-length : tie.Need-same-length
-same-length c = search needs
-
 returns : tie.Need-returns
 returns c =
     no-sheet _ _ _ _ _ (sym (c .before .is-sheet .ensures) ∙ not-true (c .before .is-sheet .result) (c .if1 .taken))
-
-is-rule-requires : tie.Need-is-rule-requires
-is-rule-requires c κs = search needs
-
-same-length-2 : tie.Need-same-length-2
-same-length-2 c = search needs
 
 returns-2 : tie.Need-returns-2
 returns-2 c =
@@ -62,12 +50,6 @@ returns-2 c =
 
 slice-read-wide16 : tie.Need-slice-read-wide16
 slice-read-wide16 c = omega (arith, sheet-long _ (sheet-formed _ (good (c .before .before .before))))
-
-wide16-requires : tie.Need-wide16-requires
-wide16-requires c κs = search needs
-
-same-length-3 : tie.Need-same-length-3
-same-length-3 c = search needs
 
 returns-3 : tie.Need-returns-3
 returns-3 c =
@@ -87,9 +69,6 @@ sub-applies c = omega (arith, lent c .within, lent c .whole)
 part-applies-start : tie.Need-part-applies-start
 part-applies-start c = omega (arith, lent (c .before) .within, lent (c .before) .whole)
 
-part-applies-end : tie.Need-part-applies-end
-part-applies-end c = search needs
-
 applies-requires : tie.Need-applies-requires
 applies-requires c κs =
     let d = c .before .before in
@@ -97,9 +76,6 @@ applies-requires c κs =
     let r = rule-within (a .rule) (ruled (d .before .before .before)) in
     rw (lent-part (2 + a .place) (a .sheet .now))
     ((r .0, r .1, lent d .long), lent d .stretch)
-
-same-length-4 : tie.Need-same-length-4
-same-length-4 c = search needs
 
 returns-4 : tie.Need-returns-4
 returns-4 c =
@@ -109,9 +85,6 @@ returns-4 c =
 apply-requires : tie.Need-apply-requires
 apply-requires c κs =
     (sheet-formed _ (good (c .before .before .before .before .before .before .before .before .before .before)), applying (c .before))
-
-same-length-5 : tie.Need-same-length-5
-same-length-5 c = search needs
 
 returns-5 : tie.Need-returns-5
 returns-5 c =
@@ -123,24 +96,24 @@ pub step-spec : {M : Type 1} → statement M
 step-spec =
     tie.close
     (tie.spec
-    is-sheet-requires
-    same-length
+    (λ c κs. search needs)
+    (λ c. search needs)
     returns
-    is-rule-requires
-    same-length-2
+    (λ c κs. search needs)
+    (λ c. search needs)
     returns-2
     slice-read-wide16
-    wide16-requires
-    same-length-3
+    (λ c κs. search needs)
+    (λ c. search needs)
     returns-3
     add-from
     mul-applies
     sub-applies
     part-applies-start
-    part-applies-end
+    (λ c. search needs)
     applies-requires
-    same-length-4
+    (λ c. search needs)
     returns-4
     apply-requires
-    same-length-5
+    (λ c. search needs)
     returns-5)

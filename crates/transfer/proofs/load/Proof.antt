@@ -17,14 +17,8 @@ accepted-here c =
 returns : tie.Need-returns
 returns c = let a = c .before .before .before .args in load-short (a .book .now) (a .target .now) (c .if1 .taken)
 
-check-requires : tie.Need-check-requires
-check-requires c κs = search needs
-
 enum-told : tie.Need-enum-told
 enum-told c = search needs
-
-enum-told-2 : tie.Need-enum-told-2
-enum-told-2 c = search needs
 
 returns-2 : tie.Need-returns-2
 returns-2 c =
@@ -35,9 +29,6 @@ returns-2 c =
 
 fill-sheet-requires : tie.Need-fill-sheet-requires
 fill-sheet-requires c κs = (accepted-book _ (accepted-here (c .before)), c .before .before .before .before .if1 .left)
-
-same-length : tie.Need-same-length
-same-length c = search needs
 
 returns-3 : tie.Need-returns-3
 returns-3 c =
@@ -50,10 +41,10 @@ load-spec =
     tie.close
     (tie.spec
     returns
-    check-requires
+    (λ c κs. search needs)
     enum-told
-    enum-told-2
+    (λ c. search needs)
     returns-2
     fill-sheet-requires
-    same-length
+    (λ c. search needs)
     returns-3)

@@ -37,20 +37,11 @@ length-here c =
     let a = c .before .before .before .before .before .before .before .before .before .before .before .args in
     length-written (a .sheet .now) (a .book .now) (sheet-formed _ (sheet-here (c .before .before .before .before .before .before))) (accepted-book _ (accepted-here (c .before .before .before))) (same-here c)
 
-is-sheet-requires : tie.Need-is-sheet-requires
-is-sheet-requires c κs = search needs
-
 returns : tie.Need-returns
 returns c =
     let a = c .before .before .before .before .before .args in
     let call = c .before .is-sheet in
     write-none (a .sheet .now) (a .book .now) (a .out .now) (sym (call .ensures) ∙ not-true (call .result) (c .if1 .taken))
-
-check-requires : tie.Need-check-requires
-check-requires c κs = search needs
-
-enum-known-checked : tie.Need-enum-known-checked
-enum-known-checked c = search needs
 
 returns-2 : tie.Need-returns-2
 returns-2 c =
@@ -90,9 +81,6 @@ put-book-requires c κs =
     let long = length-here e in
     (sheet-formed _ (sheet-here (e .before .before .before .before .before .before)), ((accepted-book _ (accepted-here (e .before .before .before)), same-here e), omega arith))
 
-same-length : tie.Need-same-length
-same-length c = search needs
-
 returns-5 : tie.Need-returns-5
 returns-5 c =
     let e = c .before .before .before .before .before .before in
@@ -105,10 +93,10 @@ pub write-spec : {M : Type 1} → statement M
 write-spec =
     tie.close
     (tie.spec
-    is-sheet-requires
+    (λ c κs. search needs)
     returns
-    check-requires
-    enum-known-checked
+    (λ c κs. search needs)
+    (λ c. search needs)
     returns-2
     enum-told
     word-at-requires
@@ -117,5 +105,5 @@ write-spec =
     written-length-requires
     returns-4
     put-book-requires
-    same-length
+    (λ c. search needs)
     returns-5)
