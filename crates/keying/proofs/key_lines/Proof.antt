@@ -23,41 +23,8 @@ abbrev μ-loop : tie.MeasureT-loop
 loop-holds : tie.Need-loop-holds Inv-loop μ-loop
 loop-holds c = (omega arith, refl, refl)
 
-sub-line-end : tie.Need-sub-line-end Inv-loop μ-loop
-sub-line-end c = search needs
-
-part-line-end-start : tie.Need-part-line-end-start Inv-loop μ-loop
-part-line-end-start c = search needs
-
-part-line-end-end : tie.Need-part-line-end-end Inv-loop μ-loop
-part-line-end-end c = search needs
-
-line-end-requires : tie.Need-line-end-requires Inv-loop μ-loop
-line-end-requires c κs = search needs
-
-add-end : tie.Need-add-end Inv-loop μ-loop
-add-end c = search needs
-
-sub-key-line : tie.Need-sub-key-line Inv-loop μ-loop
-sub-key-line c = search needs
-
-part-key-line-start : tie.Need-part-key-line-start Inv-loop μ-loop
-part-key-line-start c = search needs
-
-part-key-line-end : tie.Need-part-key-line-end Inv-loop μ-loop
-part-key-line-end c = search needs
-
-key-line-requires : tie.Need-key-line-requires Inv-loop μ-loop
-key-line-requires c κs = search needs
-
 enum-told : tie.Need-enum-told Inv-loop μ-loop
 enum-told c = search needs
-
-enum-told-2 : tie.Need-enum-told-2 Inv-loop μ-loop
-enum-told-2 c = search needs
-
-same-length : tie.Need-same-length Inv-loop μ-loop
-same-length c = search needs
 
 returns : tie.Need-returns Inv-loop μ-loop
 returns c =
@@ -68,12 +35,6 @@ returns c =
     let end = ap (λ k. n .loop .at + k) (line .line-end .ensures .0) in
     keyed-stop (a .book .now) (a .input .now) (line .before .before .loop-test .taken) end (n .loop .sheet) _ _ _ (ap doneOf (c .enum-told2 .given .1)) (keyed .key-line .ensures)
     ∙ n .loop .inv .2
-
-add-at : tie.Need-add-at Inv-loop μ-loop
-add-at c = search needs
-
-loop-less : tie.Need-loop-less Inv-loop μ-loop
-loop-less c = search needs
 
 loop-again : tie.Need-loop-again Inv-loop μ-loop
 loop-again c =
@@ -87,9 +48,6 @@ loop-again c =
       sym (keyed-on (a .book .now) (a .input .now) (line .before .before .loop-test .taken) end (n .loop .sheet) _ _ (ap doneOf (c .before .enum-told .given .1)) (keyed .key-line .ensures)) ∙ n .loop .inv .2,
     )
 
-loop-less-2 : tie.Need-loop-less-2 Inv-loop μ-loop
-loop-less-2 c = search needs
-
 loop-again-2 : tie.Need-loop-again-2 Inv-loop μ-loop
 loop-again-2 c =
     let keyed = c .before .before .before .before .before in
@@ -101,9 +59,6 @@ loop-again-2 c =
       omega arith,
       sym (keyed-last (a .book .now) (a .input .now) (line .before .before .loop-test .taken) end (n .loop .sheet) _ _ (c .if1 .left) (ap doneOf (c .before .enum-told .given .1)) (keyed .key-line .ensures)) ∙ n .loop .inv .2,
     )
-
-same-length-2 : tie.Need-same-length-2 Inv-loop μ-loop
-same-length-2 c = search needs
 
 returns-2 : tie.Need-returns-2 Inv-loop μ-loop
 unfolding all-keyed lines
@@ -119,23 +74,23 @@ key-lines-spec =
     Inv-loop
     μ-loop
     loop-holds
-    sub-line-end
-    part-line-end-start
-    part-line-end-end
-    line-end-requires
-    add-end
-    sub-key-line
-    part-key-line-start
-    part-key-line-end
-    key-line-requires
+    (λ c. search needs)
+    (λ c. search needs)
+    (λ c. search needs)
+    (λ c κs. search needs)
+    (λ c. search needs)
+    (λ c. search needs)
+    (λ c. search needs)
+    (λ c. search needs)
+    (λ c κs. search needs)
     enum-told
-    enum-told-2
-    same-length
+    (λ c. search needs)
+    (λ c. search needs)
     returns
-    add-at
-    loop-less
+    (λ c. search needs)
+    (λ c. search needs)
     loop-again
-    loop-less-2
+    (λ c. search needs)
     loop-again-2
-    same-length-2
+    (λ c. search needs)
     returns-2)

@@ -30,30 +30,6 @@ loop-holds : tie.Need-loop-holds Inv-loop μ-loop
 unfolding pieces option-lines filled placed
 loop-holds c = (omega arith, omega arith, refl, refl)
 
-mul-code : tie.Need-mul-code Inv-loop μ-loop
-mul-code c = search needs
-
-sub-put-option : tie.Need-sub-put-option Inv-loop μ-loop
-sub-put-option c = search needs
-
-part-put-option-start : tie.Need-part-put-option-start Inv-loop μ-loop
-part-put-option-start c = search needs
-
-part-put-option-end : tie.Need-part-put-option-end Inv-loop μ-loop
-part-put-option-end c = search needs
-
-shared-slice-read-put-option : tie.Need-shared-slice-read-put-option Inv-loop μ-loop
-shared-slice-read-put-option c = search needs
-
-sub-put-option-2 : tie.Need-sub-put-option-2 Inv-loop μ-loop
-sub-put-option-2 c = search needs
-
-part-put-option-start-2 : tie.Need-part-put-option-start-2 Inv-loop μ-loop
-part-put-option-start-2 c = search needs
-
-part-put-option-end-2 : tie.Need-part-put-option-end-2 Inv-loop μ-loop
-part-put-option-end-2 c = search needs
-
 put-option-requires : tie.Need-put-option-requires Inv-loop μ-loop
 put-option-requires c κs =
     let n = c .before .before .before .before in
@@ -78,12 +54,6 @@ line-here c =
 add-at : tie.Need-add-at Inv-loop μ-loop
 add-at c = omega (arith, line-here c)
 
-add-i : tie.Need-add-i Inv-loop μ-loop
-add-i c = search needs
-
-loop-less : tie.Need-loop-less Inv-loop μ-loop
-loop-less c = search needs
-
 loop-again : tie.Need-loop-again Inv-loop μ-loop
 loop-again c =
     let n = c .before .before .before .before .before .before .before in
@@ -94,9 +64,6 @@ loop-again c =
       omega arith,
       options-more (start .args .codes .now) (start .args .marks .now) (start .args .out .now) (n .loop .i) (omega arith) (n .loop .inv .3) (omega arith) (call .ensures),
     )
-
-same-length : tie.Need-same-length Inv-loop μ-loop
-same-length c = search needs
 
 returns : tie.Need-returns Inv-loop μ-loop
 returns c =
@@ -112,18 +79,18 @@ put-options-spec =
     Inv-loop
     μ-loop
     loop-holds
-    mul-code
-    sub-put-option
-    part-put-option-start
-    part-put-option-end
-    shared-slice-read-put-option
-    sub-put-option-2
-    part-put-option-start-2
-    part-put-option-end-2
+    (λ c. search needs)
+    (λ c. search needs)
+    (λ c. search needs)
+    (λ c. search needs)
+    (λ c. search needs)
+    (λ c. search needs)
+    (λ c. search needs)
+    (λ c. search needs)
     put-option-requires
     add-at
-    add-i
-    loop-less
+    (λ c. search needs)
+    (λ c. search needs)
     loop-again
-    same-length
+    (λ c. search needs)
     returns)

@@ -44,12 +44,6 @@ mul-wide16 c = omega arith
 shared-slice-read-wide16 : tie.Need-shared-slice-read-wide16 Inv-loop μ-loop
 shared-slice-read-wide16 c = omega arith
 
-wide16-requires : tie.Need-wide16-requires Inv-loop μ-loop
-wide16-requires c κs = search needs
-
-is-literal-requires : tie.Need-is-literal-requires Inv-loop μ-loop
-is-literal-requires c κs = search needs
-
 add-sum : tie.Need-add-sum Inv-loop μ-loop
 add-sum c = omega arith
 
@@ -87,8 +81,8 @@ count-literals-spec =
     loop-holds
     mul-wide16
     shared-slice-read-wide16
-    wide16-requires
-    is-literal-requires
+    (λ c κs. search needs)
+    (λ c κs. search needs)
     add-sum
     add-i
     loop-less

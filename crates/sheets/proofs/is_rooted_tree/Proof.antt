@@ -41,12 +41,6 @@ abbrev μ-loop : tie.MeasureT-loop
 shared-slice-read-wide16 : tie.Need-shared-slice-read-wide16 Inv-loop μ-loop
 shared-slice-read-wide16 c = omega arith
 
-wide16-requires : tie.Need-wide16-requires Inv-loop μ-loop
-wide16-requires c κs = search needs
-
-kind-of-requires : tie.Need-kind-of-requires Inv-loop μ-loop
-kind-of-requires c κs = search needs
-
 returns : tie.Need-returns Inv-loop μ-loop
 returns c =
     let a = c .before .before .before .before .before .args in
@@ -67,9 +61,6 @@ mul-wide16 c = omega arith
 
 shared-slice-read-wide16-2 : tie.Need-shared-slice-read-wide16-2 Inv-loop μ-loop
 shared-slice-read-wide16-2 c = omega arith
-
-wide16-requires-2 : tie.Need-wide16-requires-2 Inv-loop μ-loop
-wide16-requires-2 c κs = search needs
 
 join-requires : tie.Need-join-requires Inv-loop μ-loop
 join-requires c κs =
@@ -102,12 +93,6 @@ decided c o e =
     let counted-all : scan (a .n) (slice 1 (a .used) (a .s .now)) ≡ o = rw first at (sym (n .loop .inv .2) ∙ e) in
     head-and-rest (a .n) (a .used) (a .s .now) (omega arith) (omega arith) ∙ rw (counted-all, ← h, ← k .ensures, n .before .if1 .left)
 
-enum-known-trees : tie.Need-enum-known-trees Inv-loop μ-loop
-enum-known-trees c = search needs
-
-children-of-requires : tie.Need-children-of-requires Inv-loop μ-loop
-children-of-requires c κs = search needs
-
 enum-told : tie.Need-enum-told Inv-loop μ-loop
 enum-told c = search needs
 
@@ -128,19 +113,19 @@ is-rooted-tree-spec =
     Inv-loop
     μ-loop
     shared-slice-read-wide16
-    wide16-requires
-    kind-of-requires
+    (λ c κs. search needs)
+    (λ c κs. search needs)
     returns
     loop-holds
     sub-i
     mul-wide16
     shared-slice-read-wide16-2
-    wide16-requires-2
+    (λ c κs. search needs)
     join-requires
     loop-less
     loop-again
-    enum-known-trees
-    children-of-requires
+    (λ c. search needs)
+    (λ c κs. search needs)
     enum-told
     returns-2
     returns-3)
