@@ -1,7 +1,7 @@
 // What calls answer: a result, or one refusal by its name.
 ghost use mathlib.Core.Path.{_≡_};
 ghost use Rattle.calls.specs.Refusals.{«refusal-number»};
-ghost use Rattle.answers.specs.Meaning.{refusalOf};
+ghost use Rattle.answers.specs.AnswerMeaning.{refusalOf};
 
 // Why a call is refused, in the order of the numbers 1 to 12.
 pub enum Refusal {

@@ -1,2 +1,2 @@
-pub mod Laws
+pub mod BookTests
 pub mod Found

@@ -6,8 +6,8 @@ ghost use Rattle.model.specs.Limits.{«head-length»};
 ghost use Rattle.model.specs.Book.{«head-in-limits»};
 ghost use Rattle.calls.specs.Calls.{checkOf, lookupOf};
 ghost use Rattle.calls.specs.Chains.{«part-refusal»};
-ghost use Rattle.call_laws.specs.Books.{Sized};
-ghost use Rattle.answers.specs.Meaning.{doneOf, dueOf, foundOf};
+ghost use Rattle.call_laws.specs.Books.{GoodHead};
+ghost use Rattle.answers.specs.AnswerMeaning.{doneOf, dueOf, foundOf};
 use answers::Done;
 use answers::Found;
 use answers::Refusal;
@@ -38,7 +38,7 @@ fn is_head(book: &[u8]) -> bool
 
 // What a book with a good head and the length due is refused for: its codes, its contents, its bodies, its weight.
 fn check_parts(book: &[u8], n: usize, m: usize, t: usize) -> Done
-    requires { ⌜ Sized (now book) n m t ⌝ }
+    requires { ⌜ GoodHead (now book) n m t ⌝ }
     ensures { λ r. ⌜ dueOf r ≡ «part-refusal» (now (book .entry)) ⌝ }
 {
     let contents = HEAD_LENGTH + CODE_LENGTH * n;

@@ -3,7 +3,7 @@
 ghost use mathlib.Core.Path.{_≡_};
 ghost use Rattle.calls.specs.Refusals.{«refusal-number»};
 ghost use Rattle.calls.specs.Calls.{checkOf, lookupOf};
-ghost use Rattle.answers.specs.Meaning.{refusalOf, doneOf, foundOf};
+ghost use Rattle.answers.specs.AnswerMeaning.{refusalOf, doneOf, foundOf};
 ghost use Rattle.c_calls.specs.Packed.{packedDone, packedValue, Fits};
 use answers::Done;
 use answers::Found;

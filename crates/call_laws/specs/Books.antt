@@ -18,7 +18,7 @@ use Rattle.theory.specs.Logic.{and-split, only-none, none-due}
 use Rattle.theory.specs.Loading.{Accepted}
 
 -- A book with a good head and the length due, and the numbers of its head.
-pub record Sized (b : List ℕ) (n m t : ℕ) : Type 0 where
+pub record GoodHead (b : List ℕ) (n m t : ℕ) : Type 0 where
   pub options : n ≡ word b 0
   pub rules : m ≡ word b 2
   pub nodes : t ≡ word b 4

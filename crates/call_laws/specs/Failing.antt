@@ -17,7 +17,7 @@ use Rattle.theory.specs.Logic.{true-false, and-split, and-join, or-split, or-le
 use Rattle.theory.specs.Literals.{is-same, same-self}
 use Rattle.theory.specs.Evaluation.{Set, fails-all, fails, values}
 use Rattle.theory.specs.Fine.{fine, fine-node}
-use Rattle.call_laws.specs.Calm.{Still, Calm}
+use Rattle.call_laws.specs.Irreducible.{Still, Calm}
 use Rattle.call_laws.specs.Standing.{stands, unit-mentions, unit-index}
 use Rattle.call_laws.specs.Still.{NoFalse, no-false, empty-or-two, literal-alone, nothing-to-lift, nothing-to-factor}
 

@@ -4,19 +4,19 @@ pub mod Valuations
 pub mod Soundness
 pub mod Reordered
 -- Where no rule applies.
-pub mod Calm
+pub mod Irreducible
 pub mod Standing
 pub mod Still
 pub mod Failing
 pub mod Normal
 -- Refusals: which one a chain gives; a book's test by test; what is known where a call is accepted.
-pub mod Due
+pub mod RefusalChains
 pub mod Books
 pub mod Accepted
 -- What each call does, and what a list of calls does: the account is kept; a settled run leaves a normal form.
 pub mod Effects
-pub mod Settled
+pub mod SettledLists
 -- Loading and writing, in terms of the calls.
-pub mod RoundTrips
+pub mod LoadingAndWriting
 -- The desk's lines, in terms of the calls.
 pub mod Keyed

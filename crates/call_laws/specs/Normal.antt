@@ -16,7 +16,7 @@ use Rattle.theory.specs.Literals.{same-is}
 use Rattle.theory.specs.Evaluation.{Set, some-inside, with-one, bridge}
 use Rattle.theory.specs.Clauses.{unit-derived, all-but-one}
 use Rattle.theory.specs.Fine.{fine}
-use Rattle.call_laws.specs.Calm.{Still, Calm, calm}
+use Rattle.call_laws.specs.Irreducible.{Still, Calm, calm}
 use Rattle.call_laws.specs.Standing.{unit-stands}
 use Rattle.call_laws.specs.Still.{NoFalse, only-false, complement-absent}
 use Rattle.call_laws.specs.Failing.{OnlyOne, root-fails}

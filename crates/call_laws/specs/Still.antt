@@ -15,7 +15,7 @@ use Rattle.model.specs.Rules.{neutral, deciding, shares, groups, absorb, omit, 
 use Rattle.theory.specs.Logic.{true-false, none-some, and-join, or-split, or-neither, either, fails-if, only-none}
 use Rattle.theory.specs.Literals.{same-is, complement-other, option-complement}
 use Rattle.theory.specs.Forests.{size-⊕, cut-at, size-after, size-zero, literal-here, conjunction-here, constant-here, groups-size, mentions-some, past-end}
-use Rattle.call_laws.specs.Calm.{Still}
+use Rattle.call_laws.specs.Irreducible.{Still}
 use Rattle.call_laws.specs.Standing.{stands, stands-⊕, stands-mentions, unit-index, group-index}
 
 -- None of the trees is false.

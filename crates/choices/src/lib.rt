@@ -1,7 +1,7 @@
 // Choices: an option taken or barred on a sheet.
 ghost use mathlib.Core.Path.{_≡_};
 ghost use Rattle.calls.specs.Calls.{chooseOf};
-ghost use Rattle.answers.specs.Meaning.{doneOf, afterCall};
+ghost use Rattle.answers.specs.AnswerMeaning.{doneOf, afterCall};
 use answers::Done;
 use answers::Refusal;
 use limits::LITERAL_WEIGHT;

@@ -4,7 +4,7 @@ ghost use Prim.Native.Nat.{_≤_};
 ghost use lib.ListN.{length};
 ghost use Rattle.calls.specs.Calls.{lookupOf};
 ghost use Rattle.calls.specs.Desk.{lines, «choose-found», keyed, «all-keyed»};
-ghost use Rattle.answers.specs.Meaning.{doneOf, foundOf, afterCall};
+ghost use Rattle.answers.specs.AnswerMeaning.{doneOf, foundOf, afterCall};
 ghost use Rattle.keying.specs.Endings.{ending, dropped};
 use answers::Done;
 use answers::Found;

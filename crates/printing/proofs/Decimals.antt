@@ -12,7 +12,7 @@ use Rattle.calls.specs.Desk.{digits, decimal}
 use Rattle.theory.specs.Logic.{either}
 use Rattle.lists.proofs.Starts.{start-more}
 use Rattle.printing.specs.Placed.{after, filled}
-use Rattle.printing.proofs.Laws.{placed-by, placed-count, placed-buffer}
+use Rattle.printing.proofs.PlacedBytes.{placed-by, placed-count, placed-buffer}
 
 module _ (most n : ℕ) where
   digits-small : n < 10 → digits (suc most) n ≡ (48 + n) ∷ []

@@ -1,3 +1,3 @@
-pub mod Laws
+pub mod PlacedBytes
 pub mod Decimals
 pub mod Options

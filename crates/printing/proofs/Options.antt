@@ -16,7 +16,7 @@ use Rattle.model.specs.Book.{characters, pieces}
 use Rattle.calls.specs.Desk.{line, mark-word, option-lines}
 use Rattle.codes.proofs.Pieces.{count-pieces, pieces-more}
 use Rattle.printing.specs.Placed.{after, filled}
-use Rattle.printing.proofs.Laws.{length-line, placed-then}
+use Rattle.printing.proofs.PlacedBytes.{length-line, placed-then}
 
 -- The characters of a code of which k were passed.
 module _ (s : List ℕ) (k : ℕ) (long : 13 ≤ length s) (h : k < 13) where

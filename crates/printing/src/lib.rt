@@ -5,7 +5,7 @@ ghost use lib.ListN.{length, take, set};
 ghost use Rattle.model.specs.Book.{characters, pieces};
 ghost use Rattle.calls.specs.Refusals.{«refusal-number»};
 ghost use Rattle.calls.specs.Desk.{decimal, line, «mark-word», «refused-word», «first-line», «option-lines»};
-ghost use Rattle.answers.specs.Meaning.{refusalOf};
+ghost use Rattle.answers.specs.AnswerMeaning.{refusalOf};
 ghost use Rattle.printing.specs.Placed.{after, filled};
 use answers::Refusal;
 

@@ -3,7 +3,7 @@
 ghost use mathlib.Core.Path.{_≡_};
 ghost use Rattle.calls.specs.Calls.{loadOf, writeOf, reportOf, completeOf, chooseOf, stepOf, runOf};
 ghost use Rattle.c_calls.specs.Packed.{packedDone, packedValue};
-ghost use Rattle.probe.specs.Values.{packedBool, packedRan};
+ghost use Rattle.probe.specs.PackedValues.{packedBool, packedRan};
 use reports::Completed;
 use reports::Reported;
 use runs::Ran;

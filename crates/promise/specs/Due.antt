@@ -17,7 +17,7 @@ use Rattle.calls.specs.Conditions.{has-option, has-code, is-full, applies, is-b
 use Rattle.calls.specs.Chains.{part-refusal, book-refusal, lookup-refusal, load-refusal, write-refusal, report-refusal}
 use Rattle.calls.specs.Chains.{complete-refusal, choose-refusal, step-refusal, run-refusal}
 use Rattle.calls.specs.Calls.{checkOf, lookupOf, loadOf, writeOf, reportOf, completeOf, chooseOf, stepOf, runOf}
-use Rattle.call_laws.specs.Due.{Test, _on_, first-due, By-chain, first-append, first-last, answered, answered-lent}
+use Rattle.call_laws.specs.RefusalChains.{Test, _on_, first-due, By-chain, first-append, first-last, answered, answered-lent}
 
 -- "The book as 1 (under 8), 2, 1, 3, 4, 5, 6."
 unfoldable pub of-book : List ℕ → List Test

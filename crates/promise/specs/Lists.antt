@@ -21,10 +21,10 @@ use Rattle.theory.specs.Steps.{steps-bound}
 use Rattle.call_laws.specs.Valuations.{same-of, same-report, same-contradictory, same-derived}
 use Rattle.theory.specs.Loading.{Accepted, loaded-sheet, loaded-meaning}
 use Rattle.call_laws.specs.Books.{accepted-book}
-use Rattle.call_laws.specs.RoundTrips.{load-accepted}
+use Rattle.call_laws.specs.LoadingAndWriting.{load-accepted}
 use Rattle.theory.specs.Sheets.{sheet-shaped, options-made}
 use Rattle.call_laws.specs.Effects.{Keeps, calls-effect}
-use Rattle.call_laws.specs.Settled.{ends-no-rule, sheet-normal}
+use Rattle.call_laws.specs.SettledLists.{ends-no-rule, sheet-normal}
 use Rattle.promise.specs.Refusals.{check-none}
 use Rattle.promise.specs.Reports.{reported, Reported, report-given, propagation-exact}
 

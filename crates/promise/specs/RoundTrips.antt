@@ -11,7 +11,7 @@ use Rattle.model.specs.Limits.{sheet-length}
 use Rattle.calls.specs.Outcomes.{accepted}
 use Rattle.calls.specs.Calls.{checkOf, loadOf, writeOf}
 use Rattle.call_laws.specs.Books.{accepted-book, book-accepted}
-use Rattle.call_laws.specs.RoundTrips as round
+use Rattle.call_laws.specs.LoadingAndWriting as round
 use Rattle.theory.specs.Writing.{written-accepted, written-loads}
 use Rattle.theory.specs.Sheets.{sheet-formed}
 use Rattle.promise.specs.Refusals.{check-none}

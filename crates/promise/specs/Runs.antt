@@ -15,7 +15,7 @@ use Rattle.calls.specs.Calls.{Ran, checkOf, loadOf, runOf}
 use Rattle.calls.specs.History.{Call, run, State, after-calls, loaded, account-calls, chooses, is-stretch}
 use Rattle.calls.specs.History.{steps-of-call, steps-of, says-settled, ends-settled}
 use Rattle.call_laws.specs.Effects.{run-outcome}
-use Rattle.call_laws.specs.Settled.{ends-last, run-enough}
+use Rattle.call_laws.specs.SettledLists.{ends-last, run-enough}
 use Rattle.promise.specs.Lists.{Normal, demand-3}
 
 -- A run on a sheet is accepted, and its count is at most the cube of n + 2l.

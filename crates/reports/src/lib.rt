@@ -1,8 +1,8 @@
 // The report, and the "complete" question.
 ghost use mathlib.Core.Path.{_≡_};
 ghost use Rattle.calls.specs.Calls.{reportOf, completeOf};
-ghost use Rattle.answers.specs.Meaning.{afterCall};
-ghost use Rattle.reports.specs.Meaning.{reportedOf, completedOf};
+ghost use Rattle.answers.specs.AnswerMeaning.{afterCall};
+ghost use Rattle.reports.specs.ReportMeaning.{reportedOf, completedOf};
 use answers::Refusal;
 
 // What a report says beside its bytes.

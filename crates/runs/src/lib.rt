@@ -1,8 +1,8 @@
 // Runs of the strategy's steps, with a budget.
 ghost use mathlib.Core.Path.{_≡_};
 ghost use Rattle.calls.specs.Calls.{runOf};
-ghost use Rattle.answers.specs.Meaning.{afterCall};
-ghost use Rattle.runs.specs.Meaning.{ranOf};
+ghost use Rattle.answers.specs.AnswerMeaning.{afterCall};
+ghost use Rattle.runs.specs.RunMeaning.{ranOf};
 use answers::Refusal;
 
 // What a run answers: whether a rule still applies, and the number of steps done.

@@ -26,13 +26,13 @@ use Rattle.call_laws.specs.Accepted.{choose-accepted}
 use Rattle.theory.specs.Logic.{either}
 use Rattle.theory.specs.Sheets.{sheet-shaped, sheet-options, nodes-made}
 use Rattle.theory.specs.Choice.{chosen-shaped, chosen-weight}
-use Rattle.answers.specs.Meaning.{afterCall}
-use Rattle.books.proofs.Laws.{head-limits, length-is}
-use Rattle.transfer.proofs.Calls as transfer
+use Rattle.answers.specs.AnswerMeaning.{afterCall}
+use Rattle.books.proofs.BookTests.{head-limits, length-is}
+use Rattle.transfer.proofs.TransferAnswers as transfer
 use Rattle.keying.specs.Endings.{ending}
-use Rattle.keying.proofs.Laws.{first-of-lines}
+use Rattle.keying.proofs.KeyedLines.{first-of-lines}
 use Rattle.printing.proofs.Options.{few-characters}
-use Rattle.sessions.proofs.Laws.{chosen-lines, loaded-lines, desk-is, load-refused}
+use Rattle.sessions.proofs.PrintedAnswers.{chosen-lines, loaded-lines, desk-is, load-refused}
 
 -- A code of more than 13 characters is no option's.
 longer : (a b : List ℕ) → length b < length a → same-list a b ≡ false

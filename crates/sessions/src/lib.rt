@@ -9,7 +9,7 @@ ghost use Rattle.model.specs.Book.{«options-of», «codes-of»};
 ghost use Rattle.calls.specs.Chains.{«book-refusal»};
 ghost use Rattle.calls.specs.Calls.{runOf, reportOf};
 ghost use Rattle.calls.specs.Desk.{printed, «first-line», «option-lines», «desk-budget»};
-ghost use Rattle.answers.specs.Meaning.{doneOf};
+ghost use Rattle.answers.specs.AnswerMeaning.{doneOf};
 ghost use Rattle.printing.specs.Placed.{after, filled};
 ghost use Rattle.sessions.specs.Session.{«told-lines», «ran-lines», sessionOf};
 use answers::Done;

@@ -2,7 +2,7 @@
 ghost use mathlib.Core.Path.{_≡_};
 ghost use Rattle.calls.specs.Calls.{stepOf};
 ghost use Rattle.model.specs.Code.{children};
-ghost use Rattle.answers.specs.Meaning.{doneOf, afterCall};
+ghost use Rattle.answers.specs.AnswerMeaning.{doneOf, afterCall};
 use answers::Done;
 use answers::Refusal;
 

@@ -2,7 +2,7 @@
 ghost use mathlib.Core.Path.{_≡_};
 ghost use Rattle.calls.specs.Calls.{loadOf, writeOf};
 ghost use Rattle.model.specs.Code.{children};
-ghost use Rattle.answers.specs.Meaning.{doneOf, foundOf, afterCall};
+ghost use Rattle.answers.specs.AnswerMeaning.{doneOf, foundOf, afterCall};
 use answers::Done;
 use answers::Found;
 use answers::Refusal;

@@ -8,7 +8,7 @@ use borrow.Author.Tests.{not-true, not-false, lt-ltb, le-ltb, eq-eqb, ne-eqb}
 use Rattle.model.specs.Limits.{most-options, most-rules, most-nodes}
 use Rattle.model.specs.Book.{head-in-limits}
 use Rattle.call_laws.specs.Books.{too-short, bad-head, bad-length, then-parts}
-use Rattle.books.proofs.Laws.{head-limits, length-is, refused-by, done-by}
+use Rattle.books.proofs.BookTests.{head-limits, length-is, refused-by, done-by}
 use Rattle.books.proofs.check.Statement.{statement}
 use Rattle.books.proofs.check.Tie as tie
 

@@ -5,7 +5,7 @@ use native.Mathlib.Omega.{arith}
 use borrow.Author.Needs.{needs}
 use borrow.Author.Tests.{not-true, not-false}
 use Rattle.calls.specs.Conditions.{has-good-codes, has-good-contents, has-good-bodies}
-use Rattle.books.proofs.Laws.{codes-test, contents-test, bodies-test, weight-test, codes-bad, contents-bad, bodies-bad, weight-bad, all-good, few-literals}
+use Rattle.books.proofs.BookTests.{codes-test, contents-test, bodies-test, weight-test, codes-bad, contents-bad, bodies-bad, weight-bad, all-good, few-literals}
 use Rattle.books.proofs.check_parts.Statement.{statement}
 use Rattle.books.proofs.check_parts.Tie as tie
 

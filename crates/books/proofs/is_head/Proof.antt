@@ -8,7 +8,7 @@ use borrow.Author.Tests.{le-leb, lt-leb}
 use lib.Dec.{eqb}
 use Rattle.model.specs.Limits.{most-options, most-rules, most-nodes}
 use Rattle.model.specs.Book.{word, head-in-limits}
-use Rattle.books.proofs.Laws.{head-tests}
+use Rattle.books.proofs.BookTests.{head-tests}
 use Rattle.books.proofs.is_head.Statement.{statement}
 use Rattle.books.proofs.is_head.Tie as tie
 

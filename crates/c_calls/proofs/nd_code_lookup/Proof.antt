@@ -2,7 +2,7 @@
 use mathlib.Core.Path.{ap, _∙_}
 use borrow.Author.Needs.{needs}
 use Rattle.c_calls.specs.Packed.{packedValue}
-use Rattle.c_calls.proofs.Laws.{lookup-fits}
+use Rattle.c_calls.proofs.LookupFits.{lookup-fits}
 use Rattle.c_calls.proofs.nd_code_lookup.Statement.{statement}
 use Rattle.c_calls.proofs.nd_code_lookup.Tie as tie
 

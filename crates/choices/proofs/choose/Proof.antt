@@ -10,7 +10,7 @@ use borrow.Rule.Slice.PartAt.{part-to-end}
 use Rattle.model.specs.Code.{weight}
 use Rattle.model.specs.Sheet.{is-sheet, options-in, nodes-in}
 use Rattle.theory.specs.Sheets.{sheet-weight, sheet-formed}
-use Rattle.choices.proofs.Laws.{weight-counted, no-sheet, no-option, no-room, accepted-choice, sheet-first}
+use Rattle.choices.proofs.ChoiceAnswers.{weight-counted, no-sheet, no-option, no-room, accepted-choice, sheet-first}
 use Rattle.choices.proofs.choose.Statement.{statement}
 use Rattle.choices.proofs.choose.Tie as tie
 

@@ -2,9 +2,9 @@
 use mathlib.Core.Path.{sym, ap, _∙_}
 use native.Mathlib.Omega.{arith}
 use borrow.Author.Needs.{needs}
-use Rattle.answers.specs.Meaning.{foundOf}
+use Rattle.answers.specs.AnswerMeaning.{foundOf}
 use Rattle.books.proofs.Found.{found-small}
-use Rattle.keying.proofs.Laws.{choose-refused, choose-value}
+use Rattle.keying.proofs.KeyedLines.{choose-refused, choose-value}
 use Rattle.keying.proofs.choose_code.Statement.{statement}
 use Rattle.keying.proofs.choose_code.Tie as tie
 

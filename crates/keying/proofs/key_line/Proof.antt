@@ -5,7 +5,7 @@ use borrow.Author.Needs.{needs}
 use borrow.Rule.Slice.PartAt.{part-to-end}
 use Rattle.calls.specs.Calls.{lookupOf}
 use Rattle.calls.specs.Desk.{choose-found}
-use Rattle.keying.proofs.Laws.{keyed-empty, keyed-plus, keyed-minus, keyed-other}
+use Rattle.keying.proofs.KeyedLines.{keyed-empty, keyed-plus, keyed-minus, keyed-other}
 use Rattle.keying.proofs.key_line.Statement.{statement}
 use Rattle.keying.proofs.key_line.Tie as tie
 

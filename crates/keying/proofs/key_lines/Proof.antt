@@ -6,8 +6,8 @@ use borrow.Author.Needs.{needs}
 use lib.ListN.{length, drop}
 use lib.Seq.{drop-length}
 use Rattle.calls.specs.Desk.{lines, all-keyed}
-use Rattle.answers.specs.Meaning.{doneOf}
-use Rattle.keying.proofs.Laws.{keyed-stop, keyed-on, keyed-last}
+use Rattle.answers.specs.AnswerMeaning.{doneOf}
+use Rattle.keying.proofs.KeyedLines.{keyed-stop, keyed-on, keyed-last}
 use Rattle.keying.proofs.key_lines.Statement.{statement}
 use Rattle.keying.proofs.key_lines.Tie as tie
 

@@ -5,7 +5,7 @@ use native.Mathlib.Omega.{arith}
 use borrow.Author.Needs.{needs}
 use lib.ListN.{length, drop}
 use Rattle.keying.specs.Endings.{ending}
-use Rattle.keying.proofs.Laws.{ending-here, ending-later, ending-none}
+use Rattle.keying.proofs.KeyedLines.{ending-here, ending-later, ending-none}
 use Rattle.keying.proofs.line_end.Statement.{statement}
 use Rattle.keying.proofs.line_end.Tie as tie
 

@@ -1,7 +1,7 @@
 -- `keying::without_number` meets its contract, case by case.
 use mathlib.Core.Path.{sym, ap}
 use borrow.Author.Needs.{needs}
-use Rattle.answers.specs.Meaning.{foundOf}
+use Rattle.answers.specs.AnswerMeaning.{foundOf}
 use Rattle.keying.specs.Endings.{dropped}
 use Rattle.keying.proofs.without_number.Statement.{statement}
 use Rattle.keying.proofs.without_number.Tie as tie

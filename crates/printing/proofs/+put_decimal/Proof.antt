@@ -6,7 +6,7 @@ use borrow.Author.Needs.{needs}
 use borrow.Fn.Kinds.{In}
 use borrow.Fn.PlainCycle.{Measures, is, falls, and}
 use Rattle.calls.specs.Desk.{decimal}
-use Rattle.printing.proofs.Laws.{placed-count}
+use Rattle.printing.proofs.PlacedBytes.{placed-count}
 use Rattle.printing.proofs.Decimals.{length-small, length-large, decimal-one, decimal-more}
 use Rattle.printing.proofs.put_decimal.Reads as put-decimal
 use Rattle.printing.proofs.put_decimal.Kinds as put-decimal-kinds

@@ -6,7 +6,7 @@ use lib.ListN.{replicate}
 use lib.Seq.{length-take-le}
 use Rattle.calls.specs.Desk.{decimal, line}
 use Rattle.printing.specs.Placed.{filled}
-use Rattle.printing.proofs.Laws.{placed-count, placed-within, placed-start}
+use Rattle.printing.proofs.PlacedBytes.{placed-count, placed-within, placed-start}
 use Rattle.printing.proofs.Decimals.{twenty-digits}
 use Rattle.printing.proofs.put_counted.Statement.{statement}
 use Rattle.printing.proofs.put_counted.Tie as tie

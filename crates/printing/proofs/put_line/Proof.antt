@@ -1,7 +1,7 @@
 -- `printing::put_line` meets its contract: the space and the line end, the first word, and the second in the rest that is lent.
 use native.Mathlib.Omega.{arith}
 use borrow.Author.Needs.{needs}
-use Rattle.printing.proofs.Laws.{line-written}
+use Rattle.printing.proofs.PlacedBytes.{line-written}
 use Rattle.printing.proofs.put_line.Statement.{statement}
 use Rattle.printing.proofs.put_line.Tie as tie
 

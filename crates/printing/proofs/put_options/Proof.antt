@@ -11,7 +11,7 @@ use Rattle.model.specs.Book.{characters, pieces}
 use Rattle.calls.specs.Desk.{line, mark-word, option-lines}
 use Rattle.model.specs.Base.{placed}
 use Rattle.printing.specs.Placed.{after, filled}
-use Rattle.printing.proofs.Laws.{placed-count}
+use Rattle.printing.proofs.PlacedBytes.{placed-count}
 use Rattle.printing.proofs.Options.{options-more, option-short}
 use Rattle.printing.proofs.put_options.Statement.{statement}
 use Rattle.printing.proofs.put_options.Tie as tie

@@ -1,7 +1,7 @@
 -- `probe::nd_choose` meets its contract: the choice's answer as one number, and the sheet.
 use borrow.Author.Needs.{needs}
 use Rattle.c_calls.specs.Packed.{packedDone}
-use Rattle.probe.proofs.Laws.{told}
+use Rattle.probe.proofs.SheetCallsFit.{told}
 use Rattle.probe.proofs.nd_choose.Statement.{statement}
 use Rattle.probe.proofs.nd_choose.Tie as tie
 

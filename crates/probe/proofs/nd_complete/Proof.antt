@@ -2,8 +2,8 @@
 use mathlib.Core.Path.{sym, ap, _∙_}
 use borrow.Author.Needs.{needs}
 use Rattle.model.specs.Base.{pick}
-use Rattle.reports.specs.Meaning.{completedOf}
-use Rattle.probe.specs.Values.{packedBool}
+use Rattle.reports.specs.ReportMeaning.{completedOf}
+use Rattle.probe.specs.PackedValues.{packedBool}
 use Rattle.probe.proofs.nd_complete.Statement.{statement}
 use Rattle.probe.proofs.nd_complete.Tie as tie
 

@@ -2,9 +2,9 @@
 use mathlib.Core.Path.{sym, ap, _∙_}
 use borrow.Author.Needs.{needs}
 use Rattle.model.specs.Base.{pick}
-use Rattle.reports.specs.Meaning.{reportedOf}
-use Rattle.probe.specs.Values.{packedBool}
-use Rattle.probe.proofs.Laws.{told}
+use Rattle.reports.specs.ReportMeaning.{reportedOf}
+use Rattle.probe.specs.PackedValues.{packedBool}
+use Rattle.probe.proofs.SheetCallsFit.{told}
 use Rattle.probe.proofs.nd_report.Statement.{statement}
 use Rattle.probe.proofs.nd_report.Tie as tie
 

@@ -5,9 +5,9 @@ use Prim.Native.Nat.{_≤_}
 use native.Mathlib.Omega.{arith}
 use borrow.Author.Needs.{needs}
 use Rattle.model.specs.Base.{pick}
-use Rattle.runs.specs.Meaning.{ranOf}
-use Rattle.probe.specs.Values.{packedRan}
-use Rattle.probe.proofs.Laws.{told, run-fits}
+use Rattle.runs.specs.RunMeaning.{ranOf}
+use Rattle.probe.specs.PackedValues.{packedRan}
+use Rattle.probe.proofs.SheetCallsFit.{told, run-fits}
 use Rattle.probe.proofs.nd_run.Statement.{statement}
 use Rattle.probe.proofs.nd_run.Tie as tie
 

@@ -2,7 +2,7 @@
 use mathlib.Core.Path.{ap}
 use borrow.Author.Needs.{needs}
 use Rattle.c_calls.specs.Packed.{packedValue}
-use Rattle.probe.proofs.Laws.{told, write-fits}
+use Rattle.probe.proofs.SheetCallsFit.{told, write-fits}
 use Rattle.probe.proofs.nd_write.Statement.{statement}
 use Rattle.probe.proofs.nd_write.Tie as tie
 

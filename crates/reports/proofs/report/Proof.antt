@@ -13,7 +13,7 @@ use Rattle.calls.specs.Refusals.{sheet-refused, output-refused}
 use Rattle.calls.specs.Outcomes.{refused, accepted, outcome}
 use Rattle.calls.specs.Chains.{report-refusal}
 use Rattle.calls.specs.Calls.{reportOf}
-use Rattle.answers.specs.Meaning.{afterCall}
+use Rattle.answers.specs.AnswerMeaning.{afterCall}
 use Rattle.theory.specs.Sheets.{sheet-formed}
 use Rattle.reports.proofs.report.Statement.{statement}
 use Rattle.reports.proofs.report.Tie as tie

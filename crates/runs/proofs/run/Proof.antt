@@ -5,7 +5,7 @@ use borrow.Author.Needs.{needs}
 use borrow.Author.Tests.{not-true, not-false}
 use Rattle.model.specs.Sheet.{is-sheet}
 use Rattle.theory.specs.Sheets.{sheet-formed}
-use Rattle.runs.proofs.Laws.{no-sheet, done}
+use Rattle.runs.proofs.RunAnswers.{no-sheet, done}
 use Rattle.runs.proofs.run.Statement.{statement}
 use Rattle.runs.proofs.run.Tie as tie
 

@@ -11,8 +11,8 @@ use Rattle.model.specs.Book.{codes-of, pieces}
 use Rattle.calls.specs.Calls.{Ran}
 use Rattle.calls.specs.Desk.{first-line, option-lines}
 use Rattle.printing.specs.Placed.{filled}
-use Rattle.printing.proofs.Laws.{placed-count, placed-within, placed-then}
-use Rattle.sessions.proofs.Laws.{few-options, codes-fit, codes-lent, short-first}
+use Rattle.printing.proofs.PlacedBytes.{placed-count, placed-within, placed-then}
+use Rattle.sessions.proofs.PrintedAnswers.{few-options, codes-fit, codes-lent, short-first}
 use Rattle.sessions.proofs.put_lines.Statement.{statement}
 use Rattle.sessions.proofs.put_lines.Tie as tie
 

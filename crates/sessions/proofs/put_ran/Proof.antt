@@ -7,10 +7,10 @@ use lib.ListN.{length, take, replicate, length-replicate}
 use Rattle.model.specs.Limits.{most-options}
 use Rattle.model.specs.Book.{options-of}
 use Rattle.calls.specs.Desk.{desk-budget}
-use Rattle.answers.specs.Meaning.{afterCall}
-use Rattle.runs.specs.Meaning.{ranOf}
+use Rattle.answers.specs.AnswerMeaning.{afterCall}
+use Rattle.runs.specs.RunMeaning.{ranOf}
 use Rattle.printing.specs.Placed.{filled}
-use Rattle.sessions.proofs.Laws.{few-options, codes-fit, take-zeros, ran-accepted, ran-refused}
+use Rattle.sessions.proofs.PrintedAnswers.{few-options, codes-fit, take-zeros, ran-accepted, ran-refused}
 use Rattle.sessions.proofs.put_ran.Statement.{statement}
 use Rattle.sessions.proofs.put_ran.Tie as tie
 

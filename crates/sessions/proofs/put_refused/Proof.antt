@@ -4,7 +4,7 @@ use mathlib.Core.Path.{sym, ap, _∙_}
 use borrow.Author.Needs.{needs}
 use Rattle.model.specs.Base.{placed}
 use Rattle.calls.specs.Desk.{printed}
-use Rattle.answers.specs.Meaning.{doneOf}
+use Rattle.answers.specs.AnswerMeaning.{doneOf}
 use Rattle.printing.specs.Placed.{filled}
 use Rattle.sessions.proofs.put_refused.Statement.{statement}
 use Rattle.sessions.proofs.put_refused.Tie as tie

@@ -1,10 +1,10 @@
 -- `sessions::put_told` meets its contract: each answer of the report, and what is printed of it.
 use mathlib.Core.Path.{sym, ap, _∙_}
 use borrow.Author.Needs.{needs}
-use Rattle.answers.specs.Meaning.{afterCall}
-use Rattle.reports.specs.Meaning.{reportedOf}
+use Rattle.answers.specs.AnswerMeaning.{afterCall}
+use Rattle.reports.specs.ReportMeaning.{reportedOf}
 use Rattle.printing.specs.Placed.{filled}
-use Rattle.sessions.proofs.Laws.{told-consistent, told-contradictory, told-refused}
+use Rattle.sessions.proofs.PrintedAnswers.{told-consistent, told-contradictory, told-refused}
 use Rattle.sessions.proofs.put_told.Statement.{statement}
 use Rattle.sessions.proofs.put_told.Tie as tie
 

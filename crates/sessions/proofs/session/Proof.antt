@@ -5,8 +5,8 @@ use Prim.Native.Nat.{ℕ}
 use borrow.Author.Needs.{needs}
 use lib.ListN.{replicate, length-replicate}
 use Rattle.model.specs.Limits.{sheet-length}
-use Rattle.answers.specs.Meaning.{doneOf, afterCall}
-use Rattle.sessions.proofs.Laws.{load-refused, keys-refused, keys-accepted, loaded-good, session-short, session-printed}
+use Rattle.answers.specs.AnswerMeaning.{doneOf, afterCall}
+use Rattle.sessions.proofs.PrintedAnswers.{load-refused, keys-refused, keys-accepted, loaded-good, session-short, session-printed}
 use Rattle.sessions.proofs.session.Statement.{statement}
 use Rattle.sessions.proofs.session.Tie as tie
 

@@ -13,7 +13,7 @@ use Rattle.model.specs.Sheet.{is-sheet, nodes-in}
 use Rattle.theory.specs.Bounds.{rule-within}
 use Rattle.theory.specs.Places.{Lent, lend, sheet-long, used-here}
 use Rattle.theory.specs.Sheets.{sheet-formed}
-use Rattle.steps.proofs.Laws.{no-sheet, no-rule, no-place, no-step, accepted-step}
+use Rattle.steps.proofs.StepAnswers.{no-sheet, no-rule, no-place, no-step, accepted-step}
 use Rattle.steps.proofs.step.Statement.{statement}
 use Rattle.steps.proofs.step.Tie as tie
 

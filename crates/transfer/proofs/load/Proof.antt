@@ -4,8 +4,8 @@ use mathlib.Core.Path.{_≡_, sym, ap, _∙_}
 use borrow.Author.Needs.{needs}
 use Rattle.calls.specs.Chains.{book-refusal}
 use Rattle.call_laws.specs.Books.{accepted-book}
-use Rattle.answers.specs.Meaning.{doneOf}
-use Rattle.transfer.proofs.Calls.{check-none, check-some, load-short, load-refused, load-done}
+use Rattle.answers.specs.AnswerMeaning.{doneOf}
+use Rattle.transfer.proofs.TransferAnswers.{check-none, check-some, load-short, load-refused, load-done}
 use Rattle.transfer.proofs.load.Statement.{statement}
 use Rattle.transfer.proofs.load.Tie as tie
 

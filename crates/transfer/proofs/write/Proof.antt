@@ -12,11 +12,11 @@ use Rattle.model.specs.Sheet.{options-in, used-in, is-sheet}
 use Rattle.model.specs.Book.{options-of, written}
 use Rattle.calls.specs.Chains.{book-refusal}
 use Rattle.call_laws.specs.Books.{accepted-book}
-use Rattle.answers.specs.Meaning.{doneOf}
+use Rattle.answers.specs.AnswerMeaning.{doneOf}
 use Rattle.theory.specs.Sheets.{sheet-formed}
 use Rattle.loading.proofs.Loaded.{head-of}
 use Rattle.writing.proofs.Written.{length-written}
-use Rattle.transfer.proofs.Calls.{check-none, check-some, write-none, write-refused, write-other, write-short, write-done}
+use Rattle.transfer.proofs.TransferAnswers.{check-none, check-some, write-none, write-refused, write-other, write-short, write-done}
 use Rattle.transfer.proofs.write.Statement.{statement}
 use Rattle.transfer.proofs.write.Tie as tie
 

@@ -15,7 +15,7 @@ use Rattle.calls.specs.Refusals.{Refusal, option-refused}
 use Rattle.calls.specs.Outcomes.{Answer, refused, accepted}
 use Rattle.calls.specs.Calls.{lookupOf, chooseOf}
 use Rattle.calls.specs.Desk.{before-line, lines, choose-found, keyed, go-on, all-keyed}
-use Rattle.answers.specs.Meaning.{afterCall}
+use Rattle.answers.specs.AnswerMeaning.{afterCall}
 use Rattle.keying.specs.Endings.{ending, dropped}
 
 -- The choice of a code's option.

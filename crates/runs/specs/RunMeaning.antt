@@ -2,7 +2,7 @@
 use mathlib.Core.Bool.{true, false}
 use Rattle.calls.specs.Calls as M
 use Rattle.calls.specs.Outcomes.{Answer, refused, accepted}
-use Rattle.answers.specs.Meaning.{refusalOf}
+use Rattle.answers.specs.AnswerMeaning.{refusalOf}
 use Rattle.runs.specs.declared.Ran as R
 use Rattle.runs.specs.declared.Ran.the-variants as V₁
 

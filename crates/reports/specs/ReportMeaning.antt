@@ -1,7 +1,7 @@
 -- What each case of a report's answer, and of the answer to the "complete" question, is in the definitions.
 use mathlib.Core.Bool.{Bool, true, false}
 use Rattle.calls.specs.Outcomes.{Answer, refused, accepted}
-use Rattle.answers.specs.Meaning.{refusalOf}
+use Rattle.answers.specs.AnswerMeaning.{refusalOf}
 use Rattle.reports.specs.declared.Reported as R
 use Rattle.reports.specs.declared.Reported.the-variants as V₁
 use Rattle.reports.specs.declared.Completed as C

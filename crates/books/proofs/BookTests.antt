@@ -21,9 +21,9 @@ use Rattle.calls.specs.Calls.{checkOf, lookupOf}
 use Rattle.answers.specs.declared.Refusal.{Refusal as Why}
 use Rattle.answers.specs.declared.Done.{Done}
 use Rattle.answers.specs.declared.Done.the-variants.{Accepted, Refused}
-use Rattle.answers.specs.Meaning.{refusalOf, dueOf, doneOf}
+use Rattle.answers.specs.AnswerMeaning.{refusalOf, dueOf, doneOf}
 use Rattle.theory.specs.Logic.{and-split}
-use Rattle.call_laws.specs.Books.{Sized, accepted-book}
+use Rattle.call_laws.specs.Books.{GoodHead, accepted-book}
 use Rattle.theory.specs.Bytes.{length-words}
 use Rattle.theory.specs.Scan.{literals-within}
 
@@ -70,7 +70,7 @@ abbrev pub rest : List ℕ → ℕ → List ℕ
 rest b a = take (length b - a) (drop a b)
 
 -- The four tests as they are made, on the parts that are lent: the codes, the contents, the bodies, the weight.
-module _ {b : List ℕ} {n m t : ℕ} (s : Sized b n m t) where
+module _ {b : List ℕ} {n m t : ℕ} (s : GoodHead b n m t) where
   pub codes-test : {x : Bool} → x ≡ codes-ok (pieces 13 n (rest b 8)) → has-good-codes b ≡ x
   codes-test e =
       rw (codes-are b n m t (s .options) (s .rules) (s .nodes)) (sym (rw (part-to-end b 8) at e))

@@ -15,7 +15,7 @@ use Rattle.calls.specs.Refusals.{Refusal, sheet-refused, output-refused}
 use Rattle.calls.specs.Outcomes.{refused, accepted, answer, outcome}
 use Rattle.calls.specs.Chains.{book-refusal, load-refusal, write-refusal}
 use Rattle.calls.specs.Calls.{checkOf, loadOf, writeOf}
-use Rattle.answers.specs.Meaning.{afterCall}
+use Rattle.answers.specs.AnswerMeaning.{afterCall}
 
 -- What a check's answer says of the book.
 module _ (b : List ℕ) where

@@ -17,7 +17,7 @@ use Rattle.calls.specs.Refusals.{sheet-refused, option-refused, full-refused}
 use Rattle.calls.specs.Outcomes.{refused, accepted, outcome}
 use Rattle.calls.specs.Chains.{choose-refusal}
 use Rattle.calls.specs.Calls.{chooseOf}
-use Rattle.answers.specs.Meaning.{afterCall}
+use Rattle.answers.specs.AnswerMeaning.{afterCall}
 use Rattle.theory.specs.Sheets.{sheet-formed}
 
 -- The weight, as a choice counts it: the used count and the literals of the lent nodes.

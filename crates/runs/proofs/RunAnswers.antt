@@ -9,7 +9,7 @@ use Rattle.calls.specs.Refusals.{sheet-refused}
 use Rattle.calls.specs.Outcomes.{refused, accepted, outcome}
 use Rattle.calls.specs.Chains.{run-refusal}
 use Rattle.calls.specs.Calls.{runOf}
-use Rattle.answers.specs.Meaning.{afterCall}
+use Rattle.answers.specs.AnswerMeaning.{afterCall}
 use Rattle.theory.specs.Reached.{Ends}
 
 module _ (s : List ℕ) (budget : ℕ) where

@@ -13,7 +13,7 @@ use Rattle.calls.specs.Outcomes.{refused, accepted, outcome}
 use Rattle.calls.specs.Conditions.{applies}
 use Rattle.calls.specs.Chains.{step-refusal}
 use Rattle.calls.specs.Calls.{stepOf}
-use Rattle.answers.specs.Meaning.{afterCall}
+use Rattle.answers.specs.AnswerMeaning.{afterCall}
 use Rattle.theory.specs.Logic.{fails-if}
 use Rattle.theory.specs.Places.{place-used}
 use Rattle.theory.specs.Sheets.{sheet-formed}

@@ -19,7 +19,7 @@ use Rattle.theory.specs.Measure.{bulk}
 use Rattle.theory.specs.Reached.{run-bounded}
 use Rattle.call_laws.specs.Books.{accepted-book}
 use Rattle.call_laws.specs.Accepted.{accepted-due, write-accepted, run-accepted}
-use Rattle.answers.specs.Meaning.{afterCall}
+use Rattle.answers.specs.AnswerMeaning.{afterCall}
 use Rattle.writing.proofs.Written.{sizes-of, length-written}
 use Rattle.c_calls.specs.Packed.{Fits}
 

@@ -19,10 +19,10 @@ use Rattle.calls.specs.Chains.{book-refusal, load-refusal}
 use Rattle.calls.specs.Calls.{Ran, loadOf, runOf, reportOf}
 use Rattle.calls.specs.Desk.{lines, all-keyed, decimal, line, printed, refused-word, contradiction-word, settled-word, stopped-word, first-line, option-lines, desk-budget, deskOf}
 use Rattle.call_laws.specs.Books.{accepted-book}
-use Rattle.answers.specs.Meaning.{afterCall}
-use Rattle.books.proofs.Laws.{codes-room}
+use Rattle.answers.specs.AnswerMeaning.{afterCall}
+use Rattle.books.proofs.BookTests.{codes-room}
 use Rattle.printing.specs.Placed.{after, filled}
-use Rattle.printing.proofs.Laws.{length-line, placed-within}
+use Rattle.printing.proofs.PlacedBytes.{length-line, placed-within}
 use Rattle.printing.proofs.Decimals.{twenty-digits}
 use Rattle.sessions.specs.Session.{told-lines, ran-lines, sessionOf}
 
