@@ -12,7 +12,9 @@ use borrow.Rule.Slice.PartAt.{part-to-end}
 use Rattle.model.specs.Base.{all, only-if, first-of, is-some, maybe}
 use Rattle.model.specs.Code.{literals, weight, node-of}
 use Rattle.model.specs.Limits.{most-options, most-rules, most-nodes, most-weight}
-use Rattle.model.specs.Book.{word, words, entries, pieces, cut, codes-ok, option-of-code, in-line, body-ok, options-of, rules-of, size-of, head-in-limits, codes-end, contents-end, length-due, codes-of, contents-of, numbers-of, bodies-of, book-nodes}
+use Rattle.model.specs.Book.{word, words, entries, pieces, cut, codes-ok, option-of-code, in-line, body-ok, options-of, rules-of}
+use Rattle.model.specs.Book.{size-of, head-in-limits, codes-end, contents-end, length-due, codes-of, contents-of, numbers-of}
+use Rattle.model.specs.Book.{bodies-of, book-nodes}
 use Rattle.calls.specs.Refusals.{Refusal, code-refused, contents-refused, body-refused, weight-refused, option-refused}
 use Rattle.calls.specs.Outcomes.{refused, accepted, answer}
 use Rattle.calls.specs.Conditions.{has-good-codes, has-good-contents, has-good-bodies}
@@ -55,7 +57,9 @@ module _ (b : List ℕ) (n m t : ℕ) (pn : n ≡ word b 0) (pm : m ≡ word b 2
 
   pub weight-is : weight (book-nodes b) ≡ 1 + t + literals (map node-of (words t (drop (8 + 13 * n + 4 * m) b)))
   unfolding weight book-nodes literals
-  weight-is = rw numbers-are (omega (arith, length-map (words t (drop (8 + 13 * n + 4 * m) b)) node-of, length-words t (drop (8 + 13 * n + 4 * m) b)))
+  weight-is =
+      rw numbers-are
+      (omega (arith, length-map (words t (drop (8 + 13 * n + 4 * m) b)) node-of, length-words t (drop (8 + 13 * n + 4 * m) b)))
 
   -- A head within its limits.
   pub head-limits : head-in-limits b ≡ true → (n ≤ most-options) × (m ≤ most-rules) × (t ≤ most-nodes)
@@ -80,7 +84,10 @@ module _ {b : List ℕ} {n m t : ℕ} (s : GoodHead b n m t) where
   contents-test e =
       rw (contents-are b n m t (s .options) (s .rules) (s .nodes), ← s .nodes) (sym (rw (part-to-end b (8 + 13 * n)) at e))
 
-  pub bodies-test : {x : Bool} → x ≡ all (body-ok n) (cut (entries m (rest b (8 + 13 * n))) (words t (rest b (8 + 13 * n + 4 * m)))) → has-good-bodies b ≡ x
+  pub bodies-test :
+      {x : Bool} →
+      x ≡ all (body-ok n) (cut (entries m (rest b (8 + 13 * n))) (words t (rest b (8 + 13 * n + 4 * m)))) →
+      has-good-bodies b ≡ x
   unfolding options-of
   bodies-test e =
       rw (bodies-are b n m t (s .options) (s .rules) (s .nodes), ← s .options)
@@ -165,5 +172,9 @@ module _ (b code : List ℕ) (good : book-refusal b ≡ none) where
   lookup-missing e = rw (good, e)
 
 -- What was found among the codes, as they are lent.
-pub found-code : (b code : List ℕ) (n : ℕ) {o : Option ℕ} → n ≡ word b 0 → o ≡ option-of-code code 0 (pieces 13 n (rest b 8)) → option-of-code code 0 (codes-of b) ≡ o
+pub found-code :
+    (b code : List ℕ) (n : ℕ) {o : Option ℕ} →
+    n ≡ word b 0 →
+    o ≡ option-of-code code 0 (pieces 13 n (rest b 8)) →
+    option-of-code code 0 (codes-of b) ≡ o
 found-code b code n p e = rw (codes-are b n (word b 2) (word b 4) p refl refl, ← part-to-end b 8) (sym e)

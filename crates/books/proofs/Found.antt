@@ -22,7 +22,11 @@ unfolding option-of-code pick
 option-below given k [] e = none-some e
 option-below given k (c ∷ cs) {v} e = go (same-code given (characters c)) e (option-below given (suc k) cs)
   where
-    go : (t : Bool) → pick t (some k) (option-of-code given (suc k) cs) ≡ some v → (option-of-code given (suc k) cs ≡ some v → v < suc k + length cs) → v < k + length (c ∷ cs)
+    go :
+        (t : Bool) →
+        pick t (some k) (option-of-code given (suc k) cs) ≡ some v →
+        (option-of-code given (suc k) cs ≡ some v → v < suc k + length cs) →
+        v < k + length (c ∷ cs)
     go true q h = omega (arith, some-inj q)
     go false q h = omega (arith, h q)
 
@@ -30,7 +34,12 @@ pub found-small : (b code : List ℕ) (v : ℕ) → accepted v ≡ lookupOf b co
 unfolding lookupOf lookup-refusal answer maybe codes-of
 found-small b code v e = go _ (option-of-code code 0 (codes-of b)) refl refl e
   where
-    go : (x : Option Refusal) (o : Option ℕ) → lookup-refusal b code ≡ x → option-of-code code 0 (codes-of b) ≡ o → accepted v ≡ answer x (maybe 0 (λ w. w) o) → v ≤ most-options
+    go :
+        (x : Option Refusal) (o : Option ℕ) →
+        lookup-refusal b code ≡ x →
+        option-of-code code 0 (codes-of b) ≡ o →
+        accepted v ≡ answer x (maybe 0 (λ w. w) o) →
+        v ≤ most-options
     go (some r) o p q h = let z : _≡_ {A = ℕ} 0 1 = cc in absurd (omega arith)
     go none none p q h = let z : v ≡ 0 = cc in omega arith
     go none (some w) p q h =

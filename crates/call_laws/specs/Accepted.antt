@@ -19,7 +19,10 @@ use Rattle.calls.specs.Chains.{book-refusal, write-refusal, choose-refusal, ste
 use Rattle.theory.specs.Logic.{first-none, only-none, none-due}
 
 -- An accepted outcome: nothing was due, and the value is the one given.
-pub accepted-due : {L A : Type 0} (due : Option Refusal) (a v : A) (kept filled : L) → accepted v ≡ outcome due a kept filled .answer → (due ≡ none) × (v ≡ a)
+pub accepted-due :
+    {L A : Type 0} (due : Option Refusal) (a v : A) (kept filled : L) →
+    accepted v ≡ outcome due a kept filled .answer →
+    (due ≡ none) × (v ≡ a)
 unfolding outcome
 accepted-due none a v kept filled e = (refl, cc)
 accepted-due (some r) a v kept filled e = let z : _≡_ {A = ℕ} 0 1 = cc in absurd (omega arith)

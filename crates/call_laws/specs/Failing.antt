@@ -11,7 +11,8 @@ use borrow.Author.Tests.{eq-eqb}
 use lib.Dec.{ltb}
 use Rattle.model.specs.Base.{all, any}
 use Rattle.model.specs.Literal.{Literal, option, same}
-use Rattle.model.specs.Forest.{Conn, and, or, root, same-conn, Forest, nil, lit, node, size, first, after, literal-at, conjunction-at, constant-at, has-unit, mentions}
+use Rattle.model.specs.Forest.{Conn, and, or, root, same-conn, Forest, nil, lit, node, size, first, after, literal-at}
+use Rattle.model.specs.Forest.{conjunction-at, constant-at, has-unit, mentions}
 use Rattle.model.specs.Rules.{shares, groups}
 use Rattle.theory.specs.Logic.{true-false, and-split, and-join, or-split, or-left, or-right, or-neither, either}
 use Rattle.theory.specs.Literals.{is-same, same-self}
@@ -33,7 +34,12 @@ module _ (s : Set) (a : Literal) where
   FailBy (node c k f) = (fails s c k ≡ true → (c ≡ and) × (has-unit a k ≡ true)) × FailBy f
 
   -- Under a conjunction or the root such a conjunction would have been lifted from: it fails only if it has a itself.
-  some-fails : (f : Forest) → ((i : ℕ) (m : Forest) → conjunction-at (after i f) ≡ some m → has-unit a m ≡ false) → FailBy f → any (λ b. b) (values s f) ≡ true → has-unit a f ≡ true
+  some-fails :
+      (f : Forest) →
+      ((i : ℕ) (m : Forest) → conjunction-at (after i f) ≡ some m → has-unit a m ≡ false) →
+      FailBy f →
+      any (λ b. b) (values s f) ≡ true →
+      has-unit a f ≡ true
   unfolding fails values any has-unit after conjunction-at
   some-fails nil u w e = true-false (sym e)
   some-fails (lit x f) u w e =
@@ -84,11 +90,25 @@ module _ (s : Set) (a : Literal) where
           let t = all-share (node c m f) w e u in
           nothing-to-factor (node c m f) h a (t .0) (omega arith)
 
-  group-fails : (c : Conn) (k : Forest) → same-conn root c ≡ false → Still c k → constant-at or (node c k nil) ≡ false → (NoFalse k → FailBy k) → fails s c k ≡ true → (c ≡ and) × (has-unit a k ≡ true)
+  group-fails :
+      (c : Conn) (k : Forest) →
+      same-conn root c ≡ false →
+      Still c k →
+      constant-at or (node c k nil) ≡ false →
+      (NoFalse k → FailBy k) →
+      fails s c k ≡ true →
+      (c ≡ and) × (has-unit a k ≡ true)
   unfolding fails fails-all values any constant-at same-conn size
   group-fails c k n h u w e = go c n h u e (empty-or-two k c n h)
     where
-      go : (d : Conn) → same-conn root d ≡ false → Still d k → constant-at or (node d k nil) ≡ false → fails s d k ≡ true → (k ≡ nil) ⊎ (2 ≤ size k) → (d ≡ and) × (has-unit a k ≡ true)
+      go :
+          (d : Conn) →
+          same-conn root d ≡ false →
+          Still d k →
+          constant-at or (node d k nil) ≡ false →
+          fails s d k ≡ true →
+          (k ≡ nil) ⊎ (2 ≤ size k) →
+          (d ≡ and) × (has-unit a k ≡ true)
       go and n h u e (inl q) = true-false (sym e ∙ ap (fails s and) q)
       go or n h u e (inl q) = true-false (sym (eq-eqb (size k) 0 (ap size q)) ∙ u)
       go and n h u e (inr q) = (refl, some-fails k (nothing-to-lift k and refl h a) (w (no-false k and h q)) e)
@@ -107,6 +127,14 @@ module _ (s : Set) (a : Literal) where
       (group-fails c k (p .0) (w .0) (u 0) inner, fail-by n f (p .2) (w .2) (λ i. u (suc i)) (λ y r. o y (or-right (stands y k) r)))
 
   -- Where no rule applies and no child of the root is false, the root fails only if a is a unit.
-  pub root-fails : (n : ℕ) (k : Forest) → fine n k ≡ true → Still root k → Calm k → NoFalse k → OnlyOne k → fails s root k ≡ true → has-unit a k ≡ true
+  pub root-fails :
+      (n : ℕ) (k : Forest) →
+      fine n k ≡ true →
+      Still root k →
+      Calm k →
+      NoFalse k →
+      OnlyOne k →
+      fails s root k ≡ true →
+      has-unit a k ≡ true
   unfolding same-conn fails fails-all
   root-fails n k g h w u o e = some-fails k (nothing-to-lift k root refl h a) (fail-by n k g w u o) e

@@ -41,9 +41,15 @@ unfolding encode
 calm-before nil ns h = tt
 calm-before (lit l f) ns h = calm-before f ns (unchanged-after (leaf l ∷ []) (encode f ++ ns) h)
 calm-before (node c k f) ns h =
-    let read : decode (encode (node c k f) ++ ns) ≡ node c k (f ⊕ decode ns) = decode-encode-++ (node c k f) ns ∙ node-⊕ c k f (decode ns) in
-    let inner : Unchanged (encode k ++ (encode f ++ ns)) = subst Unchanged (append-assoc (encode k) (encode f) ns) (unchanged-after (head c (size k) ∷ []) ((encode k ++ encode f) ++ ns) h) in
-    (still-first c k (f ⊕ decode ns) (λ r i j. ap (rewrite r i j) (sym read) ∙ h r 0 i j), calm-before k (encode f ++ ns) inner, calm-before f ns (unchanged-after (encode k) (encode f ++ ns) inner))
+    let read : decode (encode (node c k f) ++ ns) ≡ node c k (f ⊕ decode ns) =
+    decode-encode-++ (node c k f) ns ∙ node-⊕ c k f (decode ns) in
+    let inner : Unchanged (encode k ++ (encode f ++ ns)) =
+    subst Unchanged (append-assoc (encode k) (encode f) ns)
+    (unchanged-after (head c (size k) ∷ []) ((encode k ++ encode f) ++ ns) h) in (
+      still-first c k (f ⊕ decode ns) (λ r i j. ap (rewrite r i j) (sym read) ∙ h r 0 i j),
+      calm-before k (encode f ++ ns) inner,
+      calm-before f ns (unchanged-after (encode k) (encode f ++ ns) inner),
+    )
 
 -- Where no rule applies to a forest's code, every node of the forest is still.
 pub calm : (f : Forest) → NoRule (encode f) → Calm f

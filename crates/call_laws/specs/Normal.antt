@@ -35,7 +35,8 @@ module _ (n : ℕ) (k : Forest) (g : fine n k ≡ true) (h : Still root k) (w : 
   derived-unit : {l : Literal} → Derived (clauses root k) l → has-unit l k ≡ true
   unfolding with-one refuted-by-units
   derived-unit {l} (derived c m q r) =
-      let alone : OnlyOne (with-one refuted-by-units l) l k = λ x e p. ⊎-elim (λ z. absurd (complement-absent k h x z e)) (same-is x l) (or-split (refuted-by-units x) (same x l) p) in
+      let alone : OnlyOne (with-one refuted-by-units l) l k =
+      λ x e p. ⊎-elim (λ z. absurd (complement-absent k h x z e)) (same-is x l) (or-split (refuted-by-units x) (same x l) p) in
       forced-unit (with-one refuted-by-units l) l alone c m (all-but-one refuted-by-units l c .1 (λ x i d. derived-unit (r x i d)))
 
   -- A contradiction would make every literal a unit, one and its complement.
@@ -43,7 +44,8 @@ module _ (n : ℕ) (k : Forest) (g : fine n k ≡ true) (h : Still root k) (w : 
   unfolding refuted-by-units complement
   consistent x =
       let inside = all-from refuted-by-units (x .0) (λ y i. derived-unit (x .2 y i)) in
-      let every : (l : Literal) → has-unit l k ≡ true = λ l. forced-unit refuted-by-units l (λ y e z. absurd (complement-absent k h y z e)) (x .0) (x .1) inside in
+      let every : (l : Literal) → has-unit l k ≡ true =
+      λ l. forced-unit refuted-by-units l (λ y e z. absurd (complement-absent k h y z e)) (x .0) (x .1) inside in
       complement-absent k h (pos 0) (every (neg 0)) (unit-stands (pos 0) k (every (pos 0)))
 
 -- The falsum sheet has one clause, the empty one, so it is contradictory.
@@ -52,7 +54,12 @@ unfolding clauses need some-of one-tree-more no-tree unions size
 falsum-contradictory = ([], List·Memᴰ·head refl, λ x m. absurd (List·Memᴰ·not-nil m))
 
 -- Where no rule applies, the sheet is the falsum sheet; or it is not contradictory, and its units are the derived literals.
-pub normal-form : (n : ℕ) (k : Forest) → fine n k ≡ true → NoRule (encode (node root k nil)) → (k ≡ node or nil nil) ⊎ ((Contradictory (clauses root k) → ⊥) × ((l : Literal) → (has-unit l k ≡ true) ↔ Derived (clauses root k) l))
+pub normal-form :
+    (n : ℕ) (k : Forest) →
+    fine n k ≡ true →
+    NoRule (encode (node root k nil)) →
+    (k ≡ node or nil nil) ⊎ ((Contradictory (clauses root k) → ⊥) × ((l : Literal) → (has-unit l k ≡ true) ↔ Derived (clauses root k) l))
 normal-form n k g r =
     let w = calm (node root k nil) r in
-    ⊎-elim inl (λ u. inr (consistent n k g (w .0) (w .1) u, λ l. (unit-derived l k, derived-unit n k g (w .0) (w .1) u))) (only-false k (w .0))
+    ⊎-elim inl (λ u. inr (consistent n k g (w .0) (w .1) u, λ l. (unit-derived l k, derived-unit n k g (w .0) (w .1) u)))
+    (only-false k (w .0))

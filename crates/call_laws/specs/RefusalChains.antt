@@ -44,7 +44,12 @@ module _ (r : Refusal) where
   first-given [] e = none-some e
   first-given (t ∷ ts) e = go (t .holds) refl e (first-given ts)
     where
-      go : (b : Bool) → t .holds ≡ b → first-of (only-if b (t .refusal)) (first-due ts) ≡ some r → (first-due ts ≡ some r → First r ts) → First r (t ∷ ts)
+      go :
+          (b : Bool) →
+          t .holds ≡ b →
+          first-of (only-if b (t .refusal)) (first-due ts) ≡ some r →
+          (first-due ts ≡ some r → First r ts) →
+          First r (t ∷ ts)
       go true h e f =
           record {
             earlier = [];
@@ -74,7 +79,8 @@ module _ (r : Refusal) where
 
   -- What a chain gives: a refusal exactly if its condition holds and no earlier one does.
   pub first-is : (ts : List Test) → (first-due ts ≡ some r) ↔ First r ts
-  first-is ts = (first-given ts, λ w. ap first-due (w .order) ∙ given-first (w .earlier) (w .condition) (w .later) (w .holds) (w .none-earlier))
+  first-is ts =
+      (first-given ts, λ w. ap first-due (w .order) ∙ given-first (w .earlier) (w .condition) (w .later) (w .holds) (w .none-earlier))
 
 -- It gives none exactly if no condition holds.
 pub none-is : (ts : List Test) → (first-due ts ≡ none) ↔ None-due ts
@@ -126,7 +132,10 @@ module _ {A : Type 0} (a : A) {tests : List Test} where
       fine none = ((λ q. refl), λ q. (a, refl))
       fine (some x) = ((λ q. let p = q .1 in let z : _≡_ {A = ℕ} 0 1 = cc in absurd (omega arith)), λ q. none-some (sym q))
 
-  pub answered-lent : {L : Type 0} (kept filled : L) (o : Option Refusal) → o ≡ first-due tests → By-chain (outcome o a kept filled .answer) tests
+  pub answered-lent :
+      {L : Type 0} (kept filled : L) (o : Option Refusal) →
+      o ≡ first-due tests →
+      By-chain (outcome o a kept filled .answer) tests
   unfolding outcome answer
   answered-lent kept filled none e = answered none e
   answered-lent kept filled (some r) e = answered (some r) e

@@ -4,7 +4,10 @@ use mathlib.Core.Path.{refl, ap}
 use Rattle.model.specs.Clauses.{Clause}
 use Rattle.call_laws.specs.Valuations.{SameModels, same-of, same-trans, same-both, same-swap}
 
-pub reordered-models : {A : Type 0} (f : A → List Clause) {xs ys : List A} → List·Permᴰ xs ys → SameModels (flatten (map f xs)) (flatten (map f ys))
+pub reordered-models :
+    {A : Type 0} (f : A → List Clause) {xs ys : List A} →
+    List·Permᴰ xs ys →
+    SameModels (flatten (map f xs)) (flatten (map f ys))
 unfolding flatten
 reordered-models f List·Permᴰ·nil = same-of refl
 reordered-models f (List·Permᴰ·cons e p) = same-both (same-of (ap f e)) (reordered-models f p)

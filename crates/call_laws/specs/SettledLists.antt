@@ -32,7 +32,11 @@ settled-call (run b) t h e =
     let said = run-outcome s b h in
     rw (said, after-call) (subst NoRule (sym (run-leaves s b h)) (run-settled b (nodes-in s) .0 (rw said at e)))
 
-pub ends-no-rule : (cs : List Call) (t : State) (a : Account) → Keeps a (t .sheet) → ends-settled cs t ≡ true → NoRule (nodes-in (after-calls cs t .sheet))
+pub ends-no-rule :
+    (cs : List Call) (t : State) (a : Account) →
+    Keeps a (t .sheet) →
+    ends-settled cs t ≡ true →
+    NoRule (nodes-in (after-calls cs t .sheet))
 unfolding ends-settled after-calls
 ends-no-rule [] t a h e = true-false (sym e)
 ends-no-rule (c ∷ []) t a h e = settled-call c t (h .sheet) e
@@ -62,7 +66,10 @@ Normal f =
 falsum-normal : Contradictory (clauses root (node root (constant or) nil))
 falsum-normal = rw (clauses-root (constant or)) falsum-contradictory
 
-root-normal : (k : Forest) → (k ≡ constant or) ⊎ ((Contradictory (clauses root k) → ⊥) × ((l : Literal) → (has-unit l k ≡ true) ↔ Derived (clauses root k) l)) → Normal (node root k nil)
+root-normal :
+    (k : Forest) →
+    (k ≡ constant or) ⊎ ((Contradictory (clauses root k) → ⊥) × ((l : Literal) → (has-unit l k ≡ true) ↔ Derived (clauses root k) l)) →
+    Normal (node root k nil)
 unfolding kids
 root-normal k (inl e) =
     let conflict : Contradictory (clauses root (node root k nil)) = rw e falsum-normal in
@@ -72,7 +79,12 @@ root-normal k (inr w) =
     (((λ q. subst (λ x. Contradictory (clauses root x)) (sym (ap kids q)) falsum-contradictory), λ c. absurd (w .0 c)), λ no. w .1)
 
 -- Where no rule applies to a sheet, it is the falsum exactly if contradictory, and otherwise its units are the derived literals.
-pub sheet-normal : (s : List ℕ) → is-sheet s ≡ true → NoRule (nodes-in s) → (Falsum s ↔ Contradictory (clauses-in s)) × ((Contradictory (clauses-in s) → ⊥) → (l : Literal) → (is-unit l s ≡ true) ↔ Derived (clauses-in s) l)
+pub sheet-normal :
+    (s : List ℕ) →
+    is-sheet s ≡ true →
+    NoRule (nodes-in s) →
+    (Falsum s ↔ Contradictory (clauses-in s))
+    × ((Contradictory (clauses-in s) → ⊥) → (l : Literal) → (is-unit l s ≡ true) ↔ Derived (clauses-in s) l)
 unfolding clauses-in is-unit
 sheet-normal s h calm =
     let form = sheet-shaped s h in

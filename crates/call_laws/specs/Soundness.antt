@@ -22,7 +22,8 @@ use Rattle.call_laws.specs.Valuations.{Consistent, zeros-consistent, wit
 use Rattle.theory.specs.Changes.{Change, absorbed, omitted, unwrapped, spreaded, lifted, merged, factored, change-node}
 use Rattle.theory.specs.Inversion.{Stepped, stepped}
 use Rattle.theory.specs.Values.{same-fails, values-⊕, values-onto}
-use Rattle.theory.specs.Families.{Opposed, absorbed-fails, omitted-fails, unwrapped-values, spread-fails, lifted-fails, merged-fails, factored-fails}
+use Rattle.theory.specs.Families.{Opposed, absorbed-fails, omitted-fails, unwrapped-values, spread-fails, lifted-fails}
+use Rattle.theory.specs.Families.{merged-fails, factored-fails}
 use Rattle.theory.specs.Rooted.{Rooted, no-root, below-root, no-root-node}
 
 -- What a change asks of a set: that each literal which is a child both before and after it, as the literal of rules 9 and 10
@@ -57,13 +58,24 @@ sound s {c} {k} (factored a n e m r) h = kept s c k _ r (rw n (factored-fails s 
 abbrev pub Suits-step : Set → {place : ℕ} {ns ms : List Node} → Stepped place ns ms → Type 0
 Suits-step s t = Suits s (t .rewriting .conn) (t .rewriting .children) (t .rewriting .new)
 
-pub step-values : (s : Set) {place : ℕ} {ns ms : List Node} (t : Stepped place ns ms) → Suits-step s t → values s (decode ns) ≡ values s (decode ms)
+pub step-values :
+    (s : Set) {place : ℕ} {ns ms : List Node} (t : Stepped place ns ms) →
+    Suits-step s t →
+    values s (decode ns) ≡ values s (decode ms)
 unfolding values fails
 step-values s {place} {ns} t h =
     let w = t .rewriting in
-    let here : values s (decode (drop place ns)) ≡ values s (t .result) = ap (values s) (w .was) ∙ ap (λ vs. vs ++ values s (w .rest)) (sym (sound s (w .done) h)) ∙ sym (values-⊕ s (w .new) (w .rest)) ∙ ap (values s) (sym (w .became)) in
-    let before : decode ns ≡ decode-onto (take place ns) (decode (drop place ns)) = ap decode (sym (take-append-drop place ns)) ∙ decode-++ (take place ns) (drop place ns) in
-    let now = ap decode (t .nodes) ∙ decode-++ (take place ns) (encode (t .result)) ∙ ap (decode-onto (take place ns)) (decode-encode (t .result)) in
+    let here : values s (decode (drop place ns)) ≡ values s (t .result) =
+    ap (values s) (w .was)
+    ∙ ap (λ vs. vs ++ values s (w .rest)) (sym (sound s (w .done) h))
+    ∙ sym (values-⊕ s (w .new) (w .rest))
+    ∙ ap (values s) (sym (w .became)) in
+    let before : decode ns ≡ decode-onto (take place ns) (decode (drop place ns)) =
+    ap decode (sym (take-append-drop place ns)) ∙ decode-++ (take place ns) (drop place ns) in
+    let now =
+    ap decode (t .nodes)
+    ∙ decode-++ (take place ns) (encode (t .result))
+    ∙ ap (decode-onto (take place ns)) (decode-encode (t .result)) in
     ap (values s) before ∙ values-onto s (take place ns) _ _ here ∙ ap (values s) (sym now)
 
 -- What the sets that a valuation asks about, `zeros u` and `with-one (zeros u) m`, have in common.
@@ -83,7 +95,11 @@ with-one-asked u m e =
     }
 
 -- Trees that evaluate alike under those sets have the same models.
-pub holds-along : (u : Valuation) (c : Conn) (f g : Forest) → ((s : Set) → Asked u s → fails s c f ≡ fails s c g) → Holds u c f → Holds u c g
+pub holds-along :
+    (u : Valuation) (c : Conn) (f g : Forest) →
+    ((s : Set) → Asked u s → fails s c f ≡ fails s c g) →
+    Holds u c f →
+    Holds u c g
 holds-along u c f g e h =
     (sym (e (zeros u) (zeros-asked u)) ∙ h .0, λ m q. sym (e (with-one (zeros u) m) (with-one-asked u m q)) ∙ h .1 m q)
 
@@ -93,7 +109,15 @@ unit-value u l k h e =
     derived-two u (rw (clauses-root k) at (model-holds u root (node root k nil) .1 h)) (unit-derived l k e)
 
 -- Rule 10: in a model, a unit of the root is opposed to its complement. Rule 9: below the root every consistent set suits.
-unit-opposed : (u : Valuation) (s : Set) → Asked u s → {c : Conn} → c ≡ root → (l : Literal) (k : Forest) → Holds u root (node root k nil) → has-unit l k ≡ true → Opposed s c l
+unit-opposed :
+    (u : Valuation) (s : Set) →
+    Asked u s →
+    {c : Conn} →
+    c ≡ root →
+    (l : Literal) (k : Forest) →
+    Holds u root (node root k nil) →
+    has-unit l k ≡ true →
+    Opposed s c l
 unfolding deciding fails-all all
 unit-opposed u s a q l k h e o =
     rw q (a .zeros-in (complement l) (omega (arith, value-complement u l, unit-value u l k h e)))
@@ -110,19 +134,33 @@ unfolding kids
 root-stays x h =
     ⊎-elim (λ w. rw (w .1, h)) (λ w. absurd (w .0 h)) (change-node x)
 
-suited-holds : (u : Valuation) {place : ℕ} {ns ms : List Node} (t : Stepped place ns ms) → ((s : Set) → Asked u s → Suits-step s t) → Holds u root (decode ns) ↔ Holds u root (decode ms)
+suited-holds :
+    (u : Valuation) {place : ℕ} {ns ms : List Node} (t : Stepped place ns ms) →
+    ((s : Set) → Asked u s → Suits-step s t) →
+    Holds u root (decode ns) ↔ Holds u root (decode ms)
 suited-holds u {ns} {ms} t h =
-    let alike : (s : Set) → Asked u s → fails s root (decode ns) ≡ fails s root (decode ms) = λ s a. same-fails s root (decode ns) (decode ms) (step-values s t (h s a)) in
+    let alike : (s : Set) → Asked u s → fails s root (decode ns) ≡ fails s root (decode ms) =
+    λ s a. same-fails s root (decode ns) (decode ms) (step-values s t (h s a)) in
     (holds-along u root (decode ns) (decode ms) alike, holds-along u root (decode ms) (decode ns) (λ s a. sym (alike s a)))
 
 -- Soundness of a step: the nodes before it and after it have the same models.
-pub stepped-holds : (u : Valuation) (place : ℕ) (ns : List Node) {ms : List Node} → Rooted ns → Stepped place ns ms → Holds u root (decode ns) ↔ Holds u root (decode ms)
+pub stepped-holds :
+    (u : Valuation) (place : ℕ) (ns : List Node) {ms : List Node} →
+    Rooted ns →
+    Stepped place ns ms →
+    Holds u root (decode ns) ↔ Holds u root (decode ms)
 stepped-holds u zero ns {ms} w t =
     let x = t .rewriting in
     let is-root : x .conn ≡ root = cc in
     let alone : x .rest ≡ nil = cc in
     let before : decode ns ≡ node root (x .children) nil = cc in
-    let now : decode ms ≡ node root (kids (x .new)) nil = ap decode (t .nodes) ∙ decode-encode (t .result) ∙ x .became ∙ ap (λ f. x .new ⊕ f) alone ∙ ⊕-nil (x .new) ∙ root-stays (x .done) is-root in (
+    let now : decode ms ≡ node root (kids (x .new)) nil =
+    ap decode (t .nodes)
+    ∙ decode-encode (t .result)
+    ∙ x .became
+    ∙ ap (λ f. x .new ⊕ f) alone
+    ∙ ⊕-nil (x .new)
+    ∙ root-stays (x .done) is-root in (
       λ h. suited-holds u t (λ s a l was still n. unit-opposed u s a is-root l (x .children) (rw before at h) was) .0 h,
       λ h. suited-holds u t (λ s a l was still n. unit-opposed u s a is-root l (kids (x .new)) (rw now at h) still) .1 h,
     )
@@ -132,5 +170,9 @@ stepped-holds u (suc place) ns w t =
     let inner = not-conn (no-root-node (x .conn) (x .children) (x .rest) inside .0) in
     suited-holds u t (λ s a. inner-suits s (a .consistent) (x .conn) (x .children) (x .new) (λ q. inner (sym q)))
 
-pub step-holds : (u : Valuation) (r place i j : ℕ) (ns : List Node) {ms : List Node} → Rooted ns → step r place i j ns ≡ some ms → Holds u root (decode ns) ↔ Holds u root (decode ms)
+pub step-holds :
+    (u : Valuation) (r place i j : ℕ) (ns : List Node) {ms : List Node} →
+    Rooted ns →
+    step r place i j ns ≡ some ms →
+    Holds u root (decode ns) ↔ Holds u root (decode ms)
 step-holds u r place i j ns w e = stepped-holds u place ns w (stepped r place i j ns e)

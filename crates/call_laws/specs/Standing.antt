@@ -8,7 +8,8 @@ use native.Mathlib.Omega.{arith}
 use borrow.Author.Tests.{eq-eqb}
 use lib.Dec.{eqb}
 use Rattle.model.specs.Literal.{Literal, option, same}
-use Rattle.model.specs.Forest.{and, or, root, Forest, nil, lit, node, _⊕_, first, after, literal-at, conjunction-at, literals-only, has-unit, mentions}
+use Rattle.model.specs.Forest.{and, or, root, Forest, nil, lit, node, _⊕_, first, after, literal-at, conjunction-at}
+use Rattle.model.specs.Forest.{literals-only, has-unit, mentions}
 use Rattle.model.specs.Rules.{shares, groups}
 use Rattle.theory.specs.Logic.{true-false, and-split, or-split, or-left, or-right}
 use Rattle.theory.specs.Literals.{same-is}
@@ -63,7 +64,11 @@ unit-index l (lit x f) e = go (same l x) refl e (unit-index l f)
 unit-index l (node c k f) e = let w = unit-index l f e in (suc (w .0), w .1, w .2)
 
 -- The index of the first group, where all groups are conjunctions that have the literal.
-pub group-index : (l : Literal) (f : Forest) → shares l f ≡ true → 1 ≤ groups f → (i : ℕ) × (m : Forest) × (conjunction-at (after i f) ≡ some m) × (literals-only (first i f) ≡ true) × (has-unit l m ≡ true)
+pub group-index :
+    (l : Literal) (f : Forest) →
+    shares l f ≡ true →
+    1 ≤ groups f →
+    (i : ℕ) × (m : Forest) × (conjunction-at (after i f) ≡ some m) × (literals-only (first i f) ≡ true) × (has-unit l m ≡ true)
 unfolding shares groups conjunction-at after first literals-only
 group-index l nil e n = absurd (omega arith)
 group-index l (lit x f) e n = let w = group-index l f e n in (suc (w .0), w .1, w .2, w .3, w .4)

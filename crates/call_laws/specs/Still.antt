@@ -9,12 +9,15 @@ use borrow.Author.Tests.{leb-true, leb-false, le-leb, eqb-false, eq-eqb}
 use lib.Dec.{eqb, leb}
 use Rattle.model.specs.Base.{only-if, then}
 use Rattle.model.specs.Literal.{Literal, complement, option, same}
-use Rattle.model.specs.Forest.{Conn, and, or, root, same-conn, Forest, nil, lit, node, size, first, after, literal-at, conjunction-at, constant-at, has-unit, mentions}
+use Rattle.model.specs.Forest.{Conn, and, or, root, same-conn, Forest, nil, lit, node, size, first, after, literal-at}
+use Rattle.model.specs.Forest.{conjunction-at, constant-at, has-unit, mentions}
 use Rattle.model.specs.Code.{conn-kind}
-use Rattle.model.specs.Rules.{neutral, deciding, shares, groups, absorb, omit, unwrap, spread, lift, factor, absorbs, omits, unwraps, spreads, lifts, factors, change, Row, row, table, row-of, turn}
+use Rattle.model.specs.Rules.{neutral, deciding, shares, groups, absorb, omit, unwrap, spread, lift, factor, absorbs, omits}
+use Rattle.model.specs.Rules.{unwraps, spreads, lifts, factors, change, Row, row, table, row-of, turn}
 use Rattle.theory.specs.Logic.{true-false, none-some, and-join, or-split, or-neither, either, fails-if, only-none}
 use Rattle.theory.specs.Literals.{same-is, complement-other, option-complement}
-use Rattle.theory.specs.Forests.{size-⊕, cut-at, size-after, size-zero, literal-here, conjunction-here, constant-here, groups-size, mentions-some, past-end}
+use Rattle.theory.specs.Forests.{size-⊕, cut-at, size-after, size-zero, literal-here, conjunction-here, constant-here}
+use Rattle.theory.specs.Forests.{groups-size, mentions-some, past-end}
 use Rattle.call_laws.specs.Irreducible.{Still}
 use Rattle.call_laws.specs.Standing.{stands, stands-⊕, stands-mentions, unit-index, group-index}
 
@@ -24,10 +27,19 @@ NoFalse f = (i : ℕ) → constant-at or (after i f) ≡ false
 
 module _ (k : Forest) where
   -- A rule whose row fits the node makes nothing of it.
-  refused : (r : ℕ) (w : Row) → row-of r ≡ some w → (c : Conn) → w .kind ≡ conn-kind c → Still c k → w .fewest ≤ size k → (i j : ℕ) → change (w .family) c i j k ≡ none
+  refused :
+      (r : ℕ) (w : Row) →
+      row-of r ≡ some w →
+      (c : Conn) →
+      w .kind ≡ conn-kind c →
+      Still c k →
+      w .fewest ≤ size k →
+      (i j : ℕ) →
+      change (w .family) c i j k ≡ none
   unfolding then only-if turn
   refused r w e c o h n i j =
-      let fits : (eqb (w .kind) (conn-kind c) && leb (w .fewest) (size k)) ≡ true = and-join (eq-eqb (w .kind) (conn-kind c) o) (le-leb (w .fewest) (size k) n) in
+      let fits : (eqb (w .kind) (conn-kind c) && leb (w .fewest) (size k)) ≡ true =
+      and-join (eq-eqb (w .kind) (conn-kind c) o) (le-leb (w .fewest) (size k) n) in
       let turned : turn w c i j k ≡ none = sym (rw e) ∙ h r i j in
       sym (rw fits) ∙ turned
 
@@ -43,7 +55,10 @@ module _ (k : Forest) where
   unfolding after constant-at
   only-false h = go (either (leb 2 (size k))) (either (constant-at or k))
     where
-      go : (leb 2 (size k) ≡ true) ⊎ (leb 2 (size k) ≡ false) → (constant-at or k ≡ true) ⊎ (constant-at or k ≡ false) → (k ≡ node or nil nil) ⊎ NoFalse k
+      go :
+          (leb 2 (size k) ≡ true) ⊎ (leb 2 (size k) ≡ false) →
+          (constant-at or k ≡ true) ⊎ (constant-at or k ≡ false) →
+          (k ≡ node or nil nil) ⊎ NoFalse k
       go (inl n) q = inr (no-false root h (leb-true 2 (size k) n))
       go (inr n) (inl q) = inl (constant-here or 0 k q ∙ ap (node or nil) (past-end 1 k (omega (arith, leb-false 2 (size k) n))))
       go (inr n) (inr q) =
@@ -64,17 +79,25 @@ module _ (k : Forest) where
       go (inr p) s = inl (size-zero k (omega (arith, leb-false 1 (size k) p)))
 
   -- In a disjunction and at the root, no other child mentions the option of a child that is a literal: rules 9 and 10.
-  pub literal-alone : (c : Conn) → same-conn and c ≡ false → Still c k → (i : ℕ) {l : Literal} → literal-at (after i k) ≡ some l → (mentions (option l) (first i k) ≡ false) × (mentions (option l) (after (suc i) k) ≡ false)
+  pub literal-alone :
+      (c : Conn) →
+      same-conn and c ≡ false →
+      Still c k →
+      (i : ℕ) {l : Literal} →
+      literal-at (after i k) ≡ some l →
+      (mentions (option l) (first i k) ≡ false) × (mentions (option l) (after (suc i) k) ≡ false)
   unfolding row-of table same-conn change spread size then conn-kind
   literal-alone c e h i {l} p =
-      or-neither (mentions (option l) (first i k)) (mentions (option l) (after (suc i) k)) (fails-if elsewhere (λ m. true-false (sym m ∙ only-none _ _ (rw p at (go c e h (two m))))))
+      or-neither (mentions (option l) (first i k)) (mentions (option l) (after (suc i) k))
+      (fails-if elsewhere (λ m. true-false (sym m ∙ only-none _ _ (rw p at (go c e h (two m))))))
     where
       elsewhere : Bool
       elsewhere = mentions (option l) (first i k) || mentions (option l) (after (suc i) k)
 
       two : elsewhere ≡ true → 2 ≤ size k
       two m =
-          let whole : size k ≡ size (first i k) + suc (size (after (suc i) k)) = ap size (sym (cut-at i k _ (literal-here i k p))) ∙ size-⊕ (first i k) (lit l (after (suc i) k)) in
+          let whole : size k ≡ size (first i k) + suc (size (after (suc i) k)) =
+          ap size (sym (cut-at i k _ (literal-here i k p))) ∙ size-⊕ (first i k) (lit l (after (suc i) k)) in
           ⊎-elim
           (λ q. omega (arith, mentions-some (option l) (first i k) q))
           (λ q. omega (arith, mentions-some (option l) (after (suc i) k) q))
@@ -86,7 +109,13 @@ module _ (k : Forest) where
       go root e h n = refused 10 (row 5 2 spreads) refl root refl h n i 0
 
   -- In a conjunction and at the root, no child that is a conjunction has a literal among its children: rules 11 and 12.
-  pub nothing-to-lift : (c : Conn) → same-conn or c ≡ false → Still c k → (l : Literal) (i : ℕ) (m : Forest) → conjunction-at (after i k) ≡ some m → has-unit l m ≡ false
+  pub nothing-to-lift :
+      (c : Conn) →
+      same-conn or c ≡ false →
+      Still c k →
+      (l : Literal) (i : ℕ) (m : Forest) →
+      conjunction-at (after i k) ≡ some m →
+      has-unit l m ≡ false
   unfolding row-of table same-conn change lift size then conn-kind
   nothing-to-lift c e h l i m p =
       fails-if (has-unit l m) (λ u. let w = unit-index l m u in none-some (sym (rw (p, w .1) at (go c e h (w .0)))))
@@ -105,7 +134,8 @@ module _ (k : Forest) where
   nothing-to-factor h l e n =
       let g = group-index l k e (omega arith) in
       let u = unit-index l (g .1) (g .4) in
-      let kept : change factors or (g .0) (u .0) k ≡ none = refused 14 (row 4 2 factors) refl or refl h (omega (arith, groups-size k)) (g .0) (u .0) in
+      let kept : change factors or (g .0) (u .0) k ≡ none =
+      refused 14 (row 4 2 factors) refl or refl h (omega (arith, groups-size k)) (g .0) (u .0) in
       none-some (sym (rw (g .2, u .1, g .3, u .2, e, le-leb 2 (groups k) n) at kept))
 
   -- At the root, the complement of a unit stands nowhere.
@@ -117,7 +147,9 @@ module _ (k : Forest) where
       let whole = sym (stands-⊕ l (first (i .0) k) _) ∙ ap (stands l) (cut-at (i .0) k _ (literal-here (i .0) k (i .1))) ∙ e in
       ⊎-elim
       (unseen (first (i .0) k) (alone .0))
-      (λ q. ⊎-elim (λ p. complement-other l (sym (same-is l (complement l) p))) (unseen (after (suc (i .0)) k) (alone .1)) (or-split (same l (complement l)) _ q))
+      (λ q.
+      ⊎-elim (λ p. complement-other l (sym (same-is l (complement l) p))) (unseen (after (suc (i .0)) k) (alone .1))
+      (or-split (same l (complement l)) _ q))
       (or-split (stands l (first (i .0) k)) _ whole)
     where
       unseen : (f : Forest) → mentions (option (complement l)) f ≡ false → stands l f ≡ true → ⊥

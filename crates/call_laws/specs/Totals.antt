@@ -60,7 +60,11 @@ module _ (u : Valuation) where
   counted : (c : Clause) (x : Literal) → List·Memᴰ x c → value-of u x ≤ total u c
   counted (l ∷ c) x m = go (more l c) (List·Memᴰ·cases-cons m) (counted c)
     where
-      go : More u l c → (x ≡ l) ⊎ List·Memᴰ x c → ((y : Literal) → List·Memᴰ y c → value-of u y ≤ total u c) → value-of u x ≤ total u (l ∷ c)
+      go :
+          More u l c →
+          (x ≡ l) ⊎ List·Memᴰ x c →
+          ((y : Literal) → List·Memᴰ y c → value-of u y ≤ total u c) →
+          value-of u x ≤ total u (l ∷ c)
       go (again k e) (inl q) r = rw (e, q) (r l k)
       go (again k e) (inr m′) r = rw e (r x m′)
       go (new n e) (inl q) r = rw (e, q) (omega arith)
@@ -76,7 +80,10 @@ module _ (u : Valuation) where
       go (again k e) r = e ∙ r
       go (new n e) r = omega (arith, h l (List·Memᴰ·head refl))
 
-  pub total-but-one : (m : Literal) (c : Clause) → ((x : Literal) → List·Memᴰ x c → (x ≡ m → ⊥) → value-of u x ≡ 0) → total u c ≤ value-of u m
+  pub total-but-one :
+      (m : Literal) (c : Clause) →
+      ((x : Literal) → List·Memᴰ x c → (x ≡ m → ⊥) → value-of u x ≡ 0) →
+      total u c ≤ value-of u m
   unfolding total
   total-but-one m [] h = omega arith
   total-but-one m (l ∷ c) h = go (more l c) (either (same l m)) (total-but-one m c (λ x k. h x (List·Memᴰ·tail k)))
@@ -136,7 +143,9 @@ module _ (u : Valuation) where
     λ h. all-from (zeros u) c (λ x k. zeros-value x .1 (h x k)),
   )
 
-  inside-with-one : (m : Literal) (c : Clause) → (all (with-one (zeros u) m) c ≡ true) ↔ ((x : Literal) → List·Memᴰ x c → (x ≡ m → ⊥) → value-of u x ≡ 0)
+  inside-with-one :
+      (m : Literal) (c : Clause) →
+      (all (with-one (zeros u) m) c ≡ true) ↔ ((x : Literal) → List·Memᴰ x c → (x ≡ m → ⊥) → value-of u x ≡ 0)
   inside-with-one m c = (
     λ e x k n. zeros-value x .0 (all-but-one (zeros u) m c .0 e x k n),
     λ h. all-but-one (zeros u) m c .1 (λ x k n. zeros-value x .1 (h x k n)),
@@ -144,11 +153,15 @@ module _ (u : Valuation) where
 
   -- A clause is satisfied, its total at least 2, exactly where it lies neither inside the literals of value 0 nor inside
   -- those with one of value 1.
-  pub clause-satisfied : (c : Clause) → (2 ≤ total u c) ↔ ((all (zeros u) c ≡ false) × ((m : Literal) → value-of u m ≡ 1 → all (with-one (zeros u) m) c ≡ false))
+  pub clause-satisfied :
+      (c : Clause) →
+      (2 ≤ total u c) ↔ ((all (zeros u) c ≡ false) × ((m : Literal) → value-of u m ≡ 1 → all (with-one (zeros u) m) c ≡ false))
   clause-satisfied c = (
     λ h. (
       fails-if (all (zeros u) c) (λ e. omega (arith, total-zero c (inside-zeros c .0 e))),
       λ m v. fails-if (all (with-one (zeros u) m) c) (λ e. omega (arith, total-but-one m c (inside-with-one m c .0 e))),
     ),
-    λ w. total-two c (λ h. true-false (sym (inside-zeros c .1 h) ∙ w .0)) (λ t. true-false (sym (inside-with-one (t .one) c .1 (t .rest)) ∙ w .1 (t .one) (t .value))),
+    λ w.
+        total-two c (λ h. true-false (sym (inside-zeros c .1 h) ∙ w .0))
+        (λ t. true-false (sym (inside-with-one (t .one) c .1 (t .rest)) ∙ w .1 (t .one) (t .value))),
   )

@@ -1,12 +1,13 @@
 -- Valuations that satisfy every clause: what is derived is what has value 2 in each of them, so lists of clauses with the
 -- same models have the same report.
 use mathlib.Core.Bool.{Bool, true, false}
-use mathlib.Core.List.{List, [], _∷_, _++_, List·Memᴰ, List·Memᴰ·head, List·Memᴰ·eq-of-singleton, Memᴰ·append-left, Memᴰ·append-right, List·Memᴰ·append-cases}
+use mathlib.Core.List.{List, _++_, List·Memᴰ, Memᴰ·append-left}
+use mathlib.Core.List.{Memᴰ·append-right, List·Memᴰ·append-cases}
 use mathlib.Core.Logic.{_⊎_, inl, inr, ⊎-elim, _↔_, Iff·rfl, Iff·trans, Iff·symm, Iff·and}
 use mathlib.Core.Path.{_≡_, refl, sym, ap, _∙_, subst}
 use Prim.Native.Nat.{ℕ, _-_, _≤_}
 use native.Mathlib.Omega.{arith}
-use Rattle.model.specs.Base.{pick, all, any}
+use Rattle.model.specs.Base.{pick, all}
 use Rattle.model.specs.Literal.{Literal, pos, neg, complement, same, has}
 use Rattle.model.specs.Forest.{Conn, Forest}
 use Rattle.model.specs.Clauses.{Clause, clauses, Derived, derived, Contradictory}
@@ -17,7 +18,8 @@ use Rattle.theory.specs.Literals.{same-is, complement-other}
 use Rattle.theory.specs.Evaluation.{Set, some-inside, bridge, Valuation, value-of, zeros, with-one, Holds}
 use Rattle.theory.specs.Exact.{facts-derived, consistent, contradictory-or-not}
 use Rattle.theory.specs.ExactReports.{tells-same}
-use Rattle.call_laws.specs.Totals.{total, value-small, value-complement, zeros-value, total-zero, total-but-one, total-two, clause-satisfied}
+use Rattle.call_laws.specs.Totals.{total, value-small, value-complement, zeros-value, total-zero, total-but-one, total-two}
+use Rattle.call_laws.specs.Totals.{clause-satisfied}
 
 -- A set that never holds a literal together with its complement.
 abbrev pub Consistent : Set → Type 0
@@ -50,29 +52,26 @@ module _ (u : Valuation) where
 abbrev pub Model : Valuation → List Clause → Type 0
 Model u cs = (c : Clause) → List·Memᴰ c cs → 2 ≤ total u c
 
--- A model of two lists of clauses is a model of both; a model of a unit gives its literal the value 2.
+-- A model of two lists of clauses is a model of both.
 pub model-append : (u : Valuation) (cs ds : List Clause) → Model u (cs ++ ds) ↔ (Model u cs × Model u ds)
 model-append u cs ds = (
   λ m. (λ c k. m c (Memᴰ·append-left ds k), λ d k. m d (Memᴰ·append-right cs k)),
   λ w c k. ⊎-elim (w .0 c) (w .1 c) (List·Memᴰ·append-cases cs k),
 )
 
-pub model-unit : (u : Valuation) (l : Literal) → Model u ((l ∷ []) ∷ []) ↔ (value-of u l ≡ 2)
-unfolding total has any pick
-model-unit u l = (
-  λ m. omega (arith, m (l ∷ []) (List·Memᴰ·head refl), value-small u l),
-  λ e c k. rw (List·Memᴰ·eq-of-singleton k) (omega arith),
-)
-
 -- A valuation is a model where no clause lies inside its literals of value 0, nor inside those with one of value 1.
-pub model-outside : (u : Valuation) (cs : List Clause) → Model u cs ↔ ((some-inside (zeros u) cs ≡ false) × ((m : Literal) → value-of u m ≡ 1 → some-inside (with-one (zeros u) m) cs ≡ false))
+pub model-outside :
+    (u : Valuation) (cs : List Clause) →
+    Model u cs ↔ ((some-inside (zeros u) cs ≡ false) × ((m : Literal) → value-of u m ≡ 1 → some-inside (with-one (zeros u) m) cs ≡ false))
 unfolding some-inside
 model-outside u cs = (
   λ h. (
     any-none (all (zeros u)) cs .1 (λ c k. clause-satisfied u c .0 (h c k) .0),
     λ m v. any-none (all (with-one (zeros u) m)) cs .1 (λ c k. clause-satisfied u c .0 (h c k) .1 m v),
   ),
-  λ w c k. clause-satisfied u c .1 (any-none (all (zeros u)) cs .0 (w .0) c k, λ m v. any-none (all (with-one (zeros u) m)) cs .0 (w .1 m v) c k),
+  λ w c k.
+      clause-satisfied u c .1
+      (any-none (all (zeros u)) cs .0 (w .0) c k, λ m v. any-none (all (with-one (zeros u) m)) cs .0 (w .1 m v) c k),
 )
 
 -- The models of a tree's clauses are the valuations under which the tree holds.
@@ -97,7 +96,11 @@ value-by a b = pick a 2 (pick b 0 1)
 
 canonical : List Clause → Valuation
 unfolding pick
-canonical cs = record { at-option = λ v. value-by (has (pos v) (facts-of cs)) (has (neg v) (facts-of cs)); small = λ v. fits (has (pos v) (facts-of cs)) (has (neg v) (facts-of cs)) }
+canonical cs =
+    record {
+      at-option = λ v. value-by (has (pos v) (facts-of cs)) (has (neg v) (facts-of cs));
+      small = λ v. fits (has (pos v) (facts-of cs)) (has (neg v) (facts-of cs));
+    }
   where
     fits : (a b : Bool) → value-by a b ≤ 2
     fits true b = omega arith
@@ -108,7 +111,9 @@ module _ {cs : List Clause} (n : Contradictory cs → ⊥) where
   canonical-value : (l : Literal) → value-of (canonical cs) l ≡ value-by (has l (facts-of cs)) (has (complement l) (facts-of cs))
   unfolding canonical value-of complement pick
   canonical-value (pos v) = refl
-  canonical-value (neg v) = go (has (pos v) (facts-of cs)) (has (neg v) (facts-of cs)) (λ p q. consistent n (pos v) (facts-derived cs (pos v) .0 p) (facts-derived cs (neg v) .0 q))
+  canonical-value (neg v) =
+      go (has (pos v) (facts-of cs)) (has (neg v) (facts-of cs))
+      (λ p q. consistent n (pos v) (facts-derived cs (pos v) .0 p) (facts-derived cs (neg v) .0 q))
     where
       go : (a b : Bool) → (a ≡ true → b ≡ true → ⊥) → 2 - value-by a b ≡ value-by b a
       go true true h = absurd (h refl refl)
@@ -118,7 +123,8 @@ module _ {cs : List Clause} (n : Contradictory cs → ⊥) where
 
   canonical-zero : (l : Literal) → value-of (canonical cs) l ≡ 0 → Derived cs (complement l)
   unfolding pick
-  canonical-zero l e = facts-derived cs (complement l) .0 (go (has l (facts-of cs)) (has (complement l) (facts-of cs)) (sym (canonical-value l) ∙ e))
+  canonical-zero l e =
+      facts-derived cs (complement l) .0 (go (has l (facts-of cs)) (has (complement l) (facts-of cs)) (sym (canonical-value l) ∙ e))
     where
       go : (a b : Bool) → value-by a b ≡ 0 → b ≡ true
       go true b h = absurd (omega arith)
@@ -166,8 +172,10 @@ module _ {cs ds : List Clause} (e : SameModels cs ds) where
 
   pub same-derived : (Contradictory cs → ⊥) → (l : Literal) → Derived cs l ↔ Derived ds l
   same-derived n l =
-      let n′ : Contradictory ds → ⊥ = λ w. n (same-contradictory .1 w) in
-      (λ d. two-in-every-model n′ l .1 (λ u h. derived-two u (e u .1 h) d), λ d. two-in-every-model n l .1 (λ u h. derived-two u (e u .0 h) d))
+      let n′ : Contradictory ds → ⊥ = λ w. n (same-contradictory .1 w) in (
+        λ d. two-in-every-model n′ l .1 (λ u h. derived-two u (e u .1 h) d),
+        λ d. two-in-every-model n l .1 (λ u h. derived-two u (e u .0 h) d),
+      )
 
   -- Clauses with the same models have the same report.
   pub same-report : (n : ℕ) → report n cs ≡ report n ds

@@ -101,9 +101,11 @@ pub starred-by-calls :
     -- "Steps 14, 7, 7, 8, 12, 7 leave P; (Q or R)."
     ∷ comes-to (root 1 ∷ any-of 2 ∷ all-of 2 ∷ P ∷ Q ∷ all-of 2 ∷ P ∷ R ∷ []) 6 (root 2 ∷ P ∷ any-of 2 ∷ Q ∷ R ∷ []) false (1 ∷ 0 ∷ 0 ∷ [])
     -- "Contradiction."
-    ∷ comes-to (root 4 ∷ not-P ∷ any-of 2 ∷ P ∷ not-Q ∷ any-of 2 ∷ P ∷ not-R ∷ any-of 2 ∷ Q ∷ R ∷ []) 10 (root 1 ∷ False ∷ []) true (3 ∷ 3 ∷ 3 ∷ [])
+    ∷ comes-to (root 4 ∷ not-P ∷ any-of 2 ∷ P ∷ not-Q ∷ any-of 2 ∷ P ∷ not-R ∷ any-of 2 ∷ Q ∷ R ∷ []) 10 (root 1 ∷ False ∷ []) true
+    (3 ∷ 3 ∷ 3 ∷ [])
     -- "All open, although Q follows by truth table."
-    ∷ comes-to (root 2 ∷ any-of 2 ∷ P ∷ Q ∷ any-of 2 ∷ not-P ∷ Q ∷ []) 0 (root 2 ∷ any-of 2 ∷ P ∷ Q ∷ any-of 2 ∷ not-P ∷ Q ∷ []) false (0 ∷ 0 ∷ [])
+    ∷ comes-to (root 2 ∷ any-of 2 ∷ P ∷ Q ∷ any-of 2 ∷ not-P ∷ Q ∷ []) 0 (root 2 ∷ any-of 2 ∷ P ∷ Q ∷ any-of 2 ∷ not-P ∷ Q ∷ []) false
+    (0 ∷ 0 ∷ [])
     -- "Q open."
     ∷ comes-to (root 1 ∷ any-of 2 ∷ all-of 2 ∷ P ∷ not-P ∷ Q ∷ []) 0 (root 1 ∷ any-of 2 ∷ all-of 2 ∷ P ∷ not-P ∷ Q ∷ []) false (0 ∷ 0 ∷ [])
     -- "P in, Q out."

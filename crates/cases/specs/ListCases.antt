@@ -6,7 +6,8 @@ use Prim.Native.Nat.{ℕ}
 use Rattle.model.specs.Literal.{pos, neg}
 use Rattle.model.specs.Strategy.{most-steps}
 use Rattle.model.specs.Sheet.{nodes-in}
-use Rattle.calls.specs.History.{Call, choose, step, run, State, after-calls, Account, loaded, account-calls, meaning, is-stretch, steps-of, ends-settled}
+use Rattle.calls.specs.History.{Call, choose, step, run, State, after-calls, Account, loaded, account-calls, meaning, is-stretch}
+use Rattle.calls.specs.History.{steps-of, ends-settled}
 use Rattle.cases.specs.Opened.{definitions}
 use Rattle.cases.specs.Samples.{P, Q, not-Q, any-of, root, book, first-book, sheet, samples}
 

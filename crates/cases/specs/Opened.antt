@@ -28,43 +28,62 @@ unfolding Literal.literal Literal.complement Literal.option Literal.same Literal
 of-literals = tt
 
 of-forests : Unit {0}
-unfolding Forest.same-conn Forest._⊕_ Forest.size Forest.first Forest.after Forest.kids Forest.literal-at Forest.conjunction-at Forest.constant-at Forest.literals-only Forest.has-unit Forest.mentions
+unfolding Forest.same-conn Forest._⊕_ Forest.size Forest.first Forest.after Forest.kids Forest.literal-at Forest.conjunction-at
+    Forest.constant-at Forest.literals-only Forest.has-unit Forest.mentions
 of-forests = tt
 
 of-nodes : Unit {0}
-unfolding Code.encode Code.push Code.decode Code.joined Code.trees Code.exactly-one Code.one-tree Code.literals Code.weight Code.kind Code.value Code.number Code.conn-kind Code.conn-value Code.children Code.number-of Code.node-of
+unfolding Code.encode Code.push Code.decode Code.joined Code.trees Code.exactly-one Code.one-tree Code.literals Code.weight
+    Code.kind Code.value Code.number Code.conn-kind Code.conn-value Code.children Code.number-of Code.node-of
 of-nodes = tt
 
 of-meaning : Unit {0}
-unfolding Clauses.unions Clauses.need Clauses.no-tree Clauses.one-tree-more Clauses.some-of Clauses.clauses Propagation.others Propagation.refuted Propagation.forced-in Propagation.forced Propagation.propagate Propagation.facts-of Propagation.conflict Propagation.mark Propagation.count-from Propagation.report-by Propagation.report Propagation.complete List.flatten
+unfolding Clauses.unions Clauses.need Clauses.no-tree Clauses.one-tree-more Clauses.some-of Clauses.clauses Propagation.others
+    Propagation.refuted Propagation.forced-in Propagation.forced Propagation.propagate Propagation.facts-of Propagation.conflict
+    Propagation.mark Propagation.count-from Propagation.report-by Propagation.report Propagation.complete List.flatten
 of-meaning = tt
 
 of-rules : Unit {0}
-unfolding Rules.neutral Rules.deciding Rules.assigned Rules.without-unit Rules.shares Rules.units Rules.groups-without Rules.groups Rules.absorb Rules.omit Rules.unwrap Rules.spread Rules.lift Rules.merge Rules.factor Rules.change Rules.table Rules.row-of Rules.is-rule Rules.turn Rules.rewrite Rules.step
+unfolding Rules.neutral Rules.deciding Rules.assigned Rules.without-unit Rules.shares Rules.units Rules.groups-without
+    Rules.groups Rules.absorb Rules.omit Rules.unwrap Rules.spread Rules.lift Rules.merge Rules.factor Rules.change Rules.table
+    Rules.row-of Rules.is-rule Rules.turn Rules.rewrite Rules.step
 of-rules = tt
 
 of-runs : Unit {0}
-unfolding Strategy.least-j Strategy.least-i Strategy.least-place Strategy.next Strategy.contract Strategy.next-step Strategy.one-more Strategy.run
+unfolding Strategy.least-j Strategy.least-i Strategy.least-place Strategy.next Strategy.contract Strategy.next-step
+    Strategy.one-more Strategy.run
 of-runs = tt
 
 of-sheets : Unit {0}
-unfolding Sheet.body-node Sheet.options-in Sheet.used-in Sheet.numbers-in Sheet.nodes-in Sheet.rest-in Sheet.rooted Sheet.is-sheet Sheet.sheet-of Sheet.clauses-in Sheet.report-in Sheet.is-unit Sheet.with-child Sheet.chosen Results.appended Results.stepped Results.run-through
+unfolding Sheet.body-node Sheet.options-in Sheet.used-in Sheet.numbers-in Sheet.nodes-in Sheet.rest-in Sheet.rooted Sheet.is-sheet
+    Sheet.sheet-of Sheet.clauses-in Sheet.report-in Sheet.is-unit Sheet.with-child Sheet.chosen Results.appended Results.stepped
+    Results.run-through
 of-sheets = tt
 
 of-books : Unit {0}
-unfolding Book.word Book.words Book.bytes-of Book.options-of Book.rules-of Book.size-of Book.head-in-limits Book.codes-end Book.contents-end Book.length-due Book.pieces Book.codes-of Book.entries Book.contents-of Book.numbers-of Book.between Book.character Book.then-zeros Book.code-ok Book.same-code Book.codes-ok Book.in-line Book.cut Book.bodies-of Book.body-ok Book.book-nodes Book.clauses-of-body Book.clauses-of-book Book.counts Book.lined-up Book.written-rules Book.written Book.characters Book.option-of-code
+unfolding Book.word Book.words Book.bytes-of Book.options-of Book.rules-of Book.size-of Book.head-in-limits Book.codes-end
+    Book.contents-end Book.length-due Book.pieces Book.codes-of Book.entries Book.contents-of Book.numbers-of Book.between
+    Book.character Book.then-zeros Book.code-ok Book.same-code Book.codes-ok Book.in-line Book.cut Book.bodies-of Book.body-ok
+    Book.book-nodes Book.clauses-of-body Book.clauses-of-book Book.counts Book.lined-up Book.written-rules Book.written
+    Book.characters Book.option-of-code
 of-books = tt
 
 of-calls : Unit {0}
-unfolding Refusals.refusal-number Outcomes.answer Outcomes.if-accepted Outcomes.outcome Chains.part-refusal Chains.book-refusal Chains.lookup-refusal Chains.load-refusal Chains.write-refusal Chains.report-refusal Chains.complete-refusal Chains.choose-refusal Chains.step-refusal Chains.run-refusal Calls.checkOf Calls.lookupOf Calls.loadOf Calls.writeOf Calls.reportOf Calls.completeOf Calls.chooseOf Calls.stepOf Calls.runOf
+unfolding Refusals.refusal-number Outcomes.answer Outcomes.if-accepted Outcomes.outcome Chains.part-refusal Chains.book-refusal
+    Chains.lookup-refusal Chains.load-refusal Chains.write-refusal Chains.report-refusal Chains.complete-refusal
+    Chains.choose-refusal Chains.step-refusal Chains.run-refusal Calls.checkOf Calls.lookupOf Calls.loadOf Calls.writeOf
+    Calls.reportOf Calls.completeOf Calls.chooseOf Calls.stepOf Calls.runOf
 of-calls = tt
 
 of-lists : Unit {0}
-unfolding History.after-call History.after-calls History.account-call History.account-calls History.choice-clauses History.meaning History.chooses History.is-stretch History.steps-of-call History.steps-of History.says-settled History.ends-settled
+unfolding History.after-call History.after-calls History.account-call History.account-calls History.choice-clauses History.meaning
+    History.chooses History.is-stretch History.steps-of-call History.steps-of History.says-settled History.ends-settled
 of-lists = tt
 
 of-desk : Unit {0}
-unfolding Desk.before-line Desk.lines Desk.choose-found Desk.keyed Desk.go-on Desk.all-keyed Desk.digits Desk.decimal Desk.refused-word Desk.contradiction-word Desk.settled-word Desk.stopped-word Desk.mark-word Desk.line Desk.printed Desk.first-line Desk.option-lines Desk.desk-budget Desk.deskOf
+unfolding Desk.before-line Desk.lines Desk.choose-found Desk.keyed Desk.go-on Desk.all-keyed Desk.digits Desk.decimal
+    Desk.refused-word Desk.contradiction-word Desk.settled-word Desk.stopped-word Desk.mark-word Desk.line Desk.printed
+    Desk.first-line Desk.option-lines Desk.desk-budget Desk.deskOf
 of-desk = tt
 
 unfoldable pub definitions : Unit {0}

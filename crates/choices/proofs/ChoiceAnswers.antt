@@ -21,7 +21,13 @@ use Rattle.answers.specs.AnswerMeaning.{afterCall}
 use Rattle.theory.specs.Sheets.{sheet-formed}
 
 -- The weight, as a choice counts it: the used count and the literals of the lent nodes.
-pub weight-counted : (s : List ℕ) → is-sheet s ≡ true → {u q : ℕ} → u ≡ getD s 1 0 → q ≡ literals (map node-of (take u (take (length s - 2) (drop 2 s)))) → u + q ≡ weight (nodes-in s)
+pub weight-counted :
+    (s : List ℕ) →
+    is-sheet s ≡ true →
+    {u q : ℕ} →
+    u ≡ getD s 1 0 →
+    q ≡ literals (map node-of (take u (take (length s - 2) (drop 2 s)))) →
+    u + q ≡ weight (nodes-in s)
 unfolding weight used-in nodes-in numbers-in
 weight-counted s h {u} e f =
     let facts = sheet-formed s h in
@@ -31,7 +37,10 @@ weight-counted s h {u} e f =
     used-is : (s : List ℕ) → used-in s ≡ getD s 1 0
     used-is s = refl
 
-    counted : (s : List ℕ) {u : ℕ} → u ≡ getD s 1 0 → literals (map node-of (take u (take (length s - 2) (drop 2 s)))) ≡ literals (nodes-in s)
+    counted :
+        (s : List ℕ) {u : ℕ} →
+        u ≡ getD s 1 0 →
+        literals (map node-of (take u (take (length s - 2) (drop 2 s)))) ≡ literals (nodes-in s)
     counted s e = rw (e, part-to-end s 2)
 
 -- The answers of a choice, in the order of its tests.
@@ -44,11 +53,19 @@ module _ (s : List ℕ) (v : ℕ) (negative : Bool) where
   unfolding chooseOf choose-refusal outcome first-of only-if
   no-option h le = rw (h, le-ltb v (options-in s) le)
 
-  pub no-room : is-sheet s ≡ true → v < options-in s → most-weight < weight (nodes-in s) + literal-weight → afterCall (refused full-refused) s ≡ chooseOf s v negative
+  pub no-room :
+      is-sheet s ≡ true →
+      v < options-in s →
+      most-weight < weight (nodes-in s) + literal-weight →
+      afterCall (refused full-refused) s ≡ chooseOf s v negative
   unfolding chooseOf choose-refusal outcome first-of only-if
   no-room h lt over = rw (h, lt-ltb v (options-in s) lt, lt-ltb most-weight (weight (nodes-in s) + literal-weight) over)
 
-  pub accepted-choice : is-sheet s ≡ true → v < options-in s → weight (nodes-in s) + literal-weight ≤ most-weight → afterCall (accepted tt) (appended s (literal v negative)) ≡ chooseOf s v negative
+  pub accepted-choice :
+      is-sheet s ≡ true →
+      v < options-in s →
+      weight (nodes-in s) + literal-weight ≤ most-weight →
+      afterCall (accepted tt) (appended s (literal v negative)) ≡ chooseOf s v negative
   unfolding chooseOf choose-refusal outcome first-of only-if
   accepted-choice h lt room = rw (h, lt-ltb v (options-in s) lt, le-ltb most-weight (weight (nodes-in s) + literal-weight) room)
 

@@ -33,7 +33,9 @@ fn say_how(book: &[u8]) {
 // Where the line that begins at a place ends.
 fn line_end(input: &[u8], from: usize) -> usize
     requires { ⌜ from ≤ length (now input) ⌝ }
-    ensures { λ r. ⌜ (from ≤ r) × (r ≤ length (now (input .entry))) ⌝ }
+    ensures { λ r. ⌜
+        (from ≤ r)
+        × (r ≤ length (now (input .entry))) ⌝ }
 {
     let mut at = from;
     while at < input.len() {
@@ -61,7 +63,9 @@ struct Line {
 
 // The first line that is refused: with it, its end too, the input is refused, and not before. (The last line may lack its end.)
 fn refused_line(book: &[u8], input: &[u8]) -> Line
-    ensures { λ r. ⌜ (r .from ≤ r .to) × (r .to ≤ length (now (input .entry))) ⌝ }
+    ensures { λ r. ⌜
+        (r .from ≤ r .to)
+        × (r .to ≤ length (now (input .entry))) ⌝ }
 {
     let mut number = 1;
     let mut from = 0;

@@ -22,7 +22,9 @@ fn without_number(found: Found) -> Done
 
 // The choice of a code's option, taken or barred.
 fn choose_code(book: &[u8], code: &[u8], negative: bool, sheet: &mut [u16]) -> Done
-    ensures { λ r. ⌜ afterCall (doneOf r) (now (sheet .exit)) ≡ «choose-found» (lookupOf (now (book .entry)) (now (code .entry))) negative (now (sheet .entry)) ⌝ }
+    ensures { λ r. ⌜
+        afterCall (doneOf r) (now (sheet .exit))
+        ≡ «choose-found» (lookupOf (now (book .entry)) (now (code .entry))) negative (now (sheet .entry)) ⌝ }
 {
     let found = books::lookup(book, code);
     let Found::Value(v) = found else {
@@ -33,7 +35,9 @@ fn choose_code(book: &[u8], code: &[u8], negative: bool, sheet: &mut [u16]) -> D
 
 // One line: a sign and a code.
 pub fn key_line(book: &[u8], line: &[u8], sheet: &mut [u16]) -> Done
-    ensures { λ r. ⌜ afterCall (doneOf r) (now (sheet .exit)) ≡ keyed (now (book .entry)) (now (line .entry)) (now (sheet .entry)) ⌝ }
+    ensures { λ r. ⌜
+        afterCall (doneOf r) (now (sheet .exit))
+        ≡ keyed (now (book .entry)) (now (line .entry)) (now (sheet .entry)) ⌝ }
 {
     if line.len() == 0 {
         return Done::Refused(Refusal::Unknown);
@@ -49,7 +53,9 @@ pub fn key_line(book: &[u8], line: &[u8], sheet: &mut [u16]) -> Done
 
 // Where the first line ends: the place of its line end, or the end of the input.
 fn line_end(s: &[u8]) -> usize
-    ensures { λ r. ⌜ (r ≡ ending (now (s .entry))) × (r ≤ length (now (s .entry))) ⌝ }
+    ensures { λ r. ⌜
+        (r ≡ ending (now (s .entry)))
+        × (r ≤ length (now (s .entry))) ⌝ }
 {
     let mut i = 0;
     while i < s.len() {
@@ -63,7 +69,9 @@ fn line_end(s: &[u8]) -> usize
 
 // All lines, in order, until one is refused.
 pub fn key_lines(book: &[u8], input: &[u8], sheet: &mut [u16]) -> Done
-    ensures { λ r. ⌜ afterCall (doneOf r) (now (sheet .exit)) ≡ «all-keyed» (now (book .entry)) (lines (now (input .entry))) (now (sheet .entry)) ⌝ }
+    ensures { λ r. ⌜
+        afterCall (doneOf r) (now (sheet .exit))
+        ≡ «all-keyed» (now (book .entry)) (lines (now (input .entry))) (now (sheet .entry)) ⌝ }
 {
     let mut at = 0;
     while at < input.len() {

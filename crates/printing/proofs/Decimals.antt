@@ -30,7 +30,9 @@ enough (suc m) zero n p q = absurd (omega arith)
 enough (suc m) (suc k) n p q =
     ⊎-elim
     (λ e. let h : n < 10 = ltb-true n 10 e in digits-small m n h ∙ rw (digits-small k n h))
-    (λ e. let h : 10 ≤ n = ltb-false n 10 e in digits-large m n h ∙ rw (digits-large k n h, enough m k (n / 10) (omega arith) (omega arith)))
+    (λ e.
+    let h : 10 ≤ n = ltb-false n 10 e in
+    digits-large m n h ∙ rw (digits-large k n h, enough m k (n / 10) (omega arith) (omega arith)))
     (either (ltb n 10))
 
 module _ (n : ℕ) where
@@ -73,8 +75,14 @@ pub decimal-one : (n : ℕ) (old : List ℕ) → n < 10 → 0 < length old → a
 decimal-one n old h room =
     placed-by (decimal n) old (sym (length-small n h)) (start-more [] (decimal n) old (48 + n) (decimal-small n h) refl room refl)
 
-pub decimal-more : (n : ℕ) (old : List ℕ) {k : ℕ} {l : List ℕ} → 10 ≤ n → length (decimal n) ≤ length old → after k l ≡ filled (decimal (n / 10)) old → after (k + 1) (set l k (48 + n % 10)) ≡ filled (decimal n) old
+pub decimal-more :
+    (n : ℕ) (old : List ℕ) {k : ℕ} {l : List ℕ} →
+    10 ≤ n →
+    length (decimal n) ≤ length old →
+    after k l ≡ filled (decimal (n / 10)) old →
+    after (k + 1) (set l k (48 + n % 10)) ≡ filled (decimal n) old
 decimal-more n old h room e =
     let long = placed-count (decimal (n / 10)) old e in
     placed-by (decimal n) old (omega (arith, length-large n h, long))
-    (start-more (decimal (n / 10)) (decimal n) old (48 + n % 10) (decimal-large n h) (sym long) (omega (arith, length-large n h, long)) (placed-buffer (decimal (n / 10)) old e))
+    (start-more (decimal (n / 10)) (decimal n) old (48 + n % 10) (decimal-large n h) (sym long) (omega (arith, length-large n h, long))
+    (placed-buffer (decimal (n / 10)) old e))

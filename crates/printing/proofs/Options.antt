@@ -35,7 +35,10 @@ unfolding characters
 characters-end s = rw (slice-empty 13 s)
 
 -- One line more.
-lines-more : (cs : List (List ℕ)) (ms c : List ℕ) (m : ℕ) → length cs ≡ length ms → option-lines (cs ++ (c ∷ [])) (ms ++ (m ∷ [])) ≡ option-lines cs ms ++ line (characters c) (mark-word m)
+lines-more :
+    (cs : List (List ℕ)) (ms c : List ℕ) (m : ℕ) →
+    length cs ≡ length ms →
+    option-lines (cs ++ (c ∷ [])) (ms ++ (m ∷ [])) ≡ option-lines cs ms ++ line (characters c) (mark-word m)
 unfolding option-lines
 lines-more [] [] c m e = append-nil (line (characters c) (mark-word m))
 lines-more [] (x ∷ ms) c m e = absurd (omega (arith, e))
@@ -69,9 +72,18 @@ option-short c m =
 
 -- The lines of the options passed, and the next in the rest of the buffer, whose code is read in the rest of the codes.
 module _ (codes marks old : List ℕ) (i : ℕ) (h : i < length marks) where
-  pub options-more : {m r : ℕ} {l ys : List ℕ} → after m l ≡ filled (option-lines (pieces 13 i codes) (take i marks)) old → m ≤ length l → after r ys ≡ filled (line (characters (take 13 (take (length codes - 13 * i) (drop (13 * i) codes)))) (mark-word (getD marks i 0))) (midOf m (length l - m) l) → after (m + r) (putMid m (length l - m) l ys) ≡ filled (option-lines (pieces 13 (i + 1) codes) (take (i + 1) marks)) old
+  pub options-more :
+      {m r : ℕ} {l ys : List ℕ} →
+      after m l ≡ filled (option-lines (pieces 13 i codes) (take i marks)) old →
+      m ≤ length l →
+      after r ys
+      ≡ filled (line (characters (take 13 (take (length codes - 13 * i) (drop (13 * i) codes)))) (mark-word (getD marks i 0)))
+      (midOf m (length l - m) l) →
+      after (m + r) (putMid m (length l - m) l ys) ≡ filled (option-lines (pieces 13 (i + 1) codes) (take (i + 1) marks)) old
   options-more e room f =
       let c = take 13 (drop (13 * i) codes) in
-      let many : length (pieces 13 i codes) ≡ length (take i marks) = omega (arith, count-pieces 13 i codes, length-take-le i marks (omega arith)) in
+      let many : length (pieces 13 i codes) ≡ length (take i marks) =
+      omega (arith, count-pieces 13 i codes, length-take-le i marks (omega arith)) in
       rw (add-one i, pieces-more 13 i codes, take-suc marks i 0 h, lines-more (pieces 13 i codes) (take i marks) c (getD marks i 0) many)
-      (placed-then (option-lines (pieces 13 i codes) (take i marks)) (line (characters c) (mark-word (getD marks i 0))) old e room (rw (part-to-end codes (13 * i)) at f))
+      (placed-then (option-lines (pieces 13 i codes) (take i marks)) (line (characters c) (mark-word (getD marks i 0))) old e room
+      (rw (part-to-end codes (13 * i)) at f))

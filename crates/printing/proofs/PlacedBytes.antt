@@ -34,7 +34,12 @@ module _ (bytes old : List ℕ) {r : ℕ} {l : List ℕ} where
   placed-start e = ap (take r) (placed-buffer e) ∙ take-at bytes (drop r old) r (sym (placed-count e))
 
 -- Bytes at the start, and more at the start of the rest that is lent.
-pub placed-then : (p q old : List ℕ) {m r : ℕ} {l ys : List ℕ} → after m l ≡ filled p old → m ≤ length l → after r ys ≡ filled q (midOf m (length l - m) l) → after (m + r) (putMid m (length l - m) l ys) ≡ filled (p ++ q) old
+pub placed-then :
+    (p q old : List ℕ) {m r : ℕ} {l ys : List ℕ} →
+    after m l ≡ filled p old →
+    m ≤ length l →
+    after r ys ≡ filled q (midOf m (length l - m) l) →
+    after (m + r) (putMid m (length l - m) l ys) ≡ filled (p ++ q) old
 placed-then p q old {m} {r} {l} e h f =
     let rest = midOf m (length l - m) l in
     placed-by (p ++ q) old (omega (arith, length-append p q, placed-count p old e, placed-count q rest f))
@@ -57,10 +62,21 @@ module _ (old : List ℕ) (space end : ℕ) (apart : space < end) (room : end < 
   from-end =
       let long = length-set old space 32 in
       drop-cons (set (set old space 32) end 10) end 0 (omega (arith, length-set (set old space 32) end 10, long))
-      ∙ rw (getD-set-same (set old space 32) end 10 0 (omega (arith, long)), drop-set-lt (suc end) (set old space 32) end 10 (omega arith), drop-set-lt (suc end) old space 32 (omega arith))
+      ∙ rw (
+        getD-set-same (set old space 32) end 10 0 (omega (arith, long)),
+        drop-set-lt (suc end) (set old space 32) end 10 (omega arith),
+        drop-set-lt (suc end) old space 32 (omega arith),
+      )
 
 -- A line is written in four parts: its space and its end, the first word before the one, the second word before the other.
-pub line-written : (a b old : List ℕ) {w l ys : List ℕ} → length a + length b + 2 ≤ length old → w ≡ set (set old (length a) 32) (length a + 1 + length b) 10 → l ≡ take (length a) a ++ drop (length a) w → length a + 1 ≤ length l → ys ≡ take (length b) b ++ drop (length b) (midOf (length a + 1) (length l - (length a + 1)) l) → after (length a + 1 + length b + 1) (putMid (length a + 1) (length l - (length a + 1)) l ys) ≡ filled (line a b) old
+pub line-written :
+    (a b old : List ℕ) {w l ys : List ℕ} →
+    length a + length b + 2 ≤ length old →
+    w ≡ set (set old (length a) 32) (length a + 1 + length b) 10 →
+    l ≡ take (length a) a ++ drop (length a) w →
+    length a + 1 ≤ length l →
+    ys ≡ take (length b) b ++ drop (length b) (midOf (length a + 1) (length l - (length a + 1)) l) →
+    after (length a + 1 + length b + 1) (putMid (length a + 1) (length l - (length a + 1)) l ys) ≡ filled (line a b) old
 unfolding line
 line-written a b old {l = l} room ends e h f =
     let p : List ℕ = a ++ (32 ∷ []) in

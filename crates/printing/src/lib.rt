@@ -11,7 +11,9 @@ use answers::Refusal;
 
 // A space and a line end at their places.
 fn put_ends(out: &mut [u8], space: usize, end: usize)
-    requires { ⌜ (space < end) × (end < length (now out)) ⌝ }
+    requires { ⌜
+        (space < end)
+        × (end < length (now out)) ⌝ }
     ensures { λ r. ⌜ now (out .exit) ≡ set (set (now (out .entry)) space 32) end 10 ⌝ }
 {
     out[space] = 32;
@@ -59,7 +61,9 @@ fn put_counted(word: &[u8], n: u64, out: &mut [u8]) -> usize
 // The line of a refusal.
 pub fn put_refusal(r: Refusal, out: &mut [u8]) -> usize
     requires { ⌜ 35 ≤ length (now out) ⌝ }
-    ensures { λ n. ⌜ after n (now (out .exit)) ≡ filled (line «refused-word» (decimal («refusal-number» (refusalOf r)))) (now (out .entry)) ⌝ }
+    ensures { λ n. ⌜
+        after n (now (out .exit))
+        ≡ filled (line «refused-word» (decimal («refusal-number» (refusalOf r)))) (now (out .entry)) ⌝ }
 {
     put_counted(b"refused", answers::number(r) as u64, out)
 }
@@ -67,7 +71,9 @@ pub fn put_refusal(r: Refusal, out: &mut [u8]) -> usize
 // The first line: what a report and a run said, and the steps.
 pub fn put_first(contradictory: bool, settled: bool, count: u64, out: &mut [u8]) -> usize
     requires { ⌜ 35 ≤ length (now out) ⌝ }
-    ensures { λ r. ⌜ after r (now (out .exit)) ≡ filled («first-line» contradictory (record { settled = settled; count = count })) (now (out .entry)) ⌝ }
+    ensures { λ r. ⌜
+        after r (now (out .exit))
+        ≡ filled («first-line» contradictory (record { settled = settled; count = count })) (now (out .entry)) ⌝ }
 {
     if contradictory {
         return put_counted(b"contradiction", count, out);
@@ -81,7 +87,9 @@ pub fn put_first(contradictory: bool, settled: bool, count: u64, out: &mut [u8])
 // How many characters a code has: those before its zeros.
 fn count_characters(code: &[u8]) -> usize
     requires { ⌜ 13 ≤ length (now code) ⌝ }
-    ensures { λ r. ⌜ (r ≤ 13) × (take r (now (code .entry)) ≡ characters (take 13 (now (code .entry)))) ⌝ }
+    ensures { λ r. ⌜
+        (r ≤ 13)
+        × (take r (now (code .entry)) ≡ characters (take 13 (now (code .entry)))) ⌝ }
 {
     let mut k = 0;
     while k < 13 {
@@ -95,8 +103,12 @@ fn count_characters(code: &[u8]) -> usize
 
 // The line of an option, by its code and its mark.
 fn put_option(code: &[u8], mark: u8, out: &mut [u8]) -> usize
-    requires { ⌜ (13 ≤ length (now code)) × (19 ≤ length (now out)) ⌝ }
-    ensures { λ r. ⌜ after r (now (out .exit)) ≡ filled (line (characters (take 13 (now (code .entry)))) («mark-word» mark)) (now (out .entry)) ⌝ }
+    requires { ⌜
+        (13 ≤ length (now code))
+        × (19 ≤ length (now out)) ⌝ }
+    ensures { λ r. ⌜
+        after r (now (out .exit))
+        ≡ filled (line (characters (take 13 (now (code .entry)))) («mark-word» mark)) (now (out .entry)) ⌝ }
 {
     let end = count_characters(code);
     let name = &code[..end];
@@ -111,8 +123,14 @@ fn put_option(code: &[u8], mark: u8, out: &mut [u8]) -> usize
 
 // The lines of all options, by their codes and their marks.
 pub fn put_options(codes: &[u8], marks: &[u8], out: &mut [u8]) -> usize
-    requires { ⌜ (13 * length (now marks) ≤ length (now codes)) × (19 * length (now marks) ≤ length (now out)) ⌝ }
-    ensures { λ r. ⌜ after r (now (out .exit)) ≡ filled («option-lines» (pieces 13 (length (now (marks .entry))) (now (codes .entry))) (now (marks .entry))) (now (out .entry)) ⌝ }
+    requires { ⌜
+        (13 * length (now marks) ≤ length (now codes))
+        × (19 * length (now marks) ≤ length (now out)) ⌝ }
+    ensures { λ r. ⌜
+        after r (now (out .exit))
+        ≡ filled
+        («option-lines» (pieces 13 (length (now (marks .entry))) (now (codes .entry))) (now (marks .entry)))
+        (now (out .entry)) ⌝ }
 {
     let mut at = 0;
     let mut i = 0;

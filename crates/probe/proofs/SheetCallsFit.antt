@@ -24,12 +24,22 @@ use Rattle.writing.proofs.Written.{sizes-of, length-written}
 use Rattle.c_calls.specs.Packed.{Fits}
 
 -- The number of an answer, and the buffer after it.
-pub told : {A : Type 0} (pack : Answer A → ℕ) {a : Answer A} {l : List ℕ} {o : Outcome (List ℕ) A} {r : ℕ} → r ≡ pack a → afterCall a l ≡ o → (r ≡ pack (o .answer)) × (l ≡ o .lent)
+pub told :
+    {A : Type 0} (pack : Answer A → ℕ) {a : Answer A} {l : List ℕ} {o : Outcome (List ℕ) A} {r : ℕ} →
+    r ≡ pack a →
+    afterCall a l ≡ o →
+    (r ≡ pack (o .answer)) × (l ≡ o .lent)
 told pack p e = (p ∙ ap (λ x. pack (x .answer)) e, ap (λ x. x .lent) e)
 
-written-small : (s b : List ℕ) → is-sheet s ≡ true → book-refusal b ≡ none → options-of b ≡ options-in s → length (written s b) < 72057594037927936
+written-small :
+    (s b : List ℕ) →
+    is-sheet s ≡ true →
+    book-refusal b ≡ none →
+    options-of b ≡ options-in s →
+    length (written s b) < 72057594037927936
 unfolding options-in used-in
-written-small s b sheet book same = omega (arith, length-written s b (sheet-formed s sheet) (accepted-book b book) same, sizes-of s (sheet-formed s sheet))
+written-small s b sheet book same =
+    omega (arith, length-written s b (sheet-formed s sheet) (accepted-book b book) same, sizes-of s (sheet-formed s sheet))
 
 pub write-fits : (s b out : List ℕ) → Fits (writeOf s b out .answer)
 unfolding writeOf

@@ -17,6 +17,11 @@ module _ (s : List ℕ) (budget : ℕ) where
   unfolding runOf run-refusal outcome only-if
   no-sheet h = rw h
 
-  pub done : is-sheet s ≡ true → {settled said : Bool} {count : ℕ} {t : List ℕ} → settled ≡ said → Ends s budget settled count t → afterCall (accepted (record { settled = said; count = count })) t ≡ runOf s budget
+  pub done :
+      is-sheet s ≡ true →
+      {settled said : Bool} {count : ℕ} {t : List ℕ} →
+      settled ≡ said →
+      Ends s budget settled count t →
+      afterCall (accepted (record { settled = said; count = count })) t ≡ runOf s budget
   unfolding runOf run-refusal outcome only-if
   done h same e = rw (h, ← same, e .says, e .counts, e .leaves)

@@ -17,7 +17,8 @@ use Rattle.calls.specs.Refusals.{Refusal, refusal-number}
 use Rattle.calls.specs.Outcomes.{Answer, refused, accepted, Outcome, outcome}
 use Rattle.calls.specs.Chains.{book-refusal, load-refusal}
 use Rattle.calls.specs.Calls.{Ran, loadOf, runOf, reportOf}
-use Rattle.calls.specs.Desk.{lines, all-keyed, decimal, line, printed, refused-word, contradiction-word, settled-word, stopped-word, first-line, option-lines, desk-budget, deskOf}
+use Rattle.calls.specs.Desk.{lines, all-keyed, decimal, line, printed, refused-word, contradiction-word, settled-word}
+use Rattle.calls.specs.Desk.{stopped-word, first-line, option-lines, desk-budget, deskOf}
 use Rattle.call_laws.specs.Books.{accepted-book}
 use Rattle.answers.specs.AnswerMeaning.{afterCall}
 use Rattle.books.proofs.BookTests.{codes-room}
@@ -50,7 +51,12 @@ short-word false false = omega arith
 pub short-first : (c : Bool) (ran : Ran) → ran .count < 18446744073709551616 → length (first-line c ran) ≤ 35
 unfolding first-line
 short-first c ran h =
-    omega (arith, length-line (pick c contradiction-word (pick (ran .settled) settled-word stopped-word)) (decimal (ran .count)), short-word c (ran .settled), twenty-digits (ran .count) h)
+    omega (
+      arith,
+      length-line (pick c contradiction-word (pick (ran .settled) settled-word stopped-word)) (decimal (ran .count)),
+      short-word c (ran .settled),
+      twenty-digits (ran .count) h,
+    )
 
 -- The first zeros of zeros.
 pub take-zeros : (n m : ℕ) → n ≤ m → take {A = ℕ} n (replicate m 0) ≡ replicate n 0
@@ -60,7 +66,9 @@ take-zeros (suc n) (suc m) h = ap (λ l. 0 ∷ l) (take-zeros n m (omega arith))
 
 -- What is printed of a report, by its answer.
 module _ (book : List ℕ) (ran : Ran) (marks : List ℕ) (told : Outcome (List ℕ) Bool) where
-  pub told-consistent : afterCall (accepted false) marks ≡ told → first-line false ran ++ option-lines (codes-of book) marks ≡ told-lines book ran told
+  pub told-consistent :
+      afterCall (accepted false) marks ≡ told →
+      first-line false ran ++ option-lines (codes-of book) marks ≡ told-lines book ran told
   unfolding told-lines printed pick
   told-consistent e = rw (← e)
 
@@ -68,13 +76,21 @@ module _ (book : List ℕ) (ran : Ran) (marks : List ℕ) (told : Outcome (List 
   unfolding told-lines printed pick
   told-contradictory e = rw (← e) (sym (append-nil (first-line true ran)))
 
-  pub told-refused : (r : Refusal) → afterCall (refused r) marks ≡ told → line refused-word (decimal (refusal-number r)) ≡ told-lines book ran told
+  pub told-refused :
+      (r : Refusal) →
+      afterCall (refused r) marks ≡ told →
+      line refused-word (decimal (refusal-number r)) ≡ told-lines book ran told
   unfolding told-lines printed
   told-refused r e = rw (← e)
 
 -- What is printed of a run, by its answer.
 module _ (book s : List ℕ) (done : Outcome (List ℕ) Ran) where
-  pub ran-accepted : (ran : Ran) (n m : ℕ) → n ≡ options-of book → n ≤ m → afterCall (accepted ran) s ≡ done → told-lines book ran (reportOf s (take n (replicate m 0))) ≡ ran-lines book done
+  pub ran-accepted :
+      (ran : Ran) (n m : ℕ) →
+      n ≡ options-of book →
+      n ≤ m →
+      afterCall (accepted ran) s ≡ done →
+      told-lines book ran (reportOf s (take n (replicate m 0))) ≡ ran-lines book done
   unfolding ran-lines printed
   ran-accepted ran n m e h f = rw (take-zeros n m h, e, ← f)
 
@@ -100,21 +116,33 @@ module _ (book input s : List ℕ) (loaded : Answer (Unit {0})) (load : afterCal
   load-refused r e = rw (← desk-is book input, ← load, e)
 
   -- With an accepted book.
-  module _ (done : loaded ≡ accepted tt) (s' : List ℕ) (chosen : Answer (Unit {0})) (key : afterCall chosen s' ≡ all-keyed book (lines input) s) where
-    pub keys-refused : (r : Refusal) → chosen ≡ refused r → printed chosen (λ u. []) ≡ deskOf book input
-    unfolding loaded-lines chosen-lines printed
-    keys-refused r e = rw (← desk-is book input, ← load, done, ← key, e)
+  module _
+      (done : loaded ≡ accepted tt)
+      (s' : List ℕ)
+      (chosen : Answer (Unit {0}))
+      (key : afterCall chosen s' ≡ all-keyed book (lines input) s)
+    where
+      pub keys-refused : (r : Refusal) → chosen ≡ refused r → printed chosen (λ u. []) ≡ deskOf book input
+      unfolding loaded-lines chosen-lines printed
+      keys-refused r e = rw (← desk-is book input, ← load, done, ← key, e)
 
-    pub keys-accepted : chosen ≡ accepted tt → ran-lines book (runOf s' desk-budget) ≡ deskOf book input
-    unfolding loaded-lines chosen-lines printed
-    keys-accepted e = rw (← desk-is book input, ← load, done, ← key, e)
+      pub keys-accepted : chosen ≡ accepted tt → ran-lines book (runOf s' desk-budget) ≡ deskOf book input
+      unfolding loaded-lines chosen-lines printed
+      keys-accepted e = rw (← desk-is book input, ← load, done, ← key, e)
 
 -- A book that was loaded is accepted.
-pub loaded-good : (book target l : List ℕ) → length target ≡ sheet-length → afterCall (accepted tt) l ≡ loadOf book target → book-refusal book ≡ none
+pub loaded-good :
+    (book target l : List ℕ) →
+    length target ≡ sheet-length →
+    afterCall (accepted tt) l ≡ loadOf book target →
+    book-refusal book ≡ none
 unfolding loadOf load-refusal outcome first-of only-if
 loaded-good book target l h e = go (book-refusal book) (rw (eq-eqb (length target) sheet-length h) at e)
   where
-    go : (o : Option Refusal) → afterCall (accepted (tt {0})) l ≡ outcome o (tt {0}) target (sheet-of (options-of book) (book-nodes book)) → o ≡ none
+    go :
+        (o : Option Refusal) →
+        afterCall (accepted (tt {0})) l ≡ outcome o (tt {0}) target (sheet-of (options-of book) (book-nodes book)) →
+        o ≡ none
     go none f = refl
     go (some r) f =
         let g : accepted (tt {0}) ≡ refused r = ap (λ o. o .answer) f in

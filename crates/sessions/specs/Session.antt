@@ -14,7 +14,8 @@ use Rattle.printing.specs.Placed.{Written, after, filled}
 -- What is printed of a report, after a run.
 unfoldable pub told-lines : List ℕ → Ran → Outcome (List ℕ) Bool → List ℕ
 told-lines book ran told =
-    printed (told .answer) (λ contradictory. first-line contradictory ran ++ pick contradictory [] (option-lines (codes-of book) (told .lent)))
+    printed (told .answer)
+    (λ contradictory. first-line contradictory ran ++ pick contradictory [] (option-lines (codes-of book) (told .lent)))
 
 -- What is printed of a run.
 unfoldable pub ran-lines : List ℕ → Outcome (List ℕ) Ran → List ℕ

@@ -31,8 +31,16 @@ fn put_refused(answer: Done, out: &mut [u8]) -> usize
 
 // The first line, and a line for each option, where there is no contradiction.
 fn put_lines(book: &[u8], marks: &[u8], settled: bool, count: u64, out: &mut [u8]) -> usize
-    requires { ⌜ («book-refusal» (now book) ≡ none) × (length (now marks) ≡ «options-of» (now book)) × (16384 ≤ length (now out)) ⌝ }
-    ensures { λ r. ⌜ after r (now (out .exit)) ≡ filled («first-line» false (record { settled = settled; count = count }) ++ «option-lines» («codes-of» (now (book .entry))) (now (marks .entry))) (now (out .entry)) ⌝ }
+    requires { ⌜
+        («book-refusal» (now book) ≡ none)
+        × (length (now marks) ≡ «options-of» (now book))
+        × (16384 ≤ length (now out)) ⌝ }
+    ensures { λ r. ⌜
+        after r (now (out .exit))
+        ≡ filled
+        («first-line» false (record { settled = settled; count = count })
+        ++ «option-lines» («codes-of» (now (book .entry))) (now (marks .entry)))
+        (now (out .entry)) ⌝ }
 {
     let at = printing::put_first(false, settled, count, out);
     at + printing::put_options(&book[8..], marks, &mut out[at..])
@@ -47,8 +55,18 @@ fn put_told(
     marks: &mut [u8],
     out: &mut [u8],
 ) -> usize
-    requires { ⌜ («book-refusal» (now book) ≡ none) × (length (now marks) ≡ «options-of» (now book)) × (16384 ≤ length (now out)) ⌝ }
-    ensures { λ r. ⌜ after r (now (out .exit)) ≡ filled («told-lines» (now (book .entry)) (record { settled = settled; count = count }) (reportOf (now (sheet .entry)) (now (marks .entry)))) (now (out .entry)) ⌝ }
+    requires { ⌜
+        («book-refusal» (now book) ≡ none)
+        × (length (now marks) ≡ «options-of» (now book))
+        × (16384 ≤ length (now out)) ⌝ }
+    ensures { λ r. ⌜
+        after r (now (out .exit))
+        ≡ filled
+        («told-lines»
+        (now (book .entry))
+        (record { settled = settled; count = count })
+        (reportOf (now (sheet .entry)) (now (marks .entry))))
+        (now (out .entry)) ⌝ }
 {
     let told = reports::report(sheet, marks);
     match told {
@@ -60,8 +78,12 @@ fn put_told(
 
 // The run and the report.
 fn put_ran(book: &[u8], sheet: &mut [u16], out: &mut [u8]) -> usize
-    requires { ⌜ («book-refusal» (now book) ≡ none) × (16384 ≤ length (now out)) ⌝ }
-    ensures { λ r. ⌜ after r (now (out .exit)) ≡ filled («ran-lines» (now (book .entry)) (runOf (now (sheet .entry)) «desk-budget»)) (now (out .entry)) ⌝ }
+    requires { ⌜
+        («book-refusal» (now book) ≡ none)
+        × (16384 ≤ length (now out)) ⌝ }
+    ensures { λ r. ⌜
+        after r (now (out .exit))
+        ≡ filled («ran-lines» (now (book .entry)) (runOf (now (sheet .entry)) «desk-budget»)) (now (out .entry)) ⌝ }
 {
     let n = numbers::word_at(book, 0);
     let mut room = [0u8; MOST_OPTIONS];

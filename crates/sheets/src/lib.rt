@@ -17,8 +17,14 @@ use nodes::Trees;
 
 // The first so many numbers are one tree with the root at its head and nowhere else, for n options.
 fn is_rooted_tree(s: &[u16], used: usize, n: usize) -> bool
-    requires { ⌜ (1 ≤ used) × (used ≤ «sheet-room») × (used ≤ length (now s)) ⌝ }
-    ensures { λ r. ⌜ r ≡ (rooted n (take used (now (s .entry))) && «one-tree» (map «node-of» (take used (now (s .entry))))) ⌝ }
+    requires { ⌜
+        (1 ≤ used)
+        × (used ≤ «sheet-room»)
+        × (used ≤ length (now s)) ⌝ }
+    ensures { λ r. ⌜
+        r
+        ≡ (rooted n (take used (now (s .entry)))
+        && «one-tree» (map «node-of» (take used (now (s .entry))))) ⌝ }
 {
     let head = numbers::wide16(s[0]);
     if nodes::kind_of(head) != 5 {
@@ -53,7 +59,9 @@ fn is_clear(s: &[u16]) -> bool
 
 // The literals among the first so many numbers.
 pub fn count_literals(s: &[u16], used: usize) -> usize
-    requires { ⌜ (used ≤ «sheet-room») × (used ≤ length (now s)) ⌝ }
+    requires { ⌜
+        (used ≤ «sheet-room»)
+        × (used ≤ length (now s)) ⌝ }
     ensures { λ r. ⌜ r ≡ literals (map «node-of» (take used (now (s .entry)))) ⌝ }
 {
     let mut sum = 0;

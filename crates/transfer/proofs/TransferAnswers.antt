@@ -44,7 +44,10 @@ module _ (b target : List ℕ) where
   unfolding loadOf load-refusal outcome first-of only-if
   load-refused h e = rw (eq-eqb (length target) sheet-length h, e)
 
-  pub load-done : length target ≡ sheet-length → book-refusal b ≡ none → afterCall (accepted tt) (sheet-of (options-of b) (book-nodes b)) ≡ loadOf b target
+  pub load-done :
+      length target ≡ sheet-length →
+      book-refusal b ≡ none →
+      afterCall (accepted tt) (sheet-of (options-of b) (book-nodes b)) ≡ loadOf b target
   unfolding loadOf load-refusal outcome first-of only-if
   load-done h e = rw (eq-eqb (length target) sheet-length h, e)
 
@@ -57,16 +60,30 @@ module _ (s b out : List ℕ) where
   unfolding writeOf write-refusal outcome first-of only-if
   write-refused h e = rw (h, e)
 
-  pub write-other : is-sheet s ≡ true → book-refusal b ≡ none → (options-of b ≡ options-in s → ⊥) → afterCall (refused sheet-refused) out ≡ writeOf s b out
+  pub write-other :
+      is-sheet s ≡ true →
+      book-refusal b ≡ none →
+      (options-of b ≡ options-in s → ⊥) →
+      afterCall (refused sheet-refused) out ≡ writeOf s b out
   unfolding writeOf write-refusal outcome first-of only-if
   write-other h e n = rw (h, e, ne-eqb (options-of b) (options-in s) n)
 
-  pub write-short : is-sheet s ≡ true → book-refusal b ≡ none → options-of b ≡ options-in s → length out < length (written s b) → afterCall (refused output-refused) out ≡ writeOf s b out
+  pub write-short :
+      is-sheet s ≡ true →
+      book-refusal b ≡ none →
+      options-of b ≡ options-in s →
+      length out < length (written s b) →
+      afterCall (refused output-refused) out ≡ writeOf s b out
   unfolding writeOf write-refusal outcome first-of only-if
   write-short h e n l =
       rw (h, e, eq-eqb (options-of b) (options-in s) n, lt-ltb (length out) (length (written s b)) l)
 
-  pub write-done : is-sheet s ≡ true → book-refusal b ≡ none → options-of b ≡ options-in s → length (written s b) ≤ length out → afterCall (accepted (length (written s b))) (placed (written s b) out) ≡ writeOf s b out
+  pub write-done :
+      is-sheet s ≡ true →
+      book-refusal b ≡ none →
+      options-of b ≡ options-in s →
+      length (written s b) ≤ length out →
+      afterCall (accepted (length (written s b))) (placed (written s b) out) ≡ writeOf s b out
   unfolding writeOf write-refusal outcome first-of only-if
   write-done h e n l =
       rw (h, e, eq-eqb (options-of b) (options-in s) n, le-ltb (length out) (length (written s b)) l)

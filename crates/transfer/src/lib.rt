@@ -25,7 +25,9 @@ pub fn load(book: &[u8], target: &mut [u16]) -> Done
 
 // The writer.
 pub fn write(sheet: &[u16], book: &[u8], out: &mut [u8]) -> Found
-    ensures { λ r. ⌜ afterCall (foundOf r) (now (out .exit)) ≡ writeOf (now (sheet .entry)) (now (book .entry)) (now (out .entry)) ⌝ }
+    ensures { λ r. ⌜
+        afterCall (foundOf r) (now (out .exit))
+        ≡ writeOf (now (sheet .entry)) (now (book .entry)) (now (out .entry)) ⌝ }
 {
     if !sheets::is_sheet(sheet) {
         return Found::Refused(Refusal::Sheet);

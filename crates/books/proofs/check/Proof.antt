@@ -16,16 +16,21 @@ use Rattle.books.proofs.check.Tie as tie
 good-head : (d : tie.Else2) → head-in-limits (d .before .before .before .before .args .book .now) ≡ true
 good-head d = sym (d .before .is-head .ensures) ∙ not-false (d .before .is-head .result) (d .if2 .left)
 
-limits : (c : tie.After-word-at3) → (c .before .before .word-at .result ≤ most-options) × (c .before .word-at2 .result ≤ most-rules) × (c .word-at3 .result ≤ most-nodes)
+limits :
+    (c : tie.After-word-at3) →
+    (c .before .before .word-at .result ≤ most-options) × (c .before .word-at2 .result ≤ most-rules) × (c .word-at3 .result ≤ most-nodes)
 limits c =
-    head-limits _ _ _ _ (c .before .before .word-at .ensures) (c .before .word-at2 .ensures) (c .word-at3 .ensures) (good-head (c .before .before .before))
+    head-limits _ _ _ _ (c .before .before .word-at .ensures) (c .before .word-at2 .ensures) (c .word-at3 .ensures)
+    (good-head (c .before .before .before))
 
 returns : tie.Need-returns
 returns c = refused-by _ _ (too-short _ (lt-ltb _ 8 (c .if1 .taken)))
 
 returns-2 : tie.Need-returns-2
 returns-2 c =
-    refused-by _ _ (bad-head _ (le-ltb _ 8 (c .before .before .if1 .left)) (sym (c .before .is-head .ensures) ∙ not-true (c .before .is-head .result) (c .if2 .taken)))
+    refused-by _ _
+    (bad-head _ (le-ltb _ 8 (c .before .before .if1 .left))
+    (sym (c .before .is-head .ensures) ∙ not-true (c .before .is-head .result) (c .if2 .taken)))
 
 mul-if3 : tie.Need-mul-if3
 mul-if3 c = let l = limits c in omega arith
@@ -48,7 +53,14 @@ add-if3-3 c = let l = limits c in omega arith
 returns-3 : tie.Need-returns-3
 returns-3 c =
     let d = c .before .before .before .before in
-    refused-by _ _ (bad-length _ (le-ltb _ 8 (d .before .before .if1 .left)) (good-head d) (ne-eqb _ _ (λ q. c .if3 .taken (q ∙ length-is _ _ _ _ (c .before .before .before .word-at .ensures) (c .before .before .word-at2 .ensures) (c .before .word-at3 .ensures)))))
+    refused-by _ _
+    (bad-length _ (le-ltb _ 8 (d .before .before .if1 .left)) (good-head d)
+    (ne-eqb _ _
+    (λ q.
+    c .if3 .taken
+    (q
+    ∙ length-is _ _ _ _ (c .before .before .before .word-at .ensures) (c .before .before .word-at2 .ensures)
+    (c .before .word-at3 .ensures)))))
 
 check-parts-requires : tie.Need-check-parts-requires
 check-parts-requires c κs =
@@ -67,7 +79,15 @@ returns-4 : tie.Need-returns-4
 returns-4 c =
     let e = c .before in
     let d = e .before .before .before .before in
-    done-by _ (c .check-parts .result) (c .check-parts .ensures ∙ sym (then-parts _ (le-ltb _ 8 (d .before .before .if1 .left)) (good-head d) (eq-eqb _ _ (e .if3 .left ∙ sym (length-is _ _ _ _ (e .before .before .before .word-at .ensures) (e .before .before .word-at2 .ensures) (e .before .word-at3 .ensures))))))
+    done-by _ (c .check-parts .result)
+    (c .check-parts .ensures
+    ∙ sym
+    (then-parts _ (le-ltb _ 8 (d .before .before .if1 .left)) (good-head d)
+    (eq-eqb _ _
+    (e .if3 .left
+    ∙ sym
+    (length-is _ _ _ _ (e .before .before .before .word-at .ensures) (e .before .before .word-at2 .ensures)
+    (e .before .word-at3 .ensures))))))
 
 pub check-spec : {M : Type 1} → statement M
 check-spec =

@@ -5,33 +5,42 @@ use native.Mathlib.Omega.{arith}
 use borrow.Author.Needs.{needs}
 use borrow.Author.Tests.{not-true, not-false}
 use Rattle.calls.specs.Conditions.{has-good-codes, has-good-contents, has-good-bodies}
-use Rattle.books.proofs.BookTests.{codes-test, contents-test, bodies-test, weight-test, codes-bad, contents-bad, bodies-bad, weight-bad, all-good, few-literals}
+use Rattle.books.proofs.BookTests.{codes-test, contents-test, bodies-test, weight-test, codes-bad, contents-bad}
+use Rattle.books.proofs.BookTests.{bodies-bad, weight-bad, all-good, few-literals}
 use Rattle.books.proofs.check_parts.Statement.{statement}
 use Rattle.books.proofs.check_parts.Tie as tie
 
 -- The tests that are passed, and what each says of the book.
 good-codes : (c : tie.Else1) → has-good-codes (c .before .before .before .before .args .book .now) ≡ true
 good-codes c =
-    codes-test (c .before .before .before .before .pre) (c .before .are-codes .ensures) ∙ not-false (c .before .are-codes .result) (c .if1 .left)
+    codes-test (c .before .before .before .before .pre) (c .before .are-codes .ensures)
+    ∙ not-false (c .before .are-codes .result) (c .if1 .left)
 
 good-contents : (c : tie.Else2) → has-good-contents (c .before .before .before .before .before .before .before .args .book .now) ≡ true
 good-contents c =
     contents-test (c .before .before .before .before .before .before .before .pre) (c .before .are-in-line .ensures)
     ∙ not-false (c .before .are-in-line .result) (c .if2 .left)
 
-good-bodies : (c : tie.Else3) → has-good-bodies (c .before .before .before .before .before .before .before .before .before .before .before .args .book .now) ≡ true
+good-bodies :
+    (c : tie.Else3) →
+    has-good-bodies (c .before .before .before .before .before .before .before .before .before .before .before .args .book .now) ≡ true
 good-bodies c =
-    bodies-test (c .before .before .before .before .before .before .before .before .before .before .before .pre) (c .before .are-bodies .ensures)
+    bodies-test (c .before .before .before .before .before .before .before .before .before .before .before .pre)
+    (c .before .are-bodies .ensures)
     ∙ not-false (c .before .are-bodies .result) (c .if3 .left)
 
 returns : tie.Need-returns
 returns c =
-    codes-bad _ (codes-test (c .before .before .before .before .pre) (c .before .are-codes .ensures) ∙ not-true (c .before .are-codes .result) (c .if1 .taken))
+    codes-bad _
+    (codes-test (c .before .before .before .before .pre) (c .before .are-codes .ensures)
+    ∙ not-true (c .before .are-codes .result) (c .if1 .taken))
 
 returns-2 : tie.Need-returns-2
 returns-2 c =
     let d = c .before .before .before in
-    contents-bad _ (good-codes d) (contents-test (d .before .before .before .before .pre) (c .before .are-in-line .ensures) ∙ not-true (c .before .are-in-line .result) (c .if2 .taken))
+    contents-bad _ (good-codes d)
+    (contents-test (d .before .before .before .before .pre) (c .before .are-in-line .ensures)
+    ∙ not-true (c .before .are-in-line .result) (c .if2 .taken))
 
 are-bodies-requires : tie.Need-are-bodies-requires
 are-bodies-requires c κs =
@@ -42,7 +51,9 @@ returns-3 : tie.Need-returns-3
 returns-3 c =
     let e = c .before .before .before .before in
     let d = e .before .before .before in
-    bodies-bad _ (good-codes d) (good-contents e) (bodies-test (d .before .before .before .before .pre) (c .before .are-bodies .ensures) ∙ not-true (c .before .are-bodies .result) (c .if3 .taken))
+    bodies-bad _ (good-codes d) (good-contents e)
+    (bodies-test (d .before .before .before .before .pre) (c .before .are-bodies .ensures)
+    ∙ not-true (c .before .are-bodies .result) (c .if3 .taken))
 
 add-if4-2 : tie.Need-add-if4-2
 add-if4-2 c = omega (arith, few-literals _ _ (c .count-literals .ensures))
@@ -52,14 +63,16 @@ returns-4 c =
     let f = c .before .before .before in
     let e = f .before .before .before .before in
     let d = e .before .before .before in
-    weight-bad _ (good-codes d) (good-contents e) (good-bodies f) (omega (arith, c .if4 .taken, weight-test (d .before .before .before .before .pre) (c .before .count-literals .ensures)))
+    weight-bad _ (good-codes d) (good-contents e) (good-bodies f)
+    (omega (arith, c .if4 .taken, weight-test (d .before .before .before .before .pre) (c .before .count-literals .ensures)))
 
 returns-5 : tie.Need-returns-5
 returns-5 c =
     let f = c .before .before .before in
     let e = f .before .before .before .before in
     let d = e .before .before .before in
-    all-good _ (good-codes d) (good-contents e) (good-bodies f) (omega (arith, c .if4 .left, weight-test (d .before .before .before .before .pre) (c .before .count-literals .ensures)))
+    all-good _ (good-codes d) (good-contents e) (good-bodies f)
+    (omega (arith, c .if4 .left, weight-test (d .before .before .before .before .pre) (c .before .count-literals .ensures)))
 
 pub check-parts-spec : {M : Type 1} → statement M
 check-parts-spec =

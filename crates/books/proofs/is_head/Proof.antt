@@ -29,18 +29,22 @@ returns : tie.Need-returns
 returns c = options-over _ _ _ _ (c .before .word-at .ensures) refl refl (c .if1 .taken)
 
 returns-2 : tie.Need-returns-2
-returns-2 c = rules-over _ _ _ _ (c .before .before .before .word-at .ensures) (c .before .word-at2 .ensures) refl (c .before .before .if1 .left) (c .if2 .taken)
+returns-2 c =
+    rules-over _ _ _ _ (c .before .before .before .word-at .ensures) (c .before .word-at2 .ensures) refl (c .before .before .if1 .left)
+    (c .if2 .taken)
 
 returns-3 : tie.Need-returns-3
 returns-3 c =
     let d = c .before .before .before .before in
-    nodes-over _ _ _ _ (d .before .word-at .ensures) (c .before .before .before .word-at2 .ensures) (c .before .word-at3 .ensures) (d .if1 .left) (c .before .before .if2 .left) (c .if3 .taken)
+    nodes-over _ _ _ _ (d .before .word-at .ensures) (c .before .before .before .word-at2 .ensures) (c .before .word-at3 .ensures)
+    (d .if1 .left) (c .before .before .if2 .left) (c .if3 .taken)
 
 returns-4 : tie.Need-returns-4
 returns-4 c =
     let d = c .before .before .before in
     ap (λ x. eqb x 0) (c .word-at4 .ensures)
-    ∙ within _ _ _ _ (d .before .before .before .word-at .ensures) (d .before .word-at2 .ensures) (c .before .before .word-at3 .ensures) (d .before .before .if1 .left) (d .if2 .left) (c .before .if3 .left)
+    ∙ within _ _ _ _ (d .before .before .before .word-at .ensures) (d .before .word-at2 .ensures) (c .before .before .word-at3 .ensures)
+    (d .before .before .if1 .left) (d .if2 .left) (c .before .if3 .left)
 
 pub is-head-spec : {M : Type 1} → statement M
 is-head-spec =

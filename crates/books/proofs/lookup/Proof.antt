@@ -38,13 +38,15 @@ returns-2 : tie.Need-returns-2
 returns-2 c =
     let f = c .before .before .before in
     let w = f .before .before in
-    lookup-found _ _ (good (w .before)) _ (found-code _ _ _ (w .word-at .ensures) (ap placeOf (sym (c .before .place .given .1)) ∙ f .find .ensures))
+    lookup-found _ _ (good (w .before)) _
+    (found-code _ _ _ (w .word-at .ensures) (ap placeOf (sym (c .before .place .given .1)) ∙ f .find .ensures))
 
 returns-3 : tie.Need-returns-3
 returns-3 c =
     let f = c .before .before in
     let w = f .before .before in
-    lookup-missing _ _ (good (w .before)) (found-code _ _ _ (w .word-at .ensures) (ap placeOf (sym (c .enum-told2 .given .1)) ∙ f .find .ensures))
+    lookup-missing _ _ (good (w .before))
+    (found-code _ _ _ (w .word-at .ensures) (ap placeOf (sym (c .enum-told2 .given .1)) ∙ f .find .ensures))
 
 pub lookup-spec : {M : Type 1} → statement M
 lookup-spec =

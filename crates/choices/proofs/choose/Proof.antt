@@ -19,11 +19,18 @@ good : (c : tie.Else1) → is-sheet (c .before .before .before .before .args .sh
 good c = sym (c .before .is-sheet .ensures) ∙ not-false (c .before .is-sheet .result) (c .if1 .left)
 
 known : (c : tie.Else2) → let a = c .before .before .before .before .before .before .args in a .option < options-in (a .sheet .now)
-known c = let f = sheet-first (c .before .before .before .before .before .before .args .sheet .now) (good (c .before .before)) in omega (arith, c .if2 .left)
+known c =
+    let f = sheet-first (c .before .before .before .before .before .before .args .sheet .now) (good (c .before .before)) in
+    omega (arith, c .if2 .left)
 
 -- The weight as it was counted.
-counted : (c : tie.After-count-literals) → c .before .before .before .wide16 .result + c .count-literals .result ≡ weight (nodes-in (c .before .before .before .before .before .before .before .before .before .before .before .args .sheet .now))
-counted c = weight-counted _ (good (c .before .before .before .before .before .before .before)) (c .before .before .before .wide16 .ensures .0) (c .count-literals .ensures)
+counted :
+    (c : tie.After-count-literals) →
+    c .before .before .before .wide16 .result + c .count-literals .result
+    ≡ weight (nodes-in (c .before .before .before .before .before .before .before .before .before .before .before .args .sheet .now))
+counted c =
+    weight-counted _ (good (c .before .before .before .before .before .before .before)) (c .before .before .before .wide16 .ensures .0)
+    (c .count-literals .ensures)
 
 returns : tie.Need-returns
 returns c = no-sheet _ _ _ (sym (c .before .is-sheet .ensures) ∙ not-true (c .before .is-sheet .result) (c .if1 .taken))
@@ -60,16 +67,24 @@ add-if3-2 c = omega (arith, counted c, sheet-weight _ (good (c .before .before .
 
 returns-3 : tie.Need-returns-3
 returns-3 c =
-    no-room _ _ _ (good (c .before .before .before .before .before .before .before .before)) (known (c .before .before .before .before .before .before)) (omega (arith, counted (c .before), c .if3 .taken))
+    no-room _ _ _ (good (c .before .before .before .before .before .before .before .before))
+    (known (c .before .before .before .before .before .before)) (omega (arith, counted (c .before), c .if3 .taken))
 
 append-requires : tie.Need-append-requires
-append-requires c κs =
-    (sheet-formed _ (good (c .before .before .before .before .before .before .before .before .before)), (known (c .before .before .before .before .before .before .before), omega (arith, counted (c .before .before), c .before .if3 .left)))
+append-requires c κs = (
+  sheet-formed _ (good (c .before .before .before .before .before .before .before .before .before)),
+  (
+    known (c .before .before .before .before .before .before .before),
+    omega (arith, counted (c .before .before), c .before .if3 .left),
+  ),
+)
 
 returns-4 : tie.Need-returns-4
 returns-4 c =
     rw (c .before .before .append .ensures)
-    (accepted-choice _ _ _ (good (c .before .before .before .before .before .before .before .before .before .before .before .before)) (known (c .before .before .before .before .before .before .before .before .before .before)) (omega (arith, counted (c .before .before .before .before .before), c .before .before .before .before .if3 .left)))
+    (accepted-choice _ _ _ (good (c .before .before .before .before .before .before .before .before .before .before .before .before))
+    (known (c .before .before .before .before .before .before .before .before .before .before))
+    (omega (arith, counted (c .before .before .before .before .before), c .before .before .before .before .if3 .left)))
 
 pub choose-spec : {M : Type 1} → statement M
 choose-spec =

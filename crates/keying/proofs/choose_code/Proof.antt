@@ -13,17 +13,20 @@ enum-told c = search needs
 
 returns : tie.Need-returns
 returns c =
-    choose-refused _ _ _ _ _ _ (ap foundOf (c .before .enum-told .given .1)) (c .before .before .before .lookup .ensures) (c .without-number .ensures)
+    choose-refused _ _ _ _ _ _ (ap foundOf (c .before .enum-told .given .1)) (c .before .before .before .lookup .ensures)
+    (c .without-number .ensures)
 
 cast-choose : tie.Need-cast-choose
 cast-choose c =
     let start = c .before .before .before .before .before .before .before .before in
-    record { fits = omega (arith, found-small (start .args .book .now) (start .args .code .now) _ (ap foundOf (sym (c .before .before .found .given .1)) ∙ c .before .before .before .before .lookup .ensures)) }
+    let said = ap foundOf (sym (c .before .before .found .given .1)) ∙ c .before .before .before .before .lookup .ensures in
+    record { fits = omega (arith, found-small (start .args .book .now) (start .args .code .now) _ said) }
 
 returns-2 : tie.Need-returns-2
 returns-2 c =
     let found = c .before .before .before .before .before in
-    c .before .before .choose .ensures ∙ choose-value _ _ _ _ _ (ap foundOf (found .found .given .1)) (found .before .before .lookup .ensures)
+    c .before .before .choose .ensures
+    ∙ choose-value _ _ _ _ _ (ap foundOf (found .found .given .1)) (found .before .before .lookup .ensures)
 
 pub choose-code-spec : {M : Type 1} → statement M
 choose-code-spec =

@@ -5,9 +5,9 @@ use native.Mathlib.Omega.{arith}
 use borrow.Author.Needs.{needs}
 use lib.ListN.{length, drop}
 use lib.Seq.{drop-length}
-use Rattle.calls.specs.Desk.{lines, all-keyed}
+use Rattle.calls.specs.Desk.{lines, go-on, all-keyed}
 use Rattle.answers.specs.AnswerMeaning.{doneOf}
-use Rattle.keying.proofs.KeyedLines.{keyed-stop, keyed-on, keyed-last}
+use Rattle.keying.proofs.KeyedLines.{keyed-line, stopped-by, gone-on, past-end}
 use Rattle.keying.proofs.key_lines.Statement.{statement}
 use Rattle.keying.proofs.key_lines.Tie as tie
 
@@ -26,39 +26,35 @@ loop-holds c = (omega arith, refl, refl)
 enum-told : tie.Need-enum-told Inv-loop μ-loop
 enum-told c = search needs
 
-returns : tie.Need-returns Inv-loop μ-loop
-returns c =
-    let keyed = c .before .before .before .before in
-    let line = keyed .before .before .before in
+-- A line that was keyed: its answer and the lines after it, on the sheet as it is, give what all lines give on the first.
+keyed-here :
+    (c : tie.After-key-line Inv-loop μ-loop) →
+    let line = c .before .before .before in
+    let n = line .before .before .before in
+    let a = n .before .before .before .before .args in
+    let rest = lines (drop (n .loop .at + line .line-end .result + 1) (a .input .now)) in
+    go-on (doneOf (c .key-line .result)) (c .key-line .last .1 .1 .0) (all-keyed (a .book .now) rest)
+    ≡ all-keyed (a .book .now) (lines (a .input .now)) (a .sheet .now)
+keyed-here c =
+    let line = c .before .before .before in
     let n = line .before .before .before in
     let a = n .before .before .before .before .args in
     let end = ap (λ k. n .loop .at + k) (line .line-end .ensures .0) in
-    keyed-stop (a .book .now) (a .input .now) (line .before .before .loop-test .taken) end (n .loop .sheet) _ _ _ (ap doneOf (c .enum-told2 .given .1)) (keyed .key-line .ensures)
+    keyed-line (a .book .now) (a .input .now) (line .before .before .loop-test .taken) end (n .loop .sheet) _ _ (c .key-line .ensures)
     ∙ n .loop .inv .2
+
+returns : tie.Need-returns Inv-loop μ-loop
+returns c = stopped-by _ _ (ap doneOf (c .enum-told2 .given .1)) ∙ keyed-here (c .before .before .before .before)
 
 loop-again : tie.Need-loop-again Inv-loop μ-loop
 loop-again c =
-    let keyed = c .before .before .before .before .before in
-    let line = keyed .before .before .before in
-    let n = line .before .before .before in
-    let a = n .before .before .before .before .args in
-    let end = ap (λ k. n .loop .at + k) (line .line-end .ensures .0) in (
-      omega arith,
-      omega arith,
-      sym (keyed-on (a .book .now) (a .input .now) (line .before .before .loop-test .taken) end (n .loop .sheet) _ _ (ap doneOf (c .before .enum-told .given .1)) (keyed .key-line .ensures)) ∙ n .loop .inv .2,
-    )
+    let keyed = keyed-here (c .before .before .before .before .before) in
+    (omega arith, omega arith, gone-on _ _ (ap doneOf (c .before .enum-told .given .1)) ∙ keyed)
 
 loop-again-2 : tie.Need-loop-again-2 Inv-loop μ-loop
 loop-again-2 c =
-    let keyed = c .before .before .before .before .before in
-    let line = keyed .before .before .before in
-    let n = line .before .before .before in
-    let a = n .before .before .before .before .args in
-    let end = ap (λ k. n .loop .at + k) (line .line-end .ensures .0) in (
-      omega arith,
-      omega arith,
-      sym (keyed-last (a .book .now) (a .input .now) (line .before .before .loop-test .taken) end (n .loop .sheet) _ _ (c .if1 .left) (ap doneOf (c .before .enum-told .given .1)) (keyed .key-line .ensures)) ∙ n .loop .inv .2,
-    )
+    let keyed = keyed-here (c .before .before .before .before .before) in
+    (omega arith, omega arith, past-end _ _ _ (c .if1 .left) ∙ gone-on _ _ (ap doneOf (c .before .enum-told .given .1)) ∙ keyed)
 
 returns-2 : tie.Need-returns-2 Inv-loop μ-loop
 unfolding all-keyed lines

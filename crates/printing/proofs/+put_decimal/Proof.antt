@@ -54,7 +54,9 @@ put-decimal-returns : (t : ℕ) → put-decimal-lts.Need-returns (
   put-decimal.Post,
 ) (put-decimal-at t) put-decimal.Post
 put-decimal-returns t c =
-    let start = c .before .before in decimal-one (start .args .n) (start .args .out .now) (c .if1 .taken) (omega (arith, length-small (start .args .n) (c .if1 .taken), start .pre .1))
+    let start = c .before .before in
+    decimal-one (start .args .n) (start .args .out .now) (c .if1 .taken)
+    (omega (arith, length-small (start .args .n) (c .if1 .taken), start .pre .1))
 
 put-decimal-put-decimal-requires : (t : ℕ) → put-decimal-lts.Need-put-decimal-requires (
   put-decimal-below t,
@@ -85,7 +87,13 @@ put-decimal-slice-write-out-2 t c =
     let start = c .before .before .before .before .before .before in
     let large = c .before .before .before .before .if1 .left in
     let call = c .before .before .put-decimal in
-    omega (arith, length-large (start .args .n) large, start .pre .1, placed-count (decimal (start .args .n / 10)) (start .args .out .now) (call .ensures), call .kept .1 .0)
+    omega (
+      arith,
+      length-large (start .args .n) large,
+      start .pre .1,
+      placed-count (decimal (start .args .n / 10)) (start .args .out .now) (call .ensures),
+      call .kept .1 .0,
+    )
 
 put-decimal-add-result : (t : ℕ) → put-decimal-lts.Need-add-result (
   put-decimal-below t,

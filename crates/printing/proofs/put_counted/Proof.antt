@@ -15,7 +15,9 @@ put-decimal-requires : tie.Need-put-decimal-requires
 put-decimal-requires c κs = let start = c .before .before .before in twenty-digits (start .args .n) (start .fits .n .fits)
 
 array-share-prefix-digits : tie.Need-array-share-prefix-digits
-array-share-prefix-digits c = let start = c .before .before .before .before .before in placed-within (decimal (start .args .n)) (replicate 20 0) (c .before .put-decimal .ensures)
+array-share-prefix-digits c =
+    let start = c .before .before .before .before .before in
+    placed-within (decimal (start .args .n)) (replicate 20 0) (c .before .put-decimal .ensures)
 
 slice-aggregate-put-line : tie.Need-slice-aggregate-put-line
 slice-aggregate-put-line c =
@@ -29,7 +31,13 @@ put-line-requires c κs =
     let start = c .before .before .before .before .before .before .before in
     let n = start .args .n in
     let within = placed-within (decimal n) (replicate 20 0) (call .ensures) in
-    omega (arith, length-take-le (call .result) (call .last .1 .0) within, placed-count (decimal n) (replicate 20 0) (call .ensures), twenty-digits n (start .fits .n .fits), start .pre)
+    omega (
+      arith,
+      length-take-le (call .result) (call .last .1 .0) within,
+      placed-count (decimal n) (replicate 20 0) (call .ensures),
+      twenty-digits n (start .fits .n .fits),
+      start .pre,
+    )
 
 returns : tie.Need-returns
 returns c =

@@ -10,7 +10,8 @@ returns c =
     let first = c .before .before .before .before .before .before in
     let ends = first .before .before .before .before in
     let start = ends .before .before .before .before .before in
-    line-written (start .args .a .now) (start .args .b .now) (start .args .out .now) (start .pre) (ends .put-ends .ensures) (first .copy .ensures) (omega arith)
+    line-written (start .args .a .now) (start .args .b .now) (start .args .out .now) (start .pre) (ends .put-ends .ensures)
+    (first .copy .ensures) (omega arith)
     (c .before .before .copy2 .ensures)
 
 pub put-line-spec : {M : Type 1} → statement M

@@ -49,7 +49,11 @@ line-here c =
     let rest = take (length codes - 13 * n .loop .i) (drop (13 * n .loop .i) codes) in
     let mark = getD (start .args .marks .now) (n .loop .i) 0 in
     let out = midOf (n .loop .at) (length (n .loop .out) - n .loop .at) (n .loop .out) in
-    omega (arith, option-short rest mark, placed-count (line (characters (take 13 rest)) (mark-word mark)) out (c .before .before .put-option .ensures))
+    omega (
+      arith,
+      option-short rest mark,
+      placed-count (line (characters (take 13 rest)) (mark-word mark)) out (c .before .before .put-option .ensures),
+    )
 
 add-at : tie.Need-add-at Inv-loop μ-loop
 add-at c = omega (arith, line-here c)
@@ -62,7 +66,8 @@ loop-again c =
       omega arith,
       omega (arith, line-here c),
       omega arith,
-      options-more (start .args .codes .now) (start .args .marks .now) (start .args .out .now) (n .loop .i) (omega arith) (n .loop .inv .3) (omega arith) (call .ensures),
+      options-more (start .args .codes .now) (start .args .marks .now) (start .args .out .now) (n .loop .i) (omega arith)
+          (n .loop .inv .3) (omega arith) (call .ensures),
     )
 
 returns : tie.Need-returns Inv-loop μ-loop

@@ -13,11 +13,15 @@ enum-told c = search needs
 
 returns : tie.Need-returns
 unfolding pick
-returns c = told packedBool (ap (λ a. packedBool (reportedOf a)) (sym (c .enum-told .given .1))) (c .before .before .before .before .report .ensures)
+returns c =
+    told packedBool (ap (λ a. packedBool (reportedOf a)) (sym (c .enum-told .given .1)))
+    (c .before .before .before .before .report .ensures)
 
 returns-2 : tie.Need-returns-2
 unfolding pick
-returns-2 c = told packedBool (ap (λ a. packedBool (reportedOf a)) (sym (c .enum-told2 .given .1))) (c .before .before .before .before .report .ensures)
+returns-2 c =
+    told packedBool (ap (λ a. packedBool (reportedOf a)) (sym (c .enum-told2 .given .1)))
+    (c .before .before .before .before .report .ensures)
 
 returns-3 : tie.Need-returns-3
 returns-3 c =

@@ -28,7 +28,13 @@ module _ (s out : List ℕ) where
   unfolding reportOf report-refusal only-if first-of outcome
   no-room h d = rw (h, ne-eqb (length out) (options-in s) d)
 
-  done : is-sheet s ≡ true → length out ≡ options-in s → {b : Bool} {marks : List ℕ} → b ≡ report-in s .contradictory → marks ≡ report-in s .marks → afterCall (accepted b) marks ≡ reportOf s out
+  done :
+      is-sheet s ≡ true →
+      length out ≡ options-in s →
+      {b : Bool} {marks : List ℕ} →
+      b ≡ report-in s .contradictory →
+      marks ≡ report-in s .marks →
+      afterCall (accepted b) marks ≡ reportOf s out
   unfolding reportOf report-refusal only-if first-of outcome
   done h e p q = rw (h, eq-eqb (length out) (options-in s) e, p, q)
 
@@ -49,7 +55,9 @@ unfolding options-in
 returns-2 c = no-room _ _ (sheet (c .before .before .before)) (λ e. c .if2 .taken (e ∙ sym (c .before .wide16 .ensures .0)))
 
 -- The output is as long as there are options.
-room : (c : tie.Else2) → let a = c .before .before .before .before .before .before .before .args in length (a .out .now) ≡ options-in (a .sheet .now)
+room :
+    (c : tie.Else2) →
+    let a = c .before .before .before .before .before .before .before .args in length (a .out .now) ≡ options-in (a .sheet .now)
 unfolding options-in
 room c = c .if2 .left ∙ c .before .wide16 .ensures .0
 

@@ -21,19 +21,31 @@ first-here : (c : tie.After-put-first) → c .put-first .result ≤ 35
 first-here c =
     let start = c .before .before .before .before .before in
     let ran : Ran = record { settled = start .args .settled; count = start .args .count } in
-    omega (arith, placed-count (first-line false ran) (start .args .out .now) (c .put-first .ensures), short-first false ran (start .fits .count .fits))
+    omega (
+      arith,
+      placed-count (first-line false ran) (start .args .out .now) (c .put-first .ensures),
+      short-first false ran (start .fits .count .fits),
+    )
 
 sub-put-options : tie.Need-sub-put-options
-sub-put-options c = let start = c .before .before .before .before .before .before .before in omega (arith, codes-fit (start .args .book .now) (start .pre .0))
+sub-put-options c =
+    let start = c .before .before .before .before .before .before .before in
+    omega (arith, codes-fit (start .args .book .now) (start .pre .0))
 
 part-put-options-start : tie.Need-part-put-options-start
-part-put-options-start c = let start = c .before .before .before .before .before .before .before in omega (arith, codes-fit (start .args .book .now) (start .pre .0))
+part-put-options-start c =
+    let start = c .before .before .before .before .before .before .before in
+    omega (arith, codes-fit (start .args .book .now) (start .pre .0))
 
 sub-put-options-2 : tie.Need-sub-put-options-2
-sub-put-options-2 c = let call = c .before .before .before in omega (arith, first-here call, call .put-first .kept .1 .1 .1 .0, call .before .before .before .before .before .pre)
+sub-put-options-2 c =
+    let call = c .before .before .before in
+    omega (arith, first-here call, call .put-first .kept .1 .1 .1 .0, call .before .before .before .before .before .pre)
 
 part-put-options-start-2 : tie.Need-part-put-options-start-2
-part-put-options-start-2 c = let call = c .before .before .before in omega (arith, first-here call, call .put-first .kept .1 .1 .1 .0, call .before .before .before .before .before .pre)
+part-put-options-start-2 c =
+    let call = c .before .before .before in
+    omega (arith, first-here call, call .put-first .kept .1 .1 .1 .0, call .before .before .before .before .before .pre)
 
 put-options-requires : tie.Need-put-options-requires
 put-options-requires c κs =
@@ -43,7 +55,8 @@ put-options-requires c κs =
     let out = call .put-first .last .1 .1 .1 .0 in
     let many = few-options book (start .pre .0) in (
       rw (part-to-end book 8) (omega (arith, length-drop 8 book, codes-fit book (start .pre .0), start .pre)),
-      rw (part-to-end out (call .put-first .result)) (omega (arith, length-drop (call .put-first .result) out, first-here call, call .put-first .kept .1 .1 .1 .0, start .pre)),
+      rw (part-to-end out (call .put-first .result))
+          (omega (arith, length-drop (call .put-first .result) out, first-here call, call .put-first .kept .1 .1 .1 .0, start .pre)),
     )
 
 add-result : tie.Need-add-result
@@ -55,8 +68,18 @@ add-result c =
     let out = call .put-first .last .1 .1 .1 .0 in
     let options = c .before .before .put-options in
     let rest = midOf (call .put-first .result) (length out - call .put-first .result) out in
-    let within = placed-within (option-lines (pieces 13 (length marks) (take (length book - 8) (drop 8 book))) marks) rest (options .ensures) in
-    omega (arith, within, options .kept .1 .1 .0, ap length (part-to-end out (call .put-first .result)), length-drop (call .put-first .result) out, first-here call, call .put-first .kept .1 .1 .1 .0, start .pre)
+    let within =
+    placed-within (option-lines (pieces 13 (length marks) (take (length book - 8) (drop 8 book))) marks) rest (options .ensures) in
+    omega (
+      arith,
+      within,
+      options .kept .1 .1 .0,
+      ap length (part-to-end out (call .put-first .result)),
+      length-drop (call .put-first .result) out,
+      first-here call,
+      call .put-first .kept .1 .1 .1 .0,
+      start .pre,
+    )
 
 returns : tie.Need-returns
 returns c =
@@ -68,8 +91,10 @@ returns c =
     let out = call .put-first .last .1 .1 .1 .0 in
     let ran : Ran = record { settled = start .args .settled; count = start .args .count } in
     let rest = midOf (call .put-first .result) (length out - call .put-first .result) out in
-    placed-then (first-line false ran) (option-lines (codes-of book) marks) old (call .put-first .ensures) (placed-within (first-line false ran) old (call .put-first .ensures))
-    (c .before .before .put-options .ensures ∙ ap (λ cs. filled (option-lines cs marks) rest) (codes-lent book (length marks) (start .pre .1)))
+    placed-then (first-line false ran) (option-lines (codes-of book) marks) old (call .put-first .ensures)
+    (placed-within (first-line false ran) old (call .put-first .ensures))
+    (c .before .before .put-options .ensures
+    ∙ ap (λ cs. filled (option-lines cs marks) rest) (codes-lent book (length marks) (start .pre .1)))
 
 pub put-lines-spec : {M : Type 1} → statement M
 put-lines-spec =

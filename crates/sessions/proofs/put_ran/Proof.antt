@@ -1,4 +1,5 @@
 -- `sessions::put_ran` meets its contract: each answer of the run, and what is printed of it.
+use mathlib.Core.Option.{none}
 use mathlib.Core.Path.{_≡_, sym, ap, _∙_}
 use Prim.Native.Nat.{ℕ, _≤_}
 use native.Mathlib.Omega.{arith}
@@ -6,10 +7,14 @@ use borrow.Author.Needs.{needs}
 use lib.ListN.{length, take, replicate, length-replicate}
 use Rattle.model.specs.Limits.{most-options}
 use Rattle.model.specs.Book.{options-of}
+use Rattle.calls.specs.Outcomes.{Answer, accepted}
+use Rattle.calls.specs.Chains.{book-refusal}
+use Rattle.calls.specs.Calls.{Ran, runOf, reportOf}
 use Rattle.calls.specs.Desk.{desk-budget}
 use Rattle.answers.specs.AnswerMeaning.{afterCall}
 use Rattle.runs.specs.RunMeaning.{ranOf}
-use Rattle.printing.specs.Placed.{filled}
+use Rattle.printing.specs.Placed.{Written, filled}
+use Rattle.sessions.specs.Session.{told-lines, ran-lines, room}
 use Rattle.sessions.proofs.PrintedAnswers.{few-options, codes-fit, take-zeros, ran-accepted, ran-refused}
 use Rattle.sessions.proofs.put_ran.Statement.{statement}
 use Rattle.sessions.proofs.put_ran.Tie as tie
@@ -23,7 +28,8 @@ unfolding options-of
 count-here c = c .word-at .ensures
 
 few-here : (c : tie.After-word-at) → c .word-at .result ≤ most-options
-few-here c = let start = c .before .before .before .before in omega (arith, count-here c, few-options (start .args .book .now) (start .pre .0))
+few-here c =
+    let start = c .before .before .before .before in omega (arith, count-here c, few-options (start .args .book .now) (start .pre .0))
 
 lent-here : (c : tie.After-word-at) → length {A = ℕ} (take (c .word-at .result) (replicate most-options 0)) ≡ c .word-at .result
 lent-here c = ap length (take-zeros (c .word-at .result) most-options (few-here c)) ∙ length-replicate (c .word-at .result) 0
@@ -34,47 +40,66 @@ array-borrow-prefix-room c = few-here c
 slice-aggregate-marks : tie.Need-slice-aggregate-marks
 slice-aggregate-marks c = sym (lent-here (c .before))
 
+-- After the run: what is asked for before its answer is told, and what that answer is.
+told-asks :
+    (c : tie.After-run) →
+    let word = c .before .before .before in
+    let a = word .before .before .before .before .args in
+    (book-refusal (a .book .now) ≡ none)
+    × (length {A = ℕ} (take (word .word-at .result) (replicate most-options 0)) ≡ options-of (a .book .now))
+    × (room ≤ length (a .out .now))
+told-asks c =
+    let word = c .before .before .before in
+    let start = word .before .before .before .before in
+    (start .pre .0, lent-here word ∙ count-here word, start .pre .1)
+
+answer-here :
+    (c : tie.After-run) {said : Answer Ran} →
+    ranOf (c .run .result) ≡ said →
+    afterCall said (c .run .last .0) ≡ runOf (c .before .before .before .before .before .before .before .args .sheet .now) desk-budget
+unfolding desk-budget
+answer-here c e = ap (λ t. afterCall t (c .run .last .0)) (sym e) ∙ c .run .ensures
+
+-- What is printed of the report is what is printed of an accepted run.
+told-here :
+    (c : tie.After-run) (ran : Ran) {w : Written} →
+    let word = c .before .before .before in
+    let a = word .before .before .before .before .args in
+    let marks = take {A = ℕ} (word .word-at .result) (replicate most-options 0) in
+    ranOf (c .run .result) ≡ accepted ran →
+    w ≡ filled (told-lines (a .book .now) ran (reportOf (c .run .last .0) marks)) (a .out .now) →
+    w ≡ filled (ran-lines (a .book .now) (runOf (a .sheet .now) desk-budget)) (a .out .now)
+told-here c ran said told =
+    let word = c .before .before .before in
+    let a = word .before .before .before .before .args in
+    let same = ran-accepted (a .book .now) _ _ ran _ most-options (count-here word) (few-here word) (answer-here c said) in
+    told ∙ ap (λ l. filled l (a .out .now)) same
+
 put-told-requires : tie.Need-put-told-requires
-put-told-requires c κs =
-    let word = c .before .before .before .before .before .before .before .before .before .before in
-    let start = word .before .before .before .before in (start .pre .0, lent-here word ∙ count-here word, start .pre .1)
+put-told-requires c κs = told-asks (c .before .before .before .before .before .before .before)
 
 put-told-requires-2 : tie.Need-put-told-requires-2
-put-told-requires-2 c κs =
-    let word = c .before .before .before .before .before .before .before .before .before .before in
-    let start = word .before .before .before .before in (start .pre .0, lent-here word ∙ count-here word, start .pre .1)
+put-told-requires-2 c κs = told-asks (c .before .before .before .before .before .before .before)
 
 returns : tie.Need-returns
-unfolding desk-budget
 returns c =
-    let word = c .before .before .before .before .before .before .before .before .before .before .before .before .before .before in
-    let start = word .before .before .before .before in
-    let run = c .before .before .before .before .before .before .before .before .before .before .before .run in
-    let sheet = run .last .0 in
-    let answer = ap (λ t. afterCall (ranOf t) sheet) (sym (c .before .before .before .before .before .before .before .ran .given .1)) ∙ run .ensures in
-    c .before .before .before .put-told .ensures
-    ∙ ap (λ l. filled l (start .args .out .now)) (ran-accepted (start .args .book .now) sheet _ _ (word .word-at .result) most-options (count-here word) (few-here word) answer)
+    let told = c .before .before .before in
+    let arm = told .before .before .before .before in
+    told-here (arm .before .before .before .before) _ (ap ranOf (arm .ran .given .1)) (told .put-told .ensures)
 
 returns-2 : tie.Need-returns-2
-unfolding desk-budget
 returns-2 c =
-    let word = c .before .before .before .before .before .before .before .before .before .before .before .before .before .before in
-    let start = word .before .before .before .before in
-    let run = c .before .before .before .before .before .before .before .before .before .before .before .run in
-    let sheet = run .last .0 in
-    let answer = ap (λ t. afterCall (ranOf t) sheet) (sym (c .before .before .before .before .before .before .before .ran2 .given .1)) ∙ run .ensures in
-    c .before .before .before .put-told2 .ensures
-    ∙ ap (λ l. filled l (start .args .out .now)) (ran-accepted (start .args .book .now) sheet _ _ (word .word-at .result) most-options (count-here word) (few-here word) answer)
+    let told = c .before .before .before in
+    let arm = told .before .before .before .before in
+    told-here (arm .before .before .before .before) _ (ap ranOf (arm .ran2 .given .1)) (told .put-told2 .ensures)
 
 returns-3 : tie.Need-returns-3
-unfolding desk-budget
 returns-3 c =
-    let start = c .before .before .before .before .before .before .before .before .before .before .before .before .before .before .before .before .before in
-    let run = c .before .before .before .before .before .before .before .before .before .before .run in
-    let sheet = run .last .0 in
-    let answer = ap (λ t. afterCall (ranOf t) sheet) (sym (c .before .before .before .before .before .before .ran3 .given .1)) ∙ run .ensures in
+    let arm = c .before .before .before .before .before .before in
+    let run = arm .before .before .before .before in
+    let a = run .before .before .before .before .before .before .before .args in
     c .before .before .put-refusal .ensures
-    ∙ ap (λ l. filled l (start .args .out .now)) (ran-refused (start .args .book .now) sheet _ _ answer)
+    ∙ ap (λ l. filled l (a .out .now)) (ran-refused (a .book .now) _ _ _ (answer-here run (ap ranOf (arm .ran3 .given .1))))
 
 pub put-ran-spec : {M : Type 1} → statement M
 put-ran-spec =

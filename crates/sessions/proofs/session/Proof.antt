@@ -23,7 +23,8 @@ returns-2 c =
     let a = test .before .before .before .before .args in
     c .before .before .put-refused .ensures
     ∙ session-printed (a .book .now) (a .input .now) (a .out .now) (test .if1 .left)
-    (load-refused (a .book .now) (a .input .now) _ _ (load .load .ensures) _ (ap doneOf (c .before .before .before .before .enum-told2 .given .1)))
+    (load-refused (a .book .now) (a .input .now) _ _ (load .load .ensures) _
+    (ap doneOf (c .before .before .before .before .enum-told2 .given .1)))
 
 returns-3 : tie.Need-returns-3
 returns-3 c =
@@ -33,7 +34,8 @@ returns-3 c =
     let a = test .before .before .before .before .args in
     c .before .before .put-refused2 .ensures
     ∙ session-printed (a .book .now) (a .input .now) (a .out .now) (test .if1 .left)
-    (keys-refused (a .book .now) (a .input .now) _ _ (load .load .ensures) (ap doneOf (keys .before .before .enum-told .given .1)) _ _ (keys .key-lines .ensures) _ (ap doneOf (c .before .before .before .before .enum-told4 .given .1)))
+    (keys-refused (a .book .now) (a .input .now) _ _ (load .load .ensures) (ap doneOf (keys .before .before .enum-told .given .1)) _ _
+    (keys .key-lines .ensures) _ (ap doneOf (c .before .before .before .before .enum-told4 .given .1)))
 
 put-ran-requires : tie.Need-put-ran-requires
 put-ran-requires c κs =
@@ -41,7 +43,9 @@ put-ran-requires c κs =
     let test = load .before .before in
     let book = test .before .before .before .before .args .book .now in
     let sheet = load .load .last .1 .0 in
-    let answer = ap (λ d. afterCall (doneOf d) sheet) (sym (c .before .before .before .before .before .before .before .enum-told .given .1)) ∙ load .load .ensures in
+    let answer =
+    ap (λ d. afterCall (doneOf d) sheet) (sym (c .before .before .before .before .before .before .before .enum-told .given .1))
+    ∙ load .load .ensures in
     (loaded-good book (replicate sheet-length 0) sheet (length-replicate {A = ℕ} sheet-length 0) answer, test .if1 .left)
 
 returns-4 : tie.Need-returns-4
@@ -52,7 +56,8 @@ returns-4 c =
     let a = test .before .before .before .before .args in
     c .before .before .before .put-ran .ensures
     ∙ session-printed (a .book .now) (a .input .now) (a .out .now) (test .if1 .left)
-    (keys-accepted (a .book .now) (a .input .now) _ _ (load .load .ensures) (ap doneOf (keys .before .before .enum-told .given .1)) _ _ (keys .key-lines .ensures) (ap doneOf (c .before .before .before .before .before .before .enum-told3 .given .1)))
+    (keys-accepted (a .book .now) (a .input .now) _ _ (load .load .ensures) (ap doneOf (keys .before .before .enum-told .given .1)) _ _
+    (keys .key-lines .ensures) (ap doneOf (c .before .before .before .before .before .before .enum-told3 .given .1)))
 
 pub session-spec : {M : Type 1} → statement M
 session-spec =

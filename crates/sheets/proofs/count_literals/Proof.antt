@@ -59,7 +59,8 @@ loop-again c =
     let a = n .before .before .args in
     let s = a .s .now in
     let i = n .loop .i in
-    let tested : c .before .is-literal .result ≡ is-literal (getD s i 0) = c .before .is-literal .ensures ∙ ap is-literal (c .before .before .wide16 .ensures .0) in
+    let tested : c .before .is-literal .result ≡ is-literal (getD s i 0) =
+    c .before .is-literal .ensures ∙ ap is-literal (c .before .before .wide16 .ensures .0) in
     ⊎-elim
     (λ w. omega (arith, left-more i (a .used) s (omega arith) (omega arith) (sym tested ∙ w .0 .taken)))
     (λ w. omega (arith, left-same i (a .used) s (omega arith) (omega arith) (sym tested ∙ w .0 .left)))

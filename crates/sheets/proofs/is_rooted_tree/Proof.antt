@@ -20,8 +20,12 @@ use Rattle.sheets.proofs.is_rooted_tree.Tie as tie
 
 -- The head is of kind 5, and the numbers after it are as many trees as it has children.
 module _ (n used : ℕ) (s : List ℕ) (some-used : 1 ≤ used) (within : used ≤ length s) where
-  head-and-rest : (rooted n (take used s) && one-tree (map node-of (take used s))) ≡ (eqb (kind (getD s 0 0)) 5 && maybe false (λ t. eqb t (children (getD s 0 0))) (scan n (slice 1 used s)))
-  head-and-rest = ap (λ xs. rooted n xs && one-tree (map node-of xs)) (slice-cons 0 used s 0 some-used within) ∙ rooted-scan n (getD s 0 0) (slice 1 used s)
+  head-and-rest :
+      (rooted n (take used s) && one-tree (map node-of (take used s)))
+      ≡ (eqb (kind (getD s 0 0)) 5 && maybe false (λ t. eqb t (children (getD s 0 0))) (scan n (slice 1 used s)))
+  head-and-rest =
+      ap (λ xs. rooted n xs && one-tree (map node-of xs)) (slice-cons 0 used s 0 some-used within)
+      ∙ rooted-scan n (getD s 0 0) (slice 1 used s)
 
   -- There are no more trees than numbers.
   few : (i : ℕ) → counted (scan n (slice i used s)) ≤ used
@@ -79,11 +83,18 @@ loop-again c =
     let s = a .s .now in (
       omega arith,
       omega arith,
-      c .join .ensures ∙ rw (n .loop .inv .2, c .before .wide162 .ensures .0) (sym (scan-before (a .n) i (a .used) s (omega arith) (omega arith) (omega arith))),
+      c .join .ensures
+          ∙ rw (n .loop .inv .2, c .before .wide162 .ensures .0)
+          (sym (scan-before (a .n) i (a .used) s (omega arith) (omega arith) (omega arith))),
     )
 
 -- After the loop the head's number of children decides, by the trees that were counted.
-decided : (c : tie.After-loop Inv-loop μ-loop) (o : Option ℕ) → treesOf (c .before .loop .trees) ≡ o → let a = c .before .before .before .before .before .before .before .args in let v = children (c .before .before .before .before .wide16 .result) in (rooted (a .n) (take (a .used) (a .s .now)) && one-tree (map node-of (take (a .used) (a .s .now)))) ≡ maybe false (λ t. eqb t v) o
+decided :
+    (c : tie.After-loop Inv-loop μ-loop) (o : Option ℕ) →
+    treesOf (c .before .loop .trees) ≡ o →
+    let a = c .before .before .before .before .before .before .before .args in
+    let v = children (c .before .before .before .before .wide16 .result) in
+    (rooted (a .n) (take (a .used) (a .s .now)) && one-tree (map node-of (take (a .used) (a .s .now)))) ≡ maybe false (λ t. eqb t v) o
 decided c o e =
     let n = c .before in
     let a = n .before .before .before .before .before .before .args in

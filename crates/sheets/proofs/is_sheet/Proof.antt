@@ -24,20 +24,45 @@ tree-in s = rooted (options-in s) (numbers-in s) && one-tree (nodes-in s)
 
 module _ (s : List ℕ) where
   -- A list is a sheet by six tests, in the order of the code.
-  sheet-is : is-sheet s ≡ (eqb (length s) sheet-length && leb (getD s 0 0) most-options && leb (getD s 1 0) sheet-room && tree-in s && all (eqb 0) (rest-in s) && leb (weight (nodes-in s)) most-weight)
+  sheet-is :
+      is-sheet s
+      ≡ (eqb (length s) sheet-length
+      && leb (getD s 0 0) most-options
+      && leb (getD s 1 0) sheet-room
+      && tree-in s
+      && all (eqb 0) (rest-in s)
+      && leb (weight (nodes-in s)) most-weight)
   unfolding is-sheet options-in used-in
-  sheet-is = rw (and-assoc (eqb (length s) sheet-length && leb (getD s 0 0) most-options && leb (getD s 1 0) sheet-room) (rooted (getD s 0 0) (numbers-in s)) (one-tree (nodes-in s)))
+  sheet-is =
+      rw
+      (and-assoc (eqb (length s) sheet-length && leb (getD s 0 0) most-options && leb (getD s 1 0) sheet-room)
+      (rooted (getD s 0 0) (numbers-in s)) (one-tree (nodes-in s)))
 
   -- What the parts of the sheet that are lent tell.
-  tree-is : {n used : ℕ} {r : Bool} → let part = take (length s - 2) (drop 2 s) in n ≡ getD s 0 0 → used ≡ getD s 1 0 → r ≡ (rooted n (take used part) && one-tree (map node-of (take used part))) → tree-in s ≡ r
+  tree-is :
+      {n used : ℕ} {r : Bool} →
+      let part = take (length s - 2) (drop 2 s) in
+      n ≡ getD s 0 0 →
+      used ≡ getD s 1 0 →
+      r ≡ (rooted n (take used part) && one-tree (map node-of (take used part))) →
+      tree-in s ≡ r
   unfolding options-in used-in numbers-in nodes-in
   tree-is f g e = rw (← f, ← g) (sym (rw (part-to-end s 2) at e))
 
-  clear-is : {used : ℕ} {r : Bool} → used ≡ getD s 1 0 → r ≡ all (eqb 0) (take (length s - (2 + used)) (drop (2 + used) s)) → all (eqb 0) (rest-in s) ≡ r
+  clear-is :
+      {used : ℕ} {r : Bool} →
+      used ≡ getD s 1 0 →
+      r ≡ all (eqb 0) (take (length s - (2 + used)) (drop (2 + used) s)) →
+      all (eqb 0) (rest-in s) ≡ r
   unfolding rest-in used-in
   clear-is {used} f e = rw (← f, drop-drop used 2 s) (sym (rw (part-to-end s (2 + used)) at e))
 
-  weight-is : {used r : ℕ} → used ≡ getD s 1 0 → 2 + used ≤ length s → r ≡ literals (map node-of (take used (take (length s - 2) (drop 2 s)))) → weight (nodes-in s) ≡ used + r
+  weight-is :
+      {used r : ℕ} →
+      used ≡ getD s 1 0 →
+      2 + used ≤ length s →
+      r ≡ literals (map node-of (take used (take (length s - 2) (drop 2 s)))) →
+      weight (nodes-in s) ≡ used + r
   unfolding weight nodes-in numbers-in used-in
   weight-is {used} f h e =
       let long : length (take used (drop 2 s)) ≡ used = length-take-le used (drop 2 s) (omega (arith, length-drop 2 s)) in
@@ -56,7 +81,9 @@ told-tree c =
     let k = c .before .before .before .before .before in
     tree-is (sheet k) (k .before .before .wide16 .ensures .0) (k .wide162 .ensures .0) (c .is-rooted-tree .ensures)
 
-told-clear : (c : tie.After-is-clear) → all (eqb 0) (rest-in (sheet (c .before .before .before .before .before .before .before .before))) ≡ c .is-clear .result
+told-clear :
+    (c : tie.After-is-clear) →
+    all (eqb 0) (rest-in (sheet (c .before .before .before .before .before .before .before .before))) ≡ c .is-clear .result
 told-clear c =
     let k = c .before .before .before .before .before .before .before .before in
     clear-is (sheet k) (k .wide162 .ensures .0) (c .is-clear .ensures)
@@ -106,7 +133,9 @@ returns-7 c =
     let whole = eq-eqb (length s) sheet-length (omega arith) in
     let few-options = le-leb (getD s 0 0) most-options (omega arith) in
     let room = le-leb (getD s 1 0) sheet-room (omega arith) in
-    let tree = told-tree (c .before .before .before .before .before .before) ∙ not-false _ (c .before .before .before .before .before .if5 .left) in
+    let tree =
+    told-tree (c .before .before .before .before .before .before)
+    ∙ not-false _ (c .before .before .before .before .before .if5 .left) in
     let clear = told-clear (c .before .before .before) ∙ not-false _ (c .before .before .if6 .left) in
     rw (sheet-is s, whole, few-options, room, tree, clear, weight-is s (k .wide162 .ensures .0) (omega arith) (c .count-literals .ensures))
 

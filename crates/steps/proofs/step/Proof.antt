@@ -25,19 +25,28 @@ ruled : (c : tie.Else2) → let r = c .before .before .before .before .before .b
 ruled c = sym (c .before .is-rule .ensures) ∙ not-false (c .before .is-rule .result) (c .if2 .left)
 
 -- Past the third the place is one of the sheet's nodes, and the stretch from there on can be lent.
-lent : (c : tie.Else3) → let a = c .before .before .before .before .before .before .before .before .before .args in Lent (a .sheet .now) (a .place)
+lent :
+    (c : tie.Else3) →
+    let a = c .before .before .before .before .before .before .before .before .before .args in Lent (a .sheet .now) (a .place)
 lent c =
     let a = c .before .before .before .before .before .before .before .before .before .args in
-    lend (a .sheet .now) (sheet-formed _ (good (c .before .before .before .before .before))) (a .place) (omega (arith, used-here (a .sheet .now), c .before .wide16 .ensures .0))
+    lend (a .sheet .now) (sheet-formed _ (good (c .before .before .before .before .before))) (a .place)
+    (omega (arith, used-here (a .sheet .now), c .before .wide16 .ensures .0))
 
 -- What was asked of the stretch is whether the step applies.
-asked : (c : tie.After-applies) → let a = c .before .before .before .before .before .before .before .before .before .before .before .before .args in c .applies .result ≡ is-some (M.step (a .rule) (a .place) (a .i) (a .j) (nodes-in (a .sheet .now)))
+asked :
+    (c : tie.After-applies) →
+    let a = c .before .before .before .before .before .before .before .before .before .before .before .before .args in
+    c .applies .result ≡ is-some (M.step (a .rule) (a .place) (a .i) (a .j) (nodes-in (a .sheet .now)))
 asked c =
     let d = c .before .before .before in
     let a = d .before .before .before .before .before .before .before .before .before .args in
     (rw (lent-part (2 + a .place) (a .sheet .now)) at (c .applies .ensures)) ∙ sym (lent d .asked (a .rule) (a .i) (a .j))
 
-applying : (c : tie.Else4) → let a = c .before .before .before .before .before .before .before .before .before .before .before .before .before .args in is-some (M.step (a .rule) (a .place) (a .i) (a .j) (nodes-in (a .sheet .now))) ≡ true
+applying :
+    (c : tie.Else4) →
+    let a = c .before .before .before .before .before .before .before .before .before .before .before .before .before .args in
+    is-some (M.step (a .rule) (a .place) (a .i) (a .j) (nodes-in (a .sheet .now))) ≡ true
 applying c = sym (asked (c .before)) ∙ not-false (c .before .applies .result) (c .if4 .left)
 
 returns : tie.Need-returns
@@ -55,7 +64,8 @@ returns-3 : tie.Need-returns-3
 returns-3 c =
     let e = c .before .before .before in
     let a = e .before .before .before .before .before .before .args in
-    no-place _ _ _ _ _ (good (e .before .before)) (ruled e) (omega (arith, used-here (a .sheet .now), c .before .wide16 .ensures .0, c .if3 .taken))
+    no-place _ _ _ _ _ (good (e .before .before)) (ruled e)
+    (omega (arith, used-here (a .sheet .now), c .before .wide16 .ensures .0, c .if3 .taken))
 
 add-from : tie.Need-add-from
 add-from c = omega (arith, lent c .within)

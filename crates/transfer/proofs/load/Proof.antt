@@ -12,7 +12,8 @@ use Rattle.transfer.proofs.load.Tie as tie
 -- The book is accepted where the check says so.
 accepted-here : (c : tie.After-enum-told) → book-refusal (c .before .before .before .before .before .before .args .book .now) ≡ none
 accepted-here c =
-    check-none (c .before .before .before .before .before .before .args .book .now) (sym (ap doneOf (c .enum-told .given .1)) ∙ c .before .before .check .ensures)
+    check-none (c .before .before .before .before .before .before .args .book .now)
+    (sym (ap doneOf (c .enum-told .given .1)) ∙ c .before .before .check .ensures)
 
 returns : tie.Need-returns
 returns c = let a = c .before .before .before .args in load-short (a .book .now) (a .target .now) (c .if1 .taken)
@@ -25,7 +26,8 @@ returns-2 c =
     let a = c .before .before .before .before .before .before .args in
     let told = ap doneOf (c .enum-told2 .given .1) in
     rw told
-    (load-refused (a .book .now) (a .target .now) (c .before .before .before .if1 .left) (check-some (a .book .now) _ (sym told ∙ c .before .before .check .ensures)))
+    (load-refused (a .book .now) (a .target .now) (c .before .before .before .if1 .left)
+    (check-some (a .book .now) _ (sym told ∙ c .before .before .check .ensures)))
 
 fill-sheet-requires : tie.Need-fill-sheet-requires
 fill-sheet-requires c κs = (accepted-book _ (accepted-here (c .before)), c .before .before .before .before .if1 .left)
@@ -34,7 +36,8 @@ returns-3 : tie.Need-returns-3
 returns-3 c =
     let e = c .before .before .before .before in
     let a = e .before .before .before .before .before .before .args in
-    rw (c .before .before .fill-sheet .ensures) (load-done (a .book .now) (a .target .now) (e .before .before .before .if1 .left) (accepted-here e))
+    rw (c .before .before .fill-sheet .ensures)
+    (load-done (a .book .now) (a .target .now) (e .before .before .before .if1 .left) (accepted-here e))
 
 pub load-spec : {M : Type 1} → statement M
 load-spec =
