@@ -22,7 +22,7 @@ use Rattle.theory.specs.Shape.{shaped-trees}
 use Rattle.theory.specs.Sheets.{Formed}
 use Rattle.theory.specs.Stretches.{stands}
 use Rattle.locality.specs.Turned.{Turned, turned}
-use Rattle.locality.specs.Families.{family-9, level-length}
+use Rattle.locality.specs.SameCount.{family-9, level-length}
 use Rattle.sizes.specs.Tables.{Sized}
 use Rattle.zones.specs.Zoned.{after-step}
 use Rattle.zones.proofs.OnSheet as O

@@ -1,2 +1,2 @@
-pub mod Laws
-pub mod Chains
+pub mod ComesAgain
+pub mod HashTables

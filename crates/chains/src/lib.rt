@@ -5,7 +5,7 @@ ghost use lib.ListN.{length, take, drop};
 ghost use Rattle.model.specs.Base.{any};
 ghost use Rattle.model.specs.Limits.{«most-options», «code-length»};
 ghost use Rattle.model.specs.Book.{«same-code», «codes-ok», pieces};
-ghost use Rattle.chains.specs.Chains.{quad, buckets, hash, Walk, «comes-after»};
+ghost use Rattle.chains.specs.Hashes.{quad, buckets, hash, Walk, «comes-after»};
 use limits::CODE_LENGTH;
 use limits::MOST_OPTIONS;
 

@@ -7,7 +7,7 @@ ghost use lib.Seq.{slice};
 ghost use Rattle.model.specs.Base.{all};
 ghost use Rattle.model.specs.Limits.{«code-length»};
 ghost use Rattle.model.specs.Book.{between, character, characters, «code-ok», «same-code», pieces, «option-of-code»};
-ghost use Rattle.codes.specs.Places.{placeOf};
+ghost use Rattle.codes.specs.CodePlaces.{placeOf};
 use limits::CODE_LENGTH;
 
 // Where a code stands among the codes, counted from 0.

@@ -1,2 +1,2 @@
-pub mod Laws
-pub mod Contents
+pub mod NumberBytes
+pub mod TreeContents

@@ -26,10 +26,10 @@ use Rattle.theory.specs.Children.{first-left, code, Group, group-children, grou
 use Rattle.theory.specs.Turns.{family-at, family-asks}
 use Rattle.factor.specs.Walks.{among, unit-of, sharing}
 use Rattle.theory.specs.Leaves.{leaf-literal}
-use Rattle.factor.proofs.Codes.{fits-parts, code-⊕}
+use Rattle.factor.proofs.TreeNumbers.{fits-parts, code-⊕}
 use Rattle.factor.proofs.Here.{unit-past, unit-inner}
-use Rattle.factor.proofs.Trees.{among-trees, share-trees, groups-trees}
-use Rattle.factor.proofs.Sizes.{literals-short, short-literals}
+use Rattle.factor.proofs.WalkedTrees.{among-trees, share-trees, groups-trees}
+use Rattle.factor.proofs.LiteralRuns.{literals-short, short-literals}
 
 -- A literal's number is not zero.
 leaf-some : (a : Literal) → fits (leaf a) ≡ true → number-of (leaf a) ≡ 0 → ⊥

@@ -1,6 +1,6 @@
 pub mod Walk
 pub mod Here
-pub mod Codes
-pub mod Trees
-pub mod Sizes
+pub mod TreeNumbers
+pub mod WalkedTrees
+pub mod LiteralRuns
 pub mod Asking

@@ -12,7 +12,7 @@ use Rattle.theory.specs.Logic.{some-inj, and-split, only-some, then-some}
 use Rattle.theory.specs.Forests.{nil-⊕, ⊕-nil, ⊕-assoc, literal-here, conjunction-here, constant-here, cut-at}
 use Rattle.theory.specs.Codes.{encode-⊕}
 use Rattle.locality.specs.Zones.{tree-end, child-place, Zone, zone}
-use Rattle.locality.specs.Places.{Rest, rest-of, rest-one, rest-as, further, past-trees, past-children, child-offset, length-here, child-here, end-here}
+use Rattle.locality.specs.ChildPlaces.{Rest, rest-of, rest-one, rest-as, further, past-trees, past-children, child-offset, length-here, child-here, end-here}
 use Rattle.locality.specs.Turned.{Turned, old-here, new-here}
 use Rattle.locality.specs.Assigned.{assigned-length}
 

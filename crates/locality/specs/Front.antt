@@ -11,7 +11,7 @@ use Rattle.model.specs.Rules.{Family}
 use Rattle.theory.specs.Forests.{⊕-assoc}
 use Rattle.theory.specs.Codes.{encode-⊕, decode-encode, decode-encode-++, encode-decode, trees-code, trees-drop}
 use Rattle.locality.specs.Zones.{Quiet}
-use Rattle.locality.specs.Places.{Rest, rest-as, further, past-head}
+use Rattle.locality.specs.ChildPlaces.{Rest, rest-as, further, past-head}
 use Rattle.locality.specs.Turned.{Turned, old-here, new-here}
 use Rattle.locality.specs.Alike.{alike-self}
 use Rattle.locality.specs.Looks.{Look, both-literals, both-groups}

@@ -18,13 +18,13 @@ use Rattle.theory.specs.Forests.{literal-here, cut-at, assigned-lit}
 use Rattle.theory.specs.Codes.{encode-⊕, decode-encode}
 use Rattle.theory.specs.Bounds.{past-last}
 use Rattle.locality.specs.Zones.{Quiet, tree-end}
-use Rattle.locality.specs.Places.{Rest, rest-as, rest-one, further, past-children, length-here}
+use Rattle.locality.specs.ChildPlaces.{Rest, rest-as, rest-one, further, past-children, length-here}
 use Rattle.locality.specs.Turned.{Turned, old-here, new-here, turned}
 use Rattle.locality.specs.Looks.{Fades, kept, fades-from, fades-read, factor-test, group-quiet}
 use Rattle.locality.specs.Assigned.{NoConstant, Other, assigned-length, assigned-part, literal-stays, unit-before, assigned-level, assigned-conjunction, assigned-shares}
 use Rattle.locality.specs.Before.{node-at}
 use Rattle.locality.specs.Front.{part-here, below-head}
-use Rattle.locality.specs.Families.{family-9}
+use Rattle.locality.specs.SameCount.{family-9}
 
 -- Children where a literal is assigned and no constant stands: what did not apply to their node does not come to apply.
 module _ (b : Conn) (l : Literal) (k : Forest) (free : NoConstant (assigned b l k)) (c : Conn) (i j : ℕ) where

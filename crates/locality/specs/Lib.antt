@@ -1,6 +1,6 @@
 -- Places and zones; what stands at the places of a tree's children; what a step did, with its family.
 pub mod Zones
-pub mod Places
+pub mod ChildPlaces
 pub mod Turned
 -- From the zone on the nodes are the old ones, moved.
 pub mod After
@@ -20,6 +20,6 @@ pub mod Front
 pub mod Sides
 -- The theorems.
 pub mod Locality
-pub mod Families
+pub mod SameCount
 -- Inside the tree of a step of rule 9 or 10, but where a child became a constant, rules do not come to apply.
 pub mod Inside

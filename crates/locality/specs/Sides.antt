@@ -13,7 +13,7 @@ use Rattle.model.specs.Rules.{omit, lift, merge, Family, absorbs, omits, unwrap
 use Rattle.theory.specs.Logic.{either, some-inj, only-some, then-some}
 use Rattle.theory.specs.Forests.{first-after}
 use Rattle.locality.specs.Zones.{Quiet, child-place, Holds, Twice, zone}
-use Rattle.locality.specs.Places.{child-offset}
+use Rattle.locality.specs.ChildPlaces.{child-offset}
 use Rattle.locality.specs.Turned.{Turned, old-here}
 use Rattle.locality.specs.Before.{before-place, beside-place}
 use Rattle.locality.specs.Front.{front-quiet, front-tree}

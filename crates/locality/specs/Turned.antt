@@ -16,7 +16,7 @@ use Rattle.theory.specs.Inversion.{rewritten}
 use Rattle.theory.specs.Bounds.{step-within}
 use Rattle.theory.specs.FineKept.{change-size}
 use Rattle.theory.specs.Turns.{family-at, family-of}
-use Rattle.locality.specs.Places.{Rest, rest-of}
+use Rattle.locality.specs.ChildPlaces.{Rest, rest-of}
 
 pub record Turned (x : Family) (p i j : ℕ) (ns ms : List Node) : Type 0 where
   pub before : List Node

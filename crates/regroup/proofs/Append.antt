@@ -6,7 +6,7 @@ use native.Mathlib.Numerals.{add-one}
 use native.Mathlib.Omega.{arith}
 use lib.ListN.{length, getD, take, set, length-append, length-set}
 use lib.Seq.{take-suc, take-suc-set}
-use Rattle.regroup.specs.Kept.{Appended}
+use Rattle.regroup.specs.Regrouped.{Appended}
 
 pub appended-none : (from : ℕ) (l : List ℕ) → Appended [] from l l from
 appended-none from l = record { end = omega arith; front = sym (append-nil (take from l)) }

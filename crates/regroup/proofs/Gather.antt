@@ -9,7 +9,7 @@ use Rattle.theory.specs.Logic.{and-split}
 use Rattle.theory.specs.Spans.{span, span-within}
 use Rattle.factor.specs.Walks.{shares-here, all-share}
 use Rattle.factor.proofs.Walk.{walk-none, walk-end, walk-step, share-step}
-use Rattle.regroup.specs.Kept.{kept, gathered, Appended}
+use Rattle.regroup.specs.Regrouped.{kept, gathered, Appended}
 use Rattle.regroup.proofs.Append.{appended-none, appended-both}
 
 -- What is kept of trees.

@@ -1,5 +1,5 @@
 pub mod Append
 pub mod Gather
-pub mod Kept
-pub mod Sizes
+pub mod KeptTrees
+pub mod FactoredSizes
 pub mod Turning

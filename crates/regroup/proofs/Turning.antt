@@ -23,13 +23,13 @@ use Rattle.theory.specs.Heads.{Headed, rewritten-to}
 use Rattle.theory.specs.Children.{code, Group, group-head, group-children, group-few, headed-group}
 use Rattle.theory.specs.Turns.{family-at, family-turn}
 use Rattle.factor.specs.Walks.{unit-of, sharing, all-share}
-use Rattle.factor.proofs.Codes.{code-⊕, code-lit, code-node}
-use Rattle.factor.proofs.Trees.{share-trees}
+use Rattle.factor.proofs.TreeNumbers.{code-⊕, code-lit, code-node}
+use Rattle.factor.proofs.WalkedTrees.{share-trees}
 use Rattle.factor.proofs.Asking.{group-numbers, group-fits, unit-fits, unit-first, Applied, applied, sharing-trees, kids-numbers, rule-asks, conjunction-group}
-use Rattle.regroup.specs.Kept.{factored, tree-after, step-after}
+use Rattle.regroup.specs.Regrouped.{factored, tree-after, step-after}
 use Rattle.model.specs.Limits.{kind-factor}
-use Rattle.regroup.proofs.Kept.{units-trees, groups-kept}
-use Rattle.regroup.proofs.Sizes.{shared-kids, size-units, size-groups, shared-light}
+use Rattle.regroup.proofs.KeptTrees.{units-trees, groups-kept}
+use Rattle.regroup.proofs.FactoredSizes.{shared-kids, size-units, size-groups, shared-light}
 
 -- The numbers of one tree.
 code-one : (c : Conn) (k : Forest) → code (node c k nil) ≡ number-of (head c (size k)) ∷ code k

@@ -10,7 +10,7 @@ ghost use Rattle.model.specs.Rules.{rewrite};
 ghost use Rattle.theory.specs.Stretches.{Stretch, «forest-in»};
 ghost use Rattle.theory.specs.Heads.{Headed, «rewritten-to»};
 ghost use Rattle.factor.specs.Walks.{among, «all-share», «shares-here»};
-ghost use Rattle.regroup.specs.Kept.{Appended, factored, gathered, kept, «less-unit», «step-after», «tree-after»};
+ghost use Rattle.regroup.specs.Regrouped.{Appended, factored, gathered, kept, «less-unit», «step-after», «tree-after»};
 use limits::SHEET_ROOM;
 
 // Numbers are written into a list from a place on; the place after them.

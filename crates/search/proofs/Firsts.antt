@@ -24,9 +24,9 @@ use Rattle.theory.specs.Heads.{Headed}
 use Rattle.theory.specs.Children.{headed-group, group-children, group-long, child-room, child-later}
 use Rattle.sizes.proofs.Laws.{child-next}
 use Rattle.simplify.specs.Constants.{constantFor}
-use Rattle.simplify.proofs.Laws.{asks-single, asks-constant}
+use Rattle.simplify.proofs.Simplifying.{asks-single, asks-constant}
 use Rattle.lift.specs.Asked.{othersLiteral}
-use Rattle.lift.proofs.Laws.{conjunction-there, asks-others}
+use Rattle.lift.proofs.Lifting.{conjunction-there, asks-others}
 use Rattle.factor.proofs.Asking.{asks-late}
 use Rattle.commons.proofs.Inner.{child-arity}
 use Rattle.firsts.specs.Firsts.{First-child, First-inner}

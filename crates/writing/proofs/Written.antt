@@ -19,7 +19,7 @@ use Rattle.theory.specs.Bytes.{length-bytes}
 use Rattle.theory.specs.Sheets.{Formed}
 use Rattle.theory.specs.Shape.{shaped-flat, shaped-decode}
 use Rattle.theory.specs.Spans.{spans, spans-counts}
-use Rattle.encoding.proofs.Contents.{length-contents}
+use Rattle.encoding.proofs.TreeContents.{length-contents}
 use Rattle.loading.proofs.Loaded.{head-of}
 
 all-fit : (xs : List ℕ) → all fits (map node-of xs) ≡ true

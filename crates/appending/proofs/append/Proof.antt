@@ -4,7 +4,7 @@ use borrow.Author.Needs.{needs}
 use Prim.Native.Nat.{_+_}
 use lib.ListN.{getD, set, length-set}
 use lib.Seq.{getD-set-other}
-use Rattle.appending.proofs.Laws.{Room, has-room, append-sheet}
+use Rattle.appending.proofs.Appending.{Room, has-room, append-sheet}
 use Rattle.appending.proofs.append.Statement.{statement}
 use Rattle.appending.proofs.append.Tie as tie
 

@@ -11,7 +11,7 @@ use borrow.Rule.Slice.PartAt.{part-to-end}
 use lib.ListN.{drop, length-drop}
 use Rattle.model.specs.Base.{all}
 use Rattle.model.specs.Book.{word, words, entries, in-line, cut, body-ok}
-use Rattle.bodies.proofs.Laws.{words-from, entries-from, entries-at, take-words, drop-words-from, in-line-after, in-line-sum}
+use Rattle.bodies.proofs.BookNumbers.{words-from, entries-from, entries-at, take-words, drop-words-from, in-line-after, in-line-sum}
 use Rattle.bodies.proofs.are_bodies.Statement.{statement}
 use Rattle.bodies.proofs.are_bodies.Tie as tie
 

@@ -7,7 +7,7 @@ use native.Mathlib.Omega.{arith}
 use borrow.Author.Tests.{eq-eqb, ne-eqb, le-leb, lt-leb}
 use lib.Dec.{eqb, leb}
 use Rattle.model.specs.Book.{entries, in-line}
-use Rattle.bodies.proofs.Laws.{word-small, entries-from, in-line-at}
+use Rattle.bodies.proofs.BookNumbers.{word-small, entries-from, in-line-at}
 use Rattle.bodies.proofs.are_in_line.Statement.{statement}
 use Rattle.bodies.proofs.are_in_line.Tie as tie
 

@@ -10,7 +10,7 @@ use borrow.Author.Needs.{needs}
 use Rattle.model.specs.Code.{literals, node-of}
 use Rattle.model.specs.Book.{word, words}
 use Rattle.theory.specs.Scan.{is-literal, literals-more, literals-same}
-use Rattle.bodies.proofs.Laws.{words-from, words-at}
+use Rattle.bodies.proofs.BookNumbers.{words-from, words-at}
 use Rattle.bodies.proofs.count_literals.Statement.{statement}
 use Rattle.bodies.proofs.count_literals.Tie as tie
 

@@ -12,7 +12,7 @@ use Rattle.model.specs.Book.{word, words, body-ok}
 use Rattle.theory.specs.Bytes.{length-words}
 use Rattle.theory.specs.Scan.{joined-by, scan, scan-ok, scan-count}
 use Rattle.nodes.specs.Trees.{treesOf}
-use Rattle.bodies.proofs.Laws.{words-from, words-at}
+use Rattle.bodies.proofs.BookNumbers.{words-from, words-at}
 use Rattle.bodies.proofs.is_body.Statement.{statement}
 use Rattle.bodies.proofs.is_body.Tie as tie
 

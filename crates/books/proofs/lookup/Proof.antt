@@ -5,7 +5,7 @@ use native.Mathlib.Omega.{arith}
 use borrow.Author.Needs.{needs}
 use borrow.Rule.Slice.PartAt.{part-to-end}
 use lib.ListN.{length-drop}
-use Rattle.codes.specs.Places.{placeOf}
+use Rattle.codes.specs.CodePlaces.{placeOf}
 use Rattle.calls.specs.Chains.{book-refusal}
 use Rattle.books.proofs.BookTests.{good-book, codes-room, lookup-refused, lookup-found, lookup-missing, found-code}
 use Rattle.books.proofs.lookup.Statement.{statement}

@@ -7,10 +7,10 @@ use borrow.Author.Needs.{needs}
 use borrow.Author.Tests.{not-true, not-false}
 use Rattle.model.specs.Limits.{code-length}
 use Rattle.model.specs.Book.{code-ok, codes-ok, pieces}
-use Rattle.codes.specs.Places.{code-at}
-use Rattle.codes.proofs.Laws.{from-first}
-use Rattle.chains.specs.Chains.{comes-after}
-use Rattle.chains.proofs.Laws.{ok-from, ok-more}
+use Rattle.codes.specs.CodePlaces.{code-at}
+use Rattle.codes.proofs.CodesFrom.{from-first}
+use Rattle.chains.specs.Hashes.{comes-after}
+use Rattle.chains.proofs.ComesAgain.{ok-from, ok-more}
 use Rattle.chains.proofs.are_codes.Statement.{statement}
 use Rattle.chains.proofs.are_codes.Tie as tie
 

@@ -5,9 +5,9 @@ use native.Mathlib.Omega.{arith}
 use borrow.Author.Needs.{needs}
 use borrow.Author.Tests.{not-true, not-false}
 use Rattle.model.specs.Limits.{most-options}
-use Rattle.chains.specs.Chains.{buckets}
-use Rattle.chains.proofs.Laws.{ok-more}
-use Rattle.chains.proofs.Chains.{Entered, entered-none, entered-before, entered-more, entered-all, walk, bad-from}
+use Rattle.chains.specs.Hashes.{buckets}
+use Rattle.chains.proofs.ComesAgain.{ok-more}
+use Rattle.chains.proofs.HashTables.{Entered, entered-none, entered-before, entered-more, entered-all, walk, bad-from}
 use Rattle.chains.proofs.are_few_codes.Statement.{statement}
 use Rattle.chains.proofs.are_few_codes.Tie as tie
 

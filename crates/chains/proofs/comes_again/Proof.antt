@@ -8,11 +8,11 @@ use native.Mathlib.Omega.{arith}
 use borrow.Author.Needs.{needs}
 use lib.ListN.{getD}
 use Rattle.model.specs.Book.{same-code}
-use Rattle.codes.specs.Places.{code-at}
-use Rattle.codes.proofs.Laws.{from-next}
-use Rattle.chains.specs.Chains.{comes-from, comes-after, hash, Link, Walk}
-use Rattle.chains.proofs.Laws.{comes-more, comes-past}
-use Rattle.chains.proofs.Chains.{comes-next}
+use Rattle.codes.specs.CodePlaces.{code-at}
+use Rattle.codes.proofs.CodesFrom.{from-next}
+use Rattle.chains.specs.Hashes.{comes-from, comes-after, hash, Link, Walk}
+use Rattle.chains.proofs.ComesAgain.{comes-more, comes-past}
+use Rattle.chains.proofs.HashTables.{comes-next}
 use Rattle.chains.proofs.comes_again.Statement.{statement}
 use Rattle.chains.proofs.comes_again.Tie as tie
 

@@ -2,8 +2,8 @@
 use mathlib.Core.Path.{sym, _∙_}
 use native.Mathlib.Omega.{arith}
 use borrow.Author.Needs.{needs}
-use Rattle.chains.specs.Chains.{hash}
-use Rattle.chains.proofs.Chains.{hash-take}
+use Rattle.chains.specs.Hashes.{hash}
+use Rattle.chains.proofs.HashTables.{hash-take}
 use Rattle.chains.proofs.hash_of.Statement.{statement}
 use Rattle.chains.proofs.hash_of.Tie as tie
 

@@ -10,9 +10,9 @@ use lib.ListN.{take, drop}
 use Rattle.model.specs.Base.{any}
 use Rattle.model.specs.Limits.{code-length}
 use Rattle.model.specs.Book.{same-code, pieces}
-use Rattle.codes.specs.Places.{code-at}
-use Rattle.chains.specs.Chains.{comes-from}
-use Rattle.chains.proofs.Laws.{comes-more, comes-past}
+use Rattle.codes.specs.CodePlaces.{code-at}
+use Rattle.chains.specs.Hashes.{comes-from}
+use Rattle.chains.proofs.ComesAgain.{comes-more, comes-past}
 use Rattle.chains.proofs.is_repeated.Statement.{statement}
 use Rattle.chains.proofs.is_repeated.Tie as tie
 

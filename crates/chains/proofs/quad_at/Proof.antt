@@ -1,6 +1,6 @@
 -- `chains::quad_at` meets its contract.
 use borrow.Author.Needs.{needs}
-use Rattle.chains.specs.Chains.{quad}
+use Rattle.chains.specs.Hashes.{quad}
 use Rattle.chains.proofs.quad_at.Statement.{statement}
 use Rattle.chains.proofs.quad_at.Tie as tie
 

@@ -9,8 +9,8 @@ use borrow.Author.Needs.{needs}
 use Rattle.model.specs.Base.{pick}
 use Rattle.model.specs.Limits.{code-length}
 use Rattle.model.specs.Book.{same-code, characters, option-of-code, pieces}
-use Rattle.codes.specs.Places.{code-at, codes-from}
-use Rattle.codes.proofs.Laws.{from-first, from-cons, from-next, from-past}
+use Rattle.codes.specs.CodePlaces.{code-at, codes-from}
+use Rattle.codes.proofs.CodesFrom.{from-first, from-cons, from-next, from-past}
 use Rattle.codes.proofs.find.Statement.{statement}
 use Rattle.codes.proofs.find.Tie as tie
 

@@ -12,7 +12,7 @@ use lib.Dec.{eqb}
 use Rattle.model.specs.Base.{all, pick}
 use Rattle.model.specs.Limits.{code-length}
 use Rattle.model.specs.Book.{character, then-zeros, code-ok}
-use Rattle.codes.proofs.Laws.{byte-more}
+use Rattle.codes.proofs.CodesFrom.{byte-more}
 use Rattle.codes.proofs.is_code.Statement.{statement}
 use Rattle.codes.proofs.is_code.Tie as tie
 

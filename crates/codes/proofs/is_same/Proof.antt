@@ -11,7 +11,7 @@ use lib.Dec.{eqb}
 use Rattle.model.specs.Base.{same-list}
 use Rattle.model.specs.Limits.{code-length}
 use Rattle.model.specs.Book.{same-code}
-use Rattle.codes.proofs.Laws.{byte-more}
+use Rattle.codes.proofs.CodesFrom.{byte-more}
 use Rattle.codes.proofs.is_same.Statement.{statement}
 use Rattle.codes.proofs.is_same.Tie as tie
 

@@ -12,7 +12,7 @@ use lib.Dec.{eqb}
 use Rattle.model.specs.Base.{pick, same-list}
 use Rattle.model.specs.Limits.{code-length}
 use Rattle.model.specs.Book.{characters, same-code}
-use Rattle.codes.proofs.Laws.{byte-more}
+use Rattle.codes.proofs.CodesFrom.{byte-more}
 use Rattle.codes.proofs.is_spelled.Statement.{statement}
 use Rattle.codes.proofs.is_spelled.Tie as tie
 

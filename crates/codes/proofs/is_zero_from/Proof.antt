@@ -10,7 +10,7 @@ use lib.Seq.{slice, slice-empty}
 use lib.Dec.{eqb}
 use Rattle.model.specs.Limits.{code-length}
 use Rattle.model.specs.Base.{all}
-use Rattle.codes.proofs.Laws.{byte-more}
+use Rattle.codes.proofs.CodesFrom.{byte-more}
 use Rattle.codes.proofs.is_zero_from.Statement.{statement}
 use Rattle.codes.proofs.is_zero_from.Tie as tie
 

@@ -9,7 +9,7 @@ use borrow.Author.Needs.{needs}
 use lib.ListN.{length, take, drop, getD}
 use lib.Seq.{take-suc, length-take-le}
 use Rattle.model.specs.Book.{bytes-of}
-use Rattle.encoding.proofs.Laws.{bytes-more}
+use Rattle.encoding.proofs.NumberBytes.{bytes-more}
 use Rattle.encoding.proofs.put_bytes.Statement.{statement}
 use Rattle.encoding.proofs.put_bytes.Tie as tie
 

@@ -10,7 +10,7 @@ use Rattle.model.specs.Book.{bytes-of, lined-up}
 use Rattle.theory.specs.Contents.{total}
 use Rattle.theory.specs.Spans.{span, spans}
 use Rattle.lists.proofs.Lent.{lent-part}
-use Rattle.encoding.proofs.Contents.{begins, contents-more}
+use Rattle.encoding.proofs.TreeContents.{begins, contents-more}
 use Rattle.encoding.proofs.put_contents.Statement.{statement}
 use Rattle.encoding.proofs.put_contents.Tie as tie
 

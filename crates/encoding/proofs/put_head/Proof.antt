@@ -4,7 +4,7 @@ use mathlib.Core.Path.{refl, _∙_}
 use native.Mathlib.Omega.{arith}
 use borrow.Author.Needs.{needs}
 use Rattle.model.specs.Book.{bytes-of}
-use Rattle.encoding.proofs.Laws.{bytes-more}
+use Rattle.encoding.proofs.NumberBytes.{bytes-more}
 use Rattle.encoding.proofs.put_head.Statement.{statement}
 use Rattle.encoding.proofs.put_head.Tie as tie
 

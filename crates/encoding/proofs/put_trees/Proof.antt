@@ -8,7 +8,7 @@ use lib.Seq.{take-length}
 use Rattle.model.specs.Book.{bytes-of, lined-up}
 use Rattle.theory.specs.Spans.{spans}
 use Rattle.lists.proofs.Lent.{lent-start}
-use Rattle.encoding.proofs.Contents.{length-contents}
+use Rattle.encoding.proofs.TreeContents.{length-contents}
 use Rattle.encoding.proofs.put_trees.Statement.{statement}
 use Rattle.encoding.proofs.put_trees.Tie as tie
 

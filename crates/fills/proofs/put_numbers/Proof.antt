@@ -8,7 +8,7 @@ use lib.ListN.{length, drop, length-set}
 use Rattle.model.specs.Book.{word, words}
 use Rattle.theory.specs.Bytes.{length-words}
 use Rattle.lists.proofs.Starts.{start-more}
-use Rattle.fills.proofs.Laws.{words-more}
+use Rattle.fills.proofs.ReadNumbers.{words-more}
 use Rattle.fills.proofs.put_numbers.Statement.{statement}
 use Rattle.fills.proofs.put_numbers.Tie as tie
 

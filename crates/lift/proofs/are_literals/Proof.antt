@@ -8,7 +8,7 @@ use lib.ListN.{length, getD}
 use lib.Seq.{slice}
 use Rattle.model.specs.Base.{all}
 use Rattle.theory.specs.Scan.{is-literal}
-use Rattle.lift.proofs.Laws.{literals-next, literals-none, literals-over}
+use Rattle.lift.proofs.Lifting.{literals-next, literals-none, literals-over}
 use Rattle.lift.proofs.are_literals.Statement.{statement}
 use Rattle.lift.proofs.are_literals.Tie as tie
 

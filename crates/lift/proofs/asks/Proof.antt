@@ -15,7 +15,7 @@ use Rattle.model.specs.Forest.{Forest, size, after, conjunction-at}
 use Rattle.theory.specs.Logic.{is-some-of}
 use Rattle.theory.specs.Spans.{child-at}
 use Rattle.theory.specs.Children.{Group, headed-group, counted-child, group-children, group-long, child-room, child-conjunction}
-use Rattle.lift.proofs.Laws.{asks-nothing, conjunction-group, asks-literal, asks-others-none, asks-others}
+use Rattle.lift.proofs.Lifting.{asks-nothing, conjunction-group, asks-literal, asks-others-none, asks-others}
 use Rattle.lift.proofs.asks.Statement.{statement}
 use Rattle.lift.proofs.asks.Tie as tie
 

@@ -14,7 +14,7 @@ use Rattle.theory.specs.Forests.{conjunction-here}
 use Rattle.theory.specs.Numbers.{children-small}
 use Rattle.theory.specs.Spans.{child-at}
 use Rattle.theory.specs.Children.{first-left, Group, headed-group, group-bounds, group-few, group-long, child-within, child-room}
-use Rattle.lift.proofs.Laws.{conjunction-group, conjunction-there, literal-within, turns-merge, turns-lift}
+use Rattle.lift.proofs.Lifting.{conjunction-group, conjunction-there, literal-within, turns-merge, turns-lift}
 use Rattle.lift.proofs.turn.Statement.{statement}
 use Rattle.lift.proofs.turn.Tie as tie
 

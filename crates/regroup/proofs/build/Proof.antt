@@ -7,7 +7,7 @@ use native.Mathlib.Omega.{arith}
 use borrow.Author.Needs.{needs}
 use lib.ListN.{length, getD, drop, length-set, length-append, length-drop}
 use Rattle.lists.proofs.Lent.{lent-part}
-use Rattle.regroup.specs.Kept.{gathered, factored}
+use Rattle.regroup.specs.Regrouped.{gathered, factored}
 use Rattle.regroup.proofs.Append.{appended-one, appended-three, appended-both}
 use Rattle.regroup.proofs.build.Statement.{statement}
 use Rattle.regroup.proofs.build.Tie as tie

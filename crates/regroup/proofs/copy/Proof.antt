@@ -6,7 +6,7 @@ use native.Mathlib.Omega.{arith}
 use borrow.Author.Needs.{needs}
 use lib.ListN.{length, take, length-set}
 use lib.Seq.{take-all}
-use Rattle.regroup.specs.Kept.{Appended}
+use Rattle.regroup.specs.Regrouped.{Appended}
 use Rattle.regroup.proofs.Append.{appended-none, appended-more, appended-as}
 use Rattle.regroup.proofs.copy.Statement.{statement}
 use Rattle.regroup.proofs.copy.Tie as tie

@@ -11,9 +11,9 @@ use Rattle.model.specs.Code.{kind, children}
 use Rattle.theory.specs.Numbers.{children-small}
 use Rattle.theory.specs.Spans.{span, child-at}
 use Rattle.factor.specs.Walks.{unit-place, among}
-use Rattle.regroup.specs.Kept.{less-unit}
+use Rattle.regroup.specs.Regrouped.{less-unit}
 use Rattle.regroup.proofs.Append.{appended-one, appended-both, appended-as}
-use Rattle.regroup.proofs.Kept.{less-unit-parts}
+use Rattle.regroup.proofs.KeptTrees.{less-unit-parts}
 use Rattle.regroup.proofs.copy_group.Statement.{statement}
 use Rattle.regroup.proofs.copy_group.Tie as tie
 

@@ -7,9 +7,9 @@ use lib.ListN.{length, getD}
 use Rattle.model.specs.Base.{pick}
 use Rattle.theory.specs.Scan.{is-literal}
 use Rattle.factor.proofs.Here.{shares-group}
-use Rattle.regroup.specs.Kept.{kept, less-unit}
+use Rattle.regroup.specs.Regrouped.{kept, less-unit}
 use Rattle.regroup.proofs.Append.{appended-none, appended-one, appended-as}
-use Rattle.regroup.proofs.Kept.{kept-is}
+use Rattle.regroup.proofs.KeptTrees.{kept-is}
 use Rattle.regroup.proofs.copy_tree.Statement.{statement}
 use Rattle.regroup.proofs.copy_tree.Tie as tie
 

@@ -7,7 +7,7 @@ use lib.ListN.{length, take, length-replicate}
 use lib.Seq.{length-take-le}
 use Rattle.model.specs.Limits.{sheet-room}
 use Rattle.factor.proofs.Asking.{Applied}
-use Rattle.regroup.specs.Kept.{step-after}
+use Rattle.regroup.specs.Regrouped.{step-after}
 use Rattle.regroup.proofs.Turning.{rule-found, step-room, turned}
 use Rattle.regroup.proofs.turn.Statement.{statement}
 use Rattle.regroup.proofs.turn.Tie as tie

@@ -9,7 +9,7 @@ use Rattle.theory.specs.Numbers.{children-small}
 use Rattle.theory.specs.Spans.{child-at}
 use Rattle.theory.specs.Stretches.{live}
 use Rattle.factor.proofs.Asking.{stretch-some}
-use Rattle.regroup.specs.Kept.{tree-after, step-after}
+use Rattle.regroup.specs.Regrouped.{tree-after, step-after}
 use Rattle.regroup.proofs.Append.{appended-both}
 use Rattle.regroup.proofs.Turning.{rule-found, live-within, ends-live, step-room}
 use Rattle.regroup.proofs.write_step.Statement.{statement}

@@ -10,7 +10,7 @@ use Rattle.theory.specs.Numbers.{children-small}
 use Rattle.theory.specs.Spans.{child-at}
 use Rattle.factor.specs.Walks.{unit-of, sharing}
 use Rattle.factor.proofs.Asking.{Applied, stretch-some, conjunction-index, conjunction-room}
-use Rattle.regroup.specs.Kept.{tree-after}
+use Rattle.regroup.specs.Regrouped.{tree-after}
 use Rattle.regroup.proofs.Turning.{rule-found, all-shared, groups-few, tree-room, step-room}
 use Rattle.regroup.proofs.write_tree.Statement.{statement}
 use Rattle.regroup.proofs.write_tree.Tie as tie

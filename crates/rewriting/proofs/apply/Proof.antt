@@ -8,7 +8,7 @@ use borrow.Rule.Slice.PartMut.{midOf, putMid}
 use lib.ListN.{length, length-drop}
 use Rattle.lists.proofs.Lent.{lent-part}
 use Rattle.model.specs.Limits.{sheet-length}
-use Rattle.rewriting.proofs.Laws.{live-short, Ready, ready, back-long, back-sheet, back-level}
+use Rattle.rewriting.proofs.SheetSteps.{live-short, Ready, ready, back-long, back-sheet, back-level}
 use Rattle.rewriting.proofs.apply.Statement.{statement}
 use Rattle.rewriting.proofs.apply.Tie as tie
 

@@ -6,7 +6,7 @@ use borrow.Author.Needs.{needs}
 use lib.ListN.{length-map}
 use lib.Seq.{slice, length-slice}
 use Rattle.shifts.specs.Replaced.{replaced}
-use Rattle.shifts.proofs.Laws.{Written, written-none, written-all, written-mapped}
+use Rattle.shifts.proofs.Shifting.{Written, written-none, written-all, written-mapped}
 use Rattle.shifts.proofs.assign.Statement.{statement}
 use Rattle.shifts.proofs.assign.Tie as tie
 

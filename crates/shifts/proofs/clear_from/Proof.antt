@@ -6,7 +6,7 @@ use native.Mathlib.Omega.{arith}
 use borrow.Author.Needs.{needs}
 use lib.ListN.{length, replicate, length-replicate, getD-replicate}
 use lib.Seq.{drop-length}
-use Rattle.shifts.proofs.Laws.{Written, written-none, written-more, written-all}
+use Rattle.shifts.proofs.Shifting.{Written, written-none, written-more, written-all}
 use Rattle.shifts.proofs.clear_from.Statement.{statement}
 use Rattle.shifts.proofs.clear_from.Tie as tie
 

@@ -5,7 +5,7 @@ use native.Mathlib.Omega.{arith}
 use borrow.Author.Needs.{needs}
 use lib.ListN.{length, drop, List·getD-eq-default}
 use Rattle.theory.specs.Stretches.{live}
-use Rattle.shifts.proofs.Laws.{live-over, live-more}
+use Rattle.shifts.proofs.Shifting.{live-over, live-more}
 use Rattle.shifts.proofs.live_count.Statement.{statement}
 use Rattle.shifts.proofs.live_count.Tie as tie
 

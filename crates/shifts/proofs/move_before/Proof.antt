@@ -4,7 +4,7 @@ use mathlib.Core.Path.{_≡_}
 use native.Mathlib.Omega.{arith}
 use borrow.Author.Needs.{needs}
 use lib.ListN.{getD}
-use Rattle.shifts.proofs.Laws.{Opened, opened-none, opened-more, opened-filled}
+use Rattle.shifts.proofs.Shifting.{Opened, opened-none, opened-more, opened-filled}
 use Rattle.shifts.proofs.move_before.Statement.{statement}
 use Rattle.shifts.proofs.move_before.Tie as tie
 

@@ -1,7 +1,7 @@
 -- `shifts::remove` meets its contract: the numbers after the gap have moved up, and the places that they left are cleared.
 use native.Mathlib.Omega.{arith}
 use borrow.Author.Needs.{needs}
-use Rattle.shifts.proofs.Laws.{removed}
+use Rattle.shifts.proofs.Shifting.{removed}
 use Rattle.shifts.proofs.remove.Statement.{statement}
 use Rattle.shifts.proofs.remove.Tie as tie
 

@@ -5,7 +5,7 @@ use native.Mathlib.Omega.{arith}
 use borrow.Author.Needs.{needs}
 use lib.ListN.{drop, length-drop}
 use lib.Seq.{getD-drop}
-use Rattle.shifts.proofs.Laws.{Written, written-none, written-more, written-ahead, written-all}
+use Rattle.shifts.proofs.Shifting.{Written, written-none, written-more, written-ahead, written-all}
 use Rattle.shifts.proofs.shift_left.Statement.{statement}
 use Rattle.shifts.proofs.shift_left.Tie as tie
 

@@ -8,7 +8,7 @@ use Rattle.model.specs.Limits.{sheet-room}
 use Rattle.model.specs.Code.{children}
 use Rattle.model.specs.Forest.{size}
 use Rattle.theory.specs.Children.{Group, headed-group, counted-child, group-children, group-long}
-use Rattle.simplify.proofs.Laws.{asks-nothing, asks-single, asks-constant}
+use Rattle.simplify.proofs.Simplifying.{asks-nothing, asks-single, asks-constant}
 use Rattle.simplify.proofs.asks.Statement.{statement}
 use Rattle.simplify.proofs.asks.Tie as tie
 

@@ -4,7 +4,7 @@ use Rattle.model.specs.Base.{pick, maybe}
 use Rattle.model.specs.Code.{number, conn-kind}
 use Rattle.model.specs.Rules.{neutral, deciding, table, row-of}
 use Rattle.simplify.specs.Constants.{wanted, group-of, constantFor}
-use Rattle.simplify.proofs.Laws.{constant-true}
+use Rattle.simplify.proofs.Simplifying.{constant-true}
 use Rattle.simplify.proofs.constant_for.Statement.{statement}
 use Rattle.simplify.proofs.constant_for.Tie as tie
 

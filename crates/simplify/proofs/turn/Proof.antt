@@ -8,7 +8,7 @@ use Rattle.model.specs.Code.{value, children}
 use Rattle.model.specs.Forest.{size}
 use Rattle.theory.specs.Spans.{child-at}
 use Rattle.theory.specs.Children.{Group, headed-group, group-children, group-bounds, group-few, group-long, child-later, child-room}
-use Rattle.simplify.proofs.Laws.{applied-here, turns-single, turns-omit, turns-absorb}
+use Rattle.simplify.proofs.Simplifying.{applied-here, turns-single, turns-omit, turns-absorb}
 use Rattle.simplify.proofs.turn.Statement.{statement}
 use Rattle.simplify.proofs.turn.Tie as tie
 

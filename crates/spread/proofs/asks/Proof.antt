@@ -8,7 +8,7 @@ use Rattle.model.specs.Forest.{size}
 use Rattle.theory.specs.Spans.{child-at}
 use Rattle.theory.specs.Children.{Group, headed-group, counted-child, group-children, group-few, group-long}
 use Rattle.spread.specs.Assigning.{spreads-from}
-use Rattle.spread.proofs.Laws.{child-inside, asks-none, asks-around}
+use Rattle.spread.proofs.Spreading.{child-inside, asks-none, asks-around}
 use Rattle.spread.proofs.asks.Statement.{statement}
 use Rattle.spread.proofs.asks.Tie as tie
 

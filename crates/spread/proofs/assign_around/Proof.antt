@@ -1,7 +1,7 @@
 -- `spread::assign_around` meets its contract.
 use borrow.Author.Needs.{needs}
 use Rattle.spread.specs.Assigning.{assign}
-use Rattle.spread.proofs.Laws.{twice-replaced}
+use Rattle.spread.proofs.Spreading.{twice-replaced}
 use Rattle.spread.proofs.assign_around.Statement.{statement}
 use Rattle.spread.proofs.assign_around.Tie as tie
 

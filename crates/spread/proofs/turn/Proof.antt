@@ -10,7 +10,7 @@ use Rattle.model.specs.Forest.{size}
 use Rattle.theory.specs.Spans.{child-at}
 use Rattle.theory.specs.Children.{headed-group, group-children, group-few, group-long}
 use Rattle.spread.specs.Assigning.{assign, around}
-use Rattle.spread.proofs.Laws.{child-inside, spread-within, turns-spread}
+use Rattle.spread.proofs.Spreading.{child-inside, spread-within, turns-spread}
 use Rattle.spread.proofs.turn.Statement.{statement}
 use Rattle.spread.proofs.turn.Tie as tie
 

@@ -11,7 +11,7 @@ use Rattle.model.specs.Book.{bytes-of, lined-up}
 use Rattle.theory.specs.Bytes.{length-bytes, length-flat}
 use Rattle.theory.specs.Contents.{total, places, flat-places, length-places}
 use Rattle.theory.specs.Spans.{span, spans}
-use Rattle.encoding.proofs.Laws.{bytes-more}
+use Rattle.encoding.proofs.NumberBytes.{bytes-more}
 
 pub length-spans : (m : ℕ) (s : List ℕ) → length (spans m s) ≡ m
 unfolding spans

@@ -5,9 +5,9 @@ use mathlib.Core.List.{List}
 use mathlib.Core.Path.{_≡_}
 use Rattle.model.specs.Base.{any}
 use Rattle.model.specs.Book.{same-code, code-ok, codes-ok}
-use Rattle.codes.specs.Places.{code-at, codes-from}
-use Rattle.codes.proofs.Laws.{from-cons, from-next, from-past}
-use Rattle.chains.specs.Chains.{comes-from, comes-after}
+use Rattle.codes.specs.CodePlaces.{code-at, codes-from}
+use Rattle.codes.proofs.CodesFrom.{from-cons, from-next, from-past}
+use Rattle.chains.specs.Hashes.{comes-from, comes-after}
 
 -- The codes from code i on are well-formed and different.
 abbrev pub ok-from : ℕ → List ℕ → ℕ → Bool

@@ -20,9 +20,9 @@ use Rattle.theory.specs.Flat.{Fits, fits-lit}
 use Rattle.theory.specs.Children.{code}
 use Rattle.theory.specs.Leaves.{leaf-literal, head-inner}
 use Rattle.factor.specs.Walks.{walk, unit-place}
-use Rattle.factor.proofs.Codes.{fits-parts, code-⊕, code-lit, code-node, lit-before, node-before}
-use Rattle.factor.proofs.Trees.{walk-lit, walk-node, cut}
-use Rattle.regroup.specs.Kept.{less-unit, kept, gathered}
+use Rattle.factor.proofs.TreeNumbers.{fits-parts, code-⊕, code-lit, code-node, lit-before, node-before}
+use Rattle.factor.proofs.WalkedTrees.{walk-lit, walk-node, cut}
+use Rattle.regroup.specs.Regrouped.{less-unit, kept, gathered}
 
 -- A group without its first child that is the number itself: the parts of its numbers, by where they begin and end.
 pub less-unit-parts : (a : ℕ) (l : List ℕ) {m u e : ℕ} → m ≡ children (getD l 0 0) → u ≡ unit-place a m (drop 1 l) → e ≡ child-at m l → less-unit a l ≡ (getD l 0 0 - 1) ∷ (take (1 + u - 1) (drop 1 l) ++ take (e - (1 + u + 1)) (drop (1 + u + 1) l))

@@ -9,7 +9,7 @@ use lib.ListN.{length, getD}
 use lib.Seq.{slice, slice-cons, drop-drop}
 use Rattle.model.specs.Limits.{code-length}
 use Rattle.model.specs.Book.{pieces}
-use Rattle.codes.specs.Places.{lent-from, code-at, codes-after, codes-from}
+use Rattle.codes.specs.CodePlaces.{lent-from, code-at, codes-after, codes-from}
 
 -- What is left of a code from byte k on begins with that byte.
 pub byte-more : (k : ℕ) (s : List ℕ) → k < code-length → code-length ≤ length s → slice k code-length s ≡ getD s k 0 ∷ slice (k + 1) code-length s

@@ -22,7 +22,7 @@ use Rattle.theory.specs.Flat.{Fits, fits-lit}
 use Rattle.theory.specs.Children.{code}
 use Rattle.factor.specs.Walks.{walk, unit-place, among, shares-here, all-share, group-here, groups-in}
 use Rattle.theory.specs.Leaves.{leaf-literal, head-inner, leaf-test, head-unlike}
-use Rattle.factor.proofs.Codes.{fits-parts, code-⊕, code-lit, code-node, lit-before, node-before, lit-span, node-span}
+use Rattle.factor.proofs.TreeNumbers.{fits-parts, code-⊕, code-lit, code-node, lit-before, node-before, lit-span, node-span}
 use Rattle.factor.proofs.Here.{shares-literal}
 
 -- One tree of a walk.

@@ -7,7 +7,7 @@ use lib.ListN.{length, getD}
 use Rattle.model.specs.Base.{any}
 use Rattle.model.specs.Limits.{most-options, code-length}
 use Rattle.model.specs.Book.{same-code}
-use Rattle.codes.specs.Places.{code-at, codes-after, codes-from}
+use Rattle.codes.specs.CodePlaces.{code-at, codes-after, codes-from}
 
 -- Some code from code i on is d; some code after code i is the same.
 abbrev pub comes-from : List ℕ → ℕ → List ℕ → ℕ → Bool

@@ -27,7 +27,7 @@ use Rattle.theory.specs.Sheets.{Formed}
 use Rattle.theory.specs.Stretches.{Stretch, forest-in, spell-to, live, live-numbers, sheet-stretch}
 use Rattle.theory.specs.Places.{lend, place-used, before-place}
 use Rattle.theory.specs.Heads.{Headed, rewritten-to}
-use Rattle.locality.specs.Families.{level-length}
+use Rattle.locality.specs.SameCount.{level-length}
 use Rattle.heads.proofs.Laws.{applied-headed}
 use Rattle.model.specs.Results.{stepped}
 

@@ -12,10 +12,10 @@ use lib.Seq.{getD-take, getD-set-same, getD-set-other}
 use Rattle.model.specs.Base.{same-list}
 use Rattle.model.specs.Limits.{most-options, code-length}
 use Rattle.model.specs.Book.{same-code, code-ok, codes-ok, pieces}
-use Rattle.codes.specs.Places.{code-at}
-use Rattle.codes.proofs.Laws.{from-first}
-use Rattle.chains.specs.Chains.{comes-from, comes-after, quad, hash, Link, Links, Walk, buckets}
-use Rattle.chains.proofs.Laws.{ok-from, ok-more, ok-past, comes-more, comes-past}
+use Rattle.codes.specs.CodePlaces.{code-at}
+use Rattle.codes.proofs.CodesFrom.{from-first}
+use Rattle.chains.specs.Hashes.{comes-from, comes-after, quad, hash, Link, Links, Walk, buckets}
+use Rattle.chains.proofs.ComesAgain.{ok-from, ok-more, ok-past, comes-more, comes-past}
 
 -- The hash of a code is read off its 13 bytes.
 quad-take : (s : List ℕ) (k : ℕ) → k + 4 ≤ code-length → quad (take code-length s) k ≡ quad s k
