@@ -17,24 +17,13 @@ fn put_numbers(s: &[u8], count: usize, out: &mut [u16])
     }
 }
 
-// All numbers zero.
-fn clear(out: &mut [u16])
-    ensures { λ r. ⌜ now (out .exit) ≡ replicate (length (now (out .entry))) 0 ⌝ }
-{
-    let mut i = 0;
-    while i < out.len() {
-        out[i] = 0;
-        i += 1;
-    }
-}
-
 // The numbers that a slice of bytes spells, and zeros to the end.
 pub fn fill_numbers(s: &[u8], count: usize, out: &mut [u16])
     requires { ⌜ (count ≤ length (now out)) × (2 * count ≤ length (now s)) ⌝ }
     ensures { λ r. ⌜ now (out .exit) ≡ words count (now (s .entry)) ++ replicate (length (now (out .entry)) - count) 0 ⌝ }
 {
     put_numbers(s, count, out);
-    clear(&mut out[count..]);
+    shifts::clear_from(out, count);
 }
 
 // Three numbers, at the start of a slice.
