@@ -22,7 +22,8 @@ use Rattle.theory.specs.Shape.{shaped-trees}
 use Rattle.theory.specs.Sheets.{Formed}
 use Rattle.theory.specs.Stretches.{stands}
 use Rattle.locality.specs.Turned.{Turned, turned}
-use Rattle.locality.specs.SameCount.{family-9, level-length}
+use Rattle.theory.specs.Turns.{family-9}
+use Rattle.locality.specs.Locality.{level-length}
 use Rattle.sizes.specs.Tables.{Sized}
 use Rattle.zones.specs.Zoned.{after-step}
 use Rattle.zones.proofs.OnSheet as O

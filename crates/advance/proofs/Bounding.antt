@@ -16,7 +16,7 @@ use Rattle.model.specs.Strategy.{least-i}
 use Rattle.theory.specs.Logic.{either}
 use Rattle.locality.specs.Zones.{Holds, Twice, zone}
 use Rattle.locality.specs.Locality.{step-before}
-use Rattle.locality.specs.SameCount.{level-length}
+use Rattle.locality.specs.Locality.{level-length}
 use Rattle.bounds.specs.Tables.{Bounds, High, Rises}
 use Rattle.zones.specs.Zoned.{after-step, Zoned}
 use Rattle.advance.specs.Holders.{Holders}

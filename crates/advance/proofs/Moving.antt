@@ -22,7 +22,7 @@ use Rattle.zones.specs.Zoned.{after-step, Zoned}
 use Rattle.zones.proofs.OnSheet as O
 use Rattle.zones.proofs.Zones.{tall}
 use Rattle.locality.specs.Zones.{zone}
-use Rattle.locality.specs.SameCount.{family-9}
+use Rattle.theory.specs.Turns.{family-9}
 use Rattle.locality.specs.Locality.{step-extent}
 use Rattle.advance.specs.Holders.{Holders}
 use Rattle.advance.specs.Settled.{Settled}

@@ -22,7 +22,7 @@ use Rattle.theory.specs.Shape.{shaped-trees}
 use Rattle.theory.specs.Sheets.{Formed}
 use Rattle.theory.specs.Stretches.{stands}
 use Rattle.locality.specs.Zones.{tree-length, tree-end}
-use Rattle.locality.specs.SameCount.{level-length}
+use Rattle.locality.specs.Locality.{level-length}
 use Rattle.locality.specs.Locality.{length-before, length-holding, length-at}
 use Rattle.sizes.specs.Tables.{Sized}
 use Rattle.zones.specs.Zoned.{after-step, Zoned}

@@ -6,16 +6,11 @@ use Prim.Native.Nat.{ℕ, zero, suc, _+_, _*_, _-_, _≤_, _<_}
 use native.Mathlib.Omega.{arith}
 use lib.Dec.{eqb, leb}
 use lib.ListN.{take, drop}
-use lib.Seq.{getD-drop, drop-drop}
+use lib.Seq.{drop-drop}
 use Rattle.model.specs.Book.{word, words, Entry, entries, in-line}
-use Rattle.theory.specs.Bytes.{Bytes}
+use Rattle.theory.specs.Bytes.{Bytes, word-drop}
 use Rattle.theory.specs.Contents.{in-line-means}
 use Rattle.theory.specs.Logic.{and-split}
-
-pub word-drop : (k j : ℕ) (b : List ℕ) → word (drop k b) j ≡ word b (k + j)
-unfolding word
-word-drop k j b =
-    let next : k + suc j ≡ suc (k + j) = omega arith in rw (getD-drop k b j 0, getD-drop k b (suc j) 0, next)
 
 pub word-small : (b : List ℕ) (k : ℕ) → Bytes b → word b k < 65536
 unfolding word

@@ -3,26 +3,25 @@ use mathlib.Core.Bool.{Bool, true, false, _&&_, not}
 use mathlib.Core.List.{List, _∷_, _++_, append-assoc}
 use mathlib.Core.Option.{Option, none, some}
 use mathlib.Core.Path.{_≡_, refl, sym, ap, ap₂, _∙_}
-use Prim.Native.Nat.{ℕ, suc, _+_, _≤_, _<_}
+use Prim.Native.Nat.{ℕ, _+_, _≤_, _<_}
 use native.Mathlib.Omega.{arith}
 use borrow.Author.Tests.{lt-leb, leb-true, leb-false, eq-eqb, eqb-true, not-true}
 use lib.Dec.{leb}
 use lib.ListN.{length, getD, drop, length-map}
 use Rattle.model.specs.Base.{pick, is-some, then}
-use Rattle.model.specs.Limits.{sheet-room}
 use Rattle.model.specs.Literal.{Literal}
-use Rattle.model.specs.Forest.{Conn, and, Forest, lit, _⊕_, size, first, after, literal-at, conjunction-at, literals-only, has-unit}
+use Rattle.model.specs.Forest.{Conn, Forest, size, first, after, literal-at, conjunction-at, literals-only, has-unit}
 use Rattle.model.specs.Code.{leaf, head, encode, kind, children, number-of}
 use Rattle.model.specs.Rules.{factor, change, rewrite, shares, groups}
 use Rattle.theory.specs.Logic.{true-false, and-split, fails-if, pick-true, pick-false, is-some-of, is-some-only, then-some, only-some}
-use Rattle.theory.specs.Forests.{first-after, size-first, size-after, conjunction-here, literal-here}
+use Rattle.theory.specs.Forests.{first-after, size-first}
 use Rattle.theory.specs.Numbers.{fits}
 use Rattle.theory.specs.Scan.{is-literal}
 use Rattle.theory.specs.Spans.{child-at}
-use Rattle.theory.specs.Flat.{spell, spell-⊕, spell-node, Fits, fits-⊕, fits-lit}
+use Rattle.theory.specs.Flat.{spell, spell-⊕, spell-node, Fits}
 use Rattle.theory.specs.Stretches.{Stretch, forest-in}
 use Rattle.theory.specs.Heads.{Headed}
-use Rattle.theory.specs.Children.{first-left, code, Group, group-children, group-few, child-within, child-place, child-room, child-fits, child-stands, child-group, child-literal, child-conjunction, headed-group}
+use Rattle.theory.specs.Children.{code, Group, group-children, child-place, child-room, child-fits, child-literal, child-conjunction, headed-group, group-long, literal-within, literal-fits, literal-number, asked-child, conjunction-group}
 use Rattle.theory.specs.Turns.{family-at, family-asks}
 use Rattle.factor.specs.Walks.{among, unit-of, sharing}
 use Rattle.theory.specs.Leaves.{leaf-literal}
@@ -44,38 +43,22 @@ module _ {l : List ℕ} {c : Conn} {k f : Forest} {z : ℕ} (g : Group l c k f z
   pub group-fits : Fits k
   group-fits = fits-parts c k f (g .fitting) .1
 
-  -- A child that is a literal: its number, and whether it stands among the children before it.
+  -- A child that is a literal: whether it stands among the children before it.
   module _ (j : ℕ) {a : Literal} (e : literal-at (after j k) ≡ some a) where
-    here : after j k ≡ lit a (after (suc j) k)
-    here = literal-here j k e
-
-    within : j < size k
-    unfolding size
-    within = omega (arith, size-after j k, ap size here)
-
-    pub unit-fits : fits (leaf a) ≡ true
-    unit-fits = fits-lit a (after (suc j) k) (rw here at (fits-⊕ (after j k) f (child-fits g j (omega (arith, within)) .1) .0)) .0
-
-    number-there : getD l (child-at j l) 0 ≡ number-of (leaf a)
-    unfolding spell encode _⊕_
-    number-there =
-        sym (first-left (child-at j l) l)
-        ∙ ap (λ t. getD t 0 0) (child-stands g j (omega (arith, within)) ∙ ap (λ t. spell (t ⊕ f) z) here)
-
     among-before : among (number-of (leaf a)) j (drop 1 l) ≡ has-unit a (first j k)
     among-before =
         let p = first j k in
         let q = after j k in
         let numbers : drop 1 l ≡ code p ++ (code q ++ spell f z) =
         ap (drop 1) group-numbers ∙ ap (λ t. code t ++ spell f z) (sym (first-after j k)) ∙ ap (λ t. t ++ spell f z) (code-⊕ p q) ∙ append-assoc (code p) (code q) (spell f z) in
-        let few : size p ≡ j = size-first j k (omega (arith, within)) in
+        let few : size p ≡ j = size-first j k (omega (arith, literal-within g j e)) in
         ap (among (number-of (leaf a)) j) numbers
-        ∙ rw few at (among-trees a unit-fits p (code q ++ spell f z) (child-fits g j (omega (arith, within)) .0))
+        ∙ rw few at (among-trees a (literal-fits g j e .0) p (code q ++ spell f z) (child-fits g j (omega (arith, literal-within g j e)) .0))
 
     unit-is : unit-of j l ≡ pick (has-unit a (first j k)) 0 (number-of (leaf a))
     unfolding unit-of pick
     unit-is =
-        rw (group-children g, lt-leb (size k) j within, number-there, leaf-literal a unit-fits, among-before)
+        rw (group-children g, lt-leb (size k) j (literal-within g j e), literal-number g j e, leaf-literal a (literal-fits g j e .0), among-before)
 
     pub unit-first : has-unit a (first j k) ≡ false → unit-of j l ≡ number-of (leaf a)
     unit-first n = unit-is ∙ pick-false _ 0 (number-of (leaf a)) n
@@ -103,7 +86,7 @@ module _ {l : List ℕ} {c : Conn} {k f : Forest} {z : ℕ} (g : Group l c k f z
     where
       new : (a : Literal) → literal-at (after j k) ≡ some a → (b : Bool) → has-unit a (first j k) ≡ b → Unit j
       new a e true n = absurd (h (unit-is j e ∙ pick-true _ 0 (number-of (leaf a)) n))
-      new a e false n = record { literal = a; there = e; new = n; its-number = unit-first j e n; fitting = unit-fits j e }
+      new a e false n = record { literal = a; there = e; new = n; its-number = unit-first j e n; fitting = literal-fits g j e .0 }
 
       go : (o : Option Literal) → literal-at (after j k) ≡ o → Unit j
       go none e = absurd (h (unit-none j e))
@@ -158,14 +141,11 @@ sharing-trees a h f r w = rw (share-trees a h f r w, groups-trees f r w)
 
 -- The test, on the numbers.
 module _ {l : List ℕ} (s : Stretch l) (h : Headed 14 l) where
-  its-group : Group l (h .conn) (h .children) (h .rest) (h .zeros)
-  its-group = headed-group s h
-
   pub stretch-some : 1 ≤ length l
-  stretch-some = omega (arith, child-room its-group 0 (omega arith))
+  stretch-some = group-long (headed-group s h)
 
   pub kids-numbers : drop 1 l ≡ code (h .children) ++ spell (h .rest) (h .zeros)
-  kids-numbers = ap (drop 1) (group-numbers its-group)
+  kids-numbers = ap (drop 1) (group-numbers (headed-group s h))
 
   module _ (i j : ℕ) where
     pub rule-asks : is-some (rewrite 14 i j (forest-in l)) ≡ is-some (factor (h .conn) i j (h .children))
@@ -176,37 +156,28 @@ module _ {l : List ℕ} (s : Stretch l) (h : Headed 14 l) where
     asks-not n =
         sym (rule-asks ∙ fails-if (is-some (factor (h .conn) i j (h .children))) (λ t. n (applied (h .conn) i j (h .children) t)))
 
-    -- Child i is a conjunction: it has few children before it, and its own stand where they should.
+    -- Child i is a conjunction: its own children stand where they should.
     module _ {m : Forest} (e : conjunction-at (after i (h .children)) ≡ some m) where
-      pub conjunction-group : Group (drop (child-at i l) l) and m (after (suc i) (h .children) ⊕ h .rest) (h .zeros)
-      conjunction-group = child-group its-group i (conjunction-here i (h .children) e)
-
-      pub conjunction-index : i ≤ sheet-room
-      conjunction-index = omega (arith, child-within i (h .children) (conjunction-here i (h .children) e), group-few its-group)
-
       pub conjunction-room : let t = drop (child-at i l) l in (1 ≤ length t) × (j < children (getD t 0 0) → child-at j t < length t)
       conjunction-room =
-          let g = conjunction-group in
-          (omega (arith, child-room g 0 (omega arith)), λ b. omega (arith, group-children g, child-room g j (omega (arith, group-children g))))
+          let g = conjunction-group s h i e in
+          (group-long g, λ b. omega (arith, group-children g, child-room g j (omega (arith, group-children g))))
 
     -- No literal but the first copy counts.
     pub asks-nothing : unit-of j (drop (child-at i l) l) ≡ 0 → false ≡ is-some (rewrite 14 i j (forest-in l))
     asks-nothing e =
         asks-not
-        (λ t. let g = conjunction-group (t .conjunction) in
-        leaf-some (t .literal) (unit-fits g j (t .there)) (sym (unit-first g j (t .there) (t .new)) ∙ e))
+        (λ t. let g = conjunction-group s h i (t .conjunction) in
+        leaf-some (t .literal) (literal-fits g j (t .there) .0) (sym (unit-first g j (t .there) (t .new)) ∙ e))
 
     module _ (n : i < children (getD l 0 0)) where
       child-there : i < size (h .children)
-      child-there = rw (group-children its-group) at n
-
-      pub child-inside : child-at i l < length l
-      child-inside = omega (arith, child-room its-group i (omega (arith, child-there)), child-there)
+      child-there = asked-child s h (n, refl) .there
 
       place : child-at i l ≡ 1 + length (encode (first i (h .children)))
       place =
           let k = h .children in
-          omega (arith, child-place its-group i (omega (arith, child-there)), length-map (encode (first i k)) number-of)
+          omega (arith, child-place (headed-group s h) i (omega (arith, child-there)), length-map (encode (first i k)) number-of)
 
       -- Only literals may stand before child i, so it stands at place 1 + i.
       pub asks-late : (child-at i l ≡ 1 + i → ⊥) → false ≡ is-some (rewrite 14 i j (forest-in l))
@@ -218,22 +189,22 @@ module _ {l : List ℕ} (s : Stretch l) (h : Headed 14 l) where
       pub asks-other : (kind (getD l (child-at i l) 0) ≡ 3 → ⊥) → false ≡ is-some (rewrite 14 i j (forest-in l))
       unfolding is-some
       asks-other no-kind =
-          asks-not (λ t. no-kind (eqb-true (kind (getD l (child-at i l) 0)) 3 (child-conjunction its-group i child-there ∙ ap is-some (t .conjunction))))
+          asks-not (λ t. no-kind (eqb-true (kind (getD l (child-at i l) 0)) 3 (child-conjunction (headed-group s h) i child-there ∙ ap is-some (t .conjunction))))
 
       module _ (e : kind (getD l (child-at i l) 0) ≡ 3) where
         pub conjunction-there : (m : Forest) × (conjunction-at (after i (h .children)) ≡ some m)
         conjunction-there =
-            is-some-of (conjunction-at (after i (h .children))) (sym (child-conjunction its-group i child-there) ∙ eq-eqb (kind (getD l (child-at i l) 0)) 3 e)
+            is-some-of (conjunction-at (after i (h .children))) (sym (child-conjunction (headed-group s h) i child-there) ∙ eq-eqb (kind (getD l (child-at i l) 0)) 3 e)
 
         pub asks-shared : child-at i l ≡ 1 + i → (unit-of j (drop (child-at i l) l) ≡ 0 → ⊥) → leb 2 (sharing (unit-of j (drop (child-at i l) l)) (children (getD l 0 0)) (drop 1 l)) ≡ is-some (rewrite 14 i j (forest-in l))
         unfolding pick
         asks-shared p some-unit =
             let k = h .children in
-            let u = unit-found (conjunction-group (conjunction-there .1)) j some-unit in
+            let u = unit-found (conjunction-group s h i (conjunction-there .1)) j some-unit in
             let a = u .literal in
             let before : shares a k ≡ true → literals-only (first i k) ≡ true = λ q. short-literals a i k (omega (arith, child-there)) q (omega (arith, place)) in
             let count : sharing (unit-of j (drop (child-at i l) l)) (children (getD l 0 0)) (drop 1 l) ≡ pick (shares a k) (groups k) 0 =
-            ap₂ (λ x m. sharing x m (drop 1 l)) (u .its-number) (group-children its-group) ∙ ap (sharing (number-of (leaf a)) (size k)) kids-numbers ∙ sharing-trees a (u .fitting) k (spell (h .rest) (h .zeros)) (group-fits its-group) in
+            ap₂ (λ x m. sharing x m (drop 1 l)) (u .its-number) (group-children (headed-group s h)) ∙ ap (sharing (number-of (leaf a)) (size k)) kids-numbers ∙ sharing-trees a (u .fitting) k (spell (h .rest) (h .zeros)) (group-fits (headed-group s h)) in
             ap (leb 2) count
             ∙ go (groups k) (shares a k) (literals-only (first i k)) before
             ∙ sym (rule-asks ∙ asked (h .conn) i j k (conjunction-there .1) (u .there) (u .new))

@@ -5,12 +5,8 @@ use Prim.Native.Nat.{ℕ, zero, suc, _+_, _*_}
 use native.Mathlib.Numerals.{add-one}
 use native.Mathlib.Omega.{arith}
 use lib.ListN.{drop}
-use lib.Seq.{getD-drop}
 use Rattle.model.specs.Book.{word, words}
-
-word-drop : (n k : ℕ) (b : List ℕ) → word (drop n b) k ≡ word b (n + k)
-unfolding word
-word-drop n k b = let one : n + suc k ≡ suc (n + k) = omega arith in rw (getD-drop n b k 0, getD-drop n b (suc k) 0, one)
+use Rattle.theory.specs.Bytes.{word-drop}
 
 words-suc : (n : ℕ) (b : List ℕ) → words (suc n) b ≡ words n b ++ (word b (2 * n) ∷ [])
 unfolding words

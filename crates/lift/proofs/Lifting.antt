@@ -24,8 +24,8 @@ use Rattle.theory.specs.Spans.{child-at}
 use Rattle.theory.specs.Flat.{spell, spell-⊕, Fits, fits-⊕, fits-lit, fits-tree}
 use Rattle.theory.specs.Stretches.{Stretch, forest-in}
 use Rattle.theory.specs.Heads.{Headed, rewritten-to}
-use Rattle.theory.specs.Children.{moved-at, first-left, code, spell-parts, Group, group-head, group-children, group-bounds, opening, child-opened, child-within, child-place, headed-group, child-stands, child-room, child-fits, child-split, child-group, child-literal}
-use Rattle.theory.specs.Turns.{family-at, family-asks, family-turn}
+use Rattle.theory.specs.Children.{moved-at, first-left, code, spell-parts, Group, group-head, group-children, group-bounds, opening, child-opened, child-within, child-place, headed-group, child-stands, child-room, child-fits, child-split, child-group, child-literal, literal-within, conjunction-group}
+use Rattle.theory.specs.Turns.{family-at, family-11, family-13, family-asks, family-turn}
 use Rattle.lift.specs.Asked.{literalChild, othersLiteral}
 
 -- Trees that are literals, counted by their numbers.
@@ -92,12 +92,12 @@ module _ (r : ℕ) (c : Conn) (i j : ℕ) (k : Forest) where
 
   module _ {m : Forest} (e : conjunction-at (after i k) ≡ some m) where
     literal-asked : 11 ≤ r → r ≤ 12 → is-some (change (family-at r) c i j k) ≡ is-some (literal-at (after j m))
-    unfolding pick change lift then
-    literal-asked a b = rw (late-family r a (omega arith), le-leb r 12 b, e) (is-some-then (literal-at (after j m)) _)
+    unfolding change lift then
+    literal-asked a b = rw (family-11 r a b, e) (is-some-then (literal-at (after j m)) _)
 
     others-asked : r ≡ 13 → is-some (change (family-at r) c i j k) ≡ (eqb j 0 && literals-only (first i k) && literals-only (after (suc i) k))
-    unfolding family-at pick change merge then
-    others-asked q = rw (q, e) (is-some-only _ _)
+    unfolding change merge then
+    others-asked q = rw (q, family-13, e) (is-some-only _ _)
 
 -- The test, on the numbers.
 module _ {r : ℕ} {l : List ℕ} (s : Stretch l) (h : Headed r l) (i j : ℕ) where
@@ -107,12 +107,9 @@ module _ {r : ℕ} {l : List ℕ} (s : Stretch l) (h : Headed r l) (i j : ℕ) w
 
   -- Child i is a conjunction.
   module _ {m : Forest} (e : conjunction-at (after i (h .children)) ≡ some m) where
-    pub conjunction-group : Group (drop (child-at i l) l) and m (after (suc i) (h .children) ⊕ h .rest) (h .zeros)
-    conjunction-group = child-group (headed-group s h) i (conjunction-here i (h .children) e)
-
     pub asks-literal : 11 ≤ r → r ≤ 12 → literalChild j (drop (child-at i l) l) ≡ is-some (rewrite r i j (forest-in l))
     asks-literal a b =
-        literal-child conjunction-group j ∙ sym (family-asks h i j ∙ literal-asked r (h .conn) i j (h .children) e a b)
+        literal-child (conjunction-group s h i e) j ∙ sym (family-asks h i j ∙ literal-asked r (h .conn) i j (h .children) e a b)
 
     asks-beside : r ≡ 13 → is-some (rewrite r i j (forest-in l)) ≡ (eqb j 0 && literals-only (first i (h .children)) && literals-only (after (suc i) (h .children)))
     asks-beside q = family-asks h i j ∙ others-asked r (h .conn) i j (h .children) e q
@@ -156,35 +153,34 @@ module _ {r : ℕ} {l : List ℕ} (s : Stretch l) (h : Headed r l) (i j : ℕ) (
   conjunction-there a b =
       is-some-of (conjunction-at (after i (h .children))) (conjunction-asked r (h .conn) i j (h .children) a b (sym (family-asks h i j) ∙ t))
 
-  pub literal-within : 11 ≤ r → r ≤ 12 → {m : Forest} → conjunction-at (after i (h .children)) ≡ some m → j < size m
-  unfolding size
-  literal-within a b {m} e =
+  pub inner-within : 11 ≤ r → r ≤ 12 → {m : Forest} → conjunction-at (after i (h .children)) ≡ some m → j < size m
+  inner-within a b {m} e =
       let w = is-some-of (literal-at (after j m)) (sym (family-asks h i j ∙ literal-asked r (h .conn) i j (h .children) e a b) ∙ t) in
-      omega (arith, size-after j m, ap size (literal-here j m (w .1)))
+      literal-within (conjunction-group s h i e) j (w .1)
 
   -- The conjunction's head goes.
-  pub turns-merge : {out : List ℕ} → r ≡ 13 → length out ≡ length l → let a = child-at i l in let new = set l 0 (getD l 0 0 + children (getD l a 0) - 1) in out ≡ take a new ++ (drop (a + 1) new ++ replicate 1 0) → out ≡ rewritten-to r i j l
-  unfolding family-at pick change merge _⊕_
-  turns-merge q n e =
+  pub turns-merge : {out : List ℕ} {a x m : ℕ} → r ≡ 13 → length out ≡ length l → a ≡ child-at i l → x ≡ getD l 0 0 → m ≡ children (getD l (child-at i l) 0) → let new = set l 0 (x + m - 1) in out ≡ take a new ++ (drop (a + 1) new ++ replicate 1 0) → out ≡ rewritten-to r i j l
+  unfolding change merge _⊕_
+  turns-merge q n at-place at-head more-children e =
       let c = h .conn in
       let k = h .children in
       let g = headed-group s h in
       family-turn h i j (h .zeros + 1) t
-      (λ new w. let o = then-some (conjunction-at (after i k)) _ (rw q at w) in
+      (λ new w. let o = then-some (conjunction-at (after i k)) _ (rw (q, family-13) at w) in
       let m = o .0 in
       let here = conjunction-here i k (o .1) in
       let more : getD l 0 0 + children (getD l (child-at i l) 0) - 1 + 1 ≡ getD l 0 0 + size m =
       rw (← first-left (child-at i l) l) (omega (arith, group-children (child-group g i here), group-bounds g)) in
-      e ∙ child-opened g i here _ more ∙ ap (λ f. spell (f ⊕ h .rest) (h .zeros + 1)) (only-some _ (node c (first i k ⊕ m ⊕ after (suc i) k) nil) (o .2) .1))
+      rw (at-place, at-head, more-children) at e ∙ child-opened g i here _ more ∙ ap (λ f. spell (f ⊕ h .rest) (h .zeros + 1)) (only-some _ (node c (first i k ⊕ m ⊕ after (suc i) k) nil) (o .2) .1))
       n
 
   -- The literal moves.
-  pub turns-lift : {out : List ℕ} → 11 ≤ r → r ≤ 12 → length out ≡ length l → let a = child-at i l in let b = a + child-at j (drop a l) in let new = set (set l 0 (getD l 0 0 + 1)) a (getD l a 0 - 1) in out ≡ take a new ++ (getD new b 0 ∷ take (b - a) (drop a new) ++ drop (b + 1) new) → out ≡ rewritten-to r i j l
-  unfolding pick change lift _⊕_
-  turns-lift a b n e =
+  pub turns-lift : {out : List ℕ} {a d y : ℕ} → 11 ≤ r → r ≤ 12 → length out ≡ length l → a ≡ child-at i l → d ≡ child-at j (drop (child-at i l) l) → y ≡ getD l (child-at i l) 0 → let new = set (set l 0 (getD l 0 0 + 1)) a (y - 1) in out ≡ take a new ++ (getD new (a + d) 0 ∷ take (a + d - a) (drop a new) ++ drop (a + d + 1) new) → out ≡ rewritten-to r i j l
+  unfolding change lift _⊕_
+  turns-lift a b n at-place inner-place head-there e =
       let k = h .children in
       family-turn h i j (h .zeros) t
-      (λ new w. let o = then-some (conjunction-at (after i k)) _ (rw (late-family r a (omega arith), le-leb r 12 b) at w) in
+      (λ new w. let o = then-some (conjunction-at (after i k)) _ (rw (family-11 r a b) at w) in
       let v = then-some (literal-at (after j (o .0))) _ (o .2) in
-      e ∙ literal-moved (headed-group s h) i j (conjunction-here i k (o .1)) (literal-here j (o .0) (v .1)) ∙ ap (λ f. spell (f ⊕ h .rest) (h .zeros)) (some-inj (v .2)))
+      rw (head-there, at-place, inner-place) at e ∙ literal-moved (headed-group s h) i j (conjunction-here i k (o .1)) (literal-here j (o .0) (v .1)) ∙ ap (λ f. spell (f ⊕ h .rest) (h .zeros)) (some-inj (v .2)))
       n

@@ -67,14 +67,16 @@ pub fn asks(part: &[u16], rule: usize, i: usize, j: usize, at: usize) -> bool
     if nodes::kind_of(numbers::wide16(part[at])) != 3 {
         return false;
     }
-    if rule == 13 {
-        let k = nodes::children_of(numbers::wide16(part[0]));
-        return j == 0 && are_others_literals(part, i, k);
+    match rule {
+        11..=12 => is_literal_child(&part[at..], j),
+        _ => {
+            let k = nodes::children_of(numbers::wide16(part[0]));
+            j == 0 && are_others_literals(part, i, k)
+        }
     }
-    is_literal_child(&part[at..], j)
 }
 
-// The step itself, where the rule applies: for 13 the conjunction's head goes, else its literal moves to before it.
+// The step itself, where the rule applies: for 11 and 12 the conjunction's literal moves to before it, for 13 its head goes.
 pub fn turn(part: &mut [u16], rule: usize, i: usize, j: usize)
     requires { ⌜ (11 ≤ rule) × (rule ≤ 13) ⌝ }
     requires { ⌜ Stretch (now part) ⌝ }
@@ -83,15 +85,18 @@ pub fn turn(part: &mut [u16], rule: usize, i: usize, j: usize)
     ensures { λ r. ⌜ now (part .exit) ≡ «rewritten-to» rule i j (now (part .entry)) ⌝ }
 {
     let at = spans::child_at(part, i);
-    if rule == 13 {
-        let head = numbers::wide16(part[0]);
-        let more = nodes::children_of(numbers::wide16(part[at]));
-        part[0] = (head + more - 1) as u16;
-        shifts::remove(part, at, 1);
-        return;
+    match rule {
+        11..=12 => {
+            let from = at + spans::child_at(&part[at..], j);
+            part[0] = part[0] + 1;
+            part[at] = part[at] - 1;
+            shifts::move_before(part, at, from);
+        }
+        _ => {
+            let head = numbers::wide16(part[0]);
+            let more = nodes::children_of(numbers::wide16(part[at]));
+            part[0] = (head + more - 1) as u16;
+            shifts::remove(part, at, 1);
+        }
     }
-    let from = at + spans::child_at(&part[at..], j);
-    part[0] = part[0] + 1;
-    part[at] = part[at] - 1;
-    shifts::move_before(part, at, from);
 }

@@ -14,8 +14,8 @@ use Rattle.model.specs.Rules.{neutral, deciding, assigned, shares}
 use Rattle.theory.specs.Logic.{true-false, none-some, some-inj, fails-if, and-join, pick-keeps}
 use Rattle.theory.specs.Lists.{map-drop}
 use Rattle.theory.specs.Literals.{same-is}
-use Rattle.theory.specs.Forests.{same-conn-self, assigned-lit}
-use Rattle.locality.specs.Alike.{Alike, no-trees, one-literal, groups-alike, deep-groups, deep-constant, alike-size, alike-covers}
+use Rattle.theory.specs.Forests.{same-conn-self, assigned-lit, size-assigned}
+use Rattle.locality.specs.Alike.{Alike, no-trees, one-literal, groups-alike, deep-groups, deep-constant, alike-covers}
 
 -- No tree of the forest is a constant.
 abbrev pub NoConstant : Forest → Type 0
@@ -39,9 +39,6 @@ module _ (c : Conn) (l : Literal) where
       let r = assigned-alike f in
       assigned-lit (Alike zero (lit x f)) c l x f (λ e. deep-constant r) (λ e. deep-constant r) (λ e o. one-literal r)
   assigned-alike (node d k f) = deep-groups (alike-covers (assigned-alike k)) (assigned-alike f)
-
-  assigned-size : (f : Forest) → size (assigned c l f) ≡ size f
-  assigned-size f = sym (alike-size (assigned-alike f))
 
   -- Each node on its own: a literal stays, or becomes an empty group.
   unfoldable assigned-node : Node → Node
@@ -91,7 +88,7 @@ module _ (c : Conn) (l : Literal) where
       ∙ leaf-becomes (λ y. encode (push y (assigned c l f)) ≡ y ∷ encode (assigned c l f)) x (λ d. refl) refl
       ∙ ap (λ ns. assigned-node (leaf x) ∷ ns) (assigned-code f)
   assigned-code (node d k f) =
-      ap₂ (λ n ns. head d n ∷ ns) (assigned-size k) (ap₂ _++_ (assigned-code k) (assigned-code f) ∙ sym (map-append assigned-node (encode k) (encode f)))
+      ap₂ (λ n ns. head d n ∷ ns) (size-assigned c l k) (ap₂ _++_ (assigned-code k) (assigned-code f) ∙ sym (map-append assigned-node (encode k) (encode f)))
 
   pub assigned-length : (f : Forest) → length (encode (assigned c l f)) ≡ length (encode f)
   assigned-length f = ap length (assigned-code f) ∙ length-map (encode f) assigned-node

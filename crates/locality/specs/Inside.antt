@@ -24,7 +24,7 @@ use Rattle.locality.specs.Looks.{Fades, kept, fades-from, fades-read, fa
 use Rattle.locality.specs.Assigned.{NoConstant, Other, assigned-length, assigned-part, literal-stays, unit-before, assigned-level, assigned-conjunction, assigned-shares}
 use Rattle.locality.specs.Before.{node-at}
 use Rattle.locality.specs.Front.{part-here, below-head}
-use Rattle.locality.specs.SameCount.{family-9}
+use Rattle.theory.specs.Turns.{family-9}
 
 -- Children where a literal is assigned and no constant stands: what did not apply to their node does not come to apply.
 module _ (b : Conn) (l : Literal) (k : Forest) (free : NoConstant (assigned b l k)) (c : Conn) (i j : ℕ) where

@@ -20,6 +20,5 @@ pub mod Front
 pub mod Sides
 -- The theorems.
 pub mod Locality
-pub mod SameCount
 -- Inside the tree of a step of rule 9 or 10, but where a child became a constant, rules do not come to apply.
 pub mod Inside

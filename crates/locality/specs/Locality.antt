@@ -1,9 +1,12 @@
 -- A step changes which rules apply only near its place: the theorems that a run by bounds rests on.
 use mathlib.Core.List.{List}
+use mathlib.Core.Logic.{⊎-elim}
 use mathlib.Core.Option.{some}
 use mathlib.Core.Path.{_≡_, sym, ap, _∙_}
 use Prim.Native.Nat.{ℕ, _+_, _-_, _≤_, _<_}
 use native.Mathlib.Omega.{arith}
+use borrow.Author.Tests.{leb-true, leb-false}
+use lib.Dec.{leb}
 use lib.ListN.{length, drop, length-append, length-drop}
 use lib.Seq.{drop-drop}
 use Rattle.model.specs.Forest.{_⊕_, first, after}
@@ -11,7 +14,8 @@ use Rattle.model.specs.Code.{Node, encode, decode, trees}
 use Rattle.model.specs.Rules.{rewrite, step}
 use Rattle.theory.specs.Forests.{first-after}
 use Rattle.theory.specs.Codes.{encode-⊕, encode-decode, trees-drop}
-use Rattle.theory.specs.Turns.{family-at}
+use Rattle.theory.specs.Logic.{either}
+use Rattle.theory.specs.Turns.{family-at, family-9, family-11}
 use Rattle.locality.specs.Zones.{Quiet, tree-length, Holds, Twice, Zone, zone}
 use Rattle.locality.specs.Turned.{Turned, old-here, new-here, turned, turned-trees, rest-stays}
 use Rattle.locality.specs.After.{moved, Ordered, ordered}
@@ -93,3 +97,13 @@ module _ (r p i j : ℕ) (ns : List Node) {ms : List Node} {t : ℕ} (h : trees 
 
   pub length-at : tree-length p ms + length ns ≡ tree-length p ns + length ms
   length-at = length-grows p (omega arith) (rest-stays did)
+
+-- Rules 9 to 12 keep the number of nodes.
+pub level-length : (r p i j : ℕ) (ns : List Node) {ms : List Node} {t : ℕ} → trees ns ≡ some t → step r p i j ns ≡ some ms → 9 ≤ r → r ≤ 12 → length ms ≡ length ns
+unfolding zone
+level-length r p i j ns {ms} h e a b =
+    let x = step-extent r p i j ns h e in
+    ⊎-elim
+    (λ d. let same = ap (λ y. zone y p i j ns ms) (family-9 r a (leb-true r 10 d)) in omega (arith, x .moved-by, ap (λ z. z .old) same, ap (λ z. z .new) same))
+    (λ d. let same = ap (λ y. zone y p i j ns ms) (family-11 r (leb-false r 10 d) b) in omega (arith, x .moved-by, ap (λ z. z .old) same, ap (λ z. z .new) same))
+    (either (leb r 10))

@@ -4,15 +4,14 @@ use mathlib.Core.Logic.{⊎-elim}
 use mathlib.Core.Path.{_≡_, sym, ap, _∙_}
 use Prim.Native.Nat.{ℕ, _≤_}
 use native.Mathlib.Omega.{arith}
-use borrow.Author.Tests.{eqb-true, eq-eqb}
+use borrow.Author.Tests.{eqb-true}
 use lib.Dec.{eqb}
 use Rattle.model.specs.Base.{pick}
 use Rattle.model.specs.Literal.{Literal, option, same}
 use Rattle.model.specs.Forest.{Conn, and, or, root, Forest, nil, lit, node, _⊕_, has-unit, mentions}
 use Rattle.model.specs.Rules.{assigned, without-unit, shares, units, groups-without, groups}
 use Rattle.theory.specs.Logic.{true-false, and-split, or-split, or-left, or-right}
-use Rattle.theory.specs.Literals.{same-is}
-use Rattle.theory.specs.Forests.{mentions-⊕, assigned-lit}
+use Rattle.theory.specs.Forests.{mentions-⊕, unit-mentions, assigned-lit}
 use Rattle.theory.specs.Changes.{Change, absorbed, omitted, unwrapped, spreaded, lifted, merged, factored}
 
 -- Every option that the second forest mentions, the first does.
@@ -77,20 +76,13 @@ module _ (v : ℕ) where
   groups-mentions a (lit x f) e = or-right (eqb v (option x)) (groups-mentions a f e)
   groups-mentions a (node c k f) e = both-ways (mentions v (without-unit a k)) (mentions v (groups-without a f)) (mentions v k) (mentions v f) (without-mentions a k) (groups-mentions a f) e
 
--- A literal among the trees, or one that all their groups share, is mentioned.
-unit-mentioned : (a : Literal) (f : Forest) → has-unit a f ≡ true → mentions (option a) f ≡ true
-unfolding has-unit mentions
-unit-mentioned a nil e = e
-unit-mentioned a (lit x f) e =
-    both-ways (same a x) (has-unit a f) (eqb (option a) (option x)) (mentions (option a) f) (λ s. eq-eqb (option a) (option x) (ap option (same-is a x s))) (unit-mentioned a f) e
-unit-mentioned a (node c k f) e = or-right (mentions (option a) k) (unit-mentioned a f e)
-
+-- A literal that all the groups of trees share is mentioned.
 shared-mentioned : (a : Literal) (f : Forest) → shares a f ≡ true → 1 ≤ groups f → mentions (option a) f ≡ true
 unfolding shares groups mentions
 shared-mentioned a nil s g = absurd (omega arith)
 shared-mentioned a (lit x f) s g = or-right (eqb (option a) (option x)) (shared-mentioned a f s g)
 shared-mentioned a (node and k f) s g =
-    or-left (mentions (option a) f) (unit-mentioned a k (and-split (has-unit a k) (shares a f) s .0))
+    or-left (mentions (option a) f) (unit-mentions a k (and-split (has-unit a k) (shares a f) s .0))
 shared-mentioned a (node or k f) s g = true-false (sym s)
 shared-mentioned a (node root k f) s g = true-false (sym s)
 

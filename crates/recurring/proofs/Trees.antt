@@ -16,7 +16,8 @@ use Rattle.theory.specs.Heads.{Headed}
 use Rattle.theory.specs.Children.{Group, headed-group, group-head, group-children, group-long, child-room}
 use Rattle.sizes.proofs.Laws.{span-tree}
 use Rattle.spread.specs.Assigning.{spreads-from}
-use Rattle.spread.proofs.Spreading.{child-inside, asks-around}
+use Rattle.theory.specs.Children.{child-inside}
+use Rattle.spread.proofs.Spreading.{asks-around}
 use Rattle.firsts.specs.Firsts.{First-child}
 use Rattle.recurring.specs.Recurring.{Ends, First-again}
 

@@ -20,12 +20,12 @@ use Rattle.theory.specs.Spans.{span, span-encode, child-at}
 use Rattle.theory.specs.Flat.{spell, Fits}
 use Rattle.theory.specs.Stretches.{Stretch, forest-in, live, live-numbers}
 use Rattle.theory.specs.Heads.{Headed, rewritten-to}
-use Rattle.theory.specs.Children.{code, Group, group-head, group-children, group-few, headed-group}
+use Rattle.theory.specs.Children.{code, Group, group-head, group-children, group-few, headed-group, literal-fits, conjunction-group}
 use Rattle.theory.specs.Turns.{family-at, family-turn}
 use Rattle.factor.specs.Walks.{unit-of, sharing, all-share}
 use Rattle.factor.proofs.TreeNumbers.{code-⊕, code-lit, code-node}
 use Rattle.factor.proofs.WalkedTrees.{share-trees}
-use Rattle.factor.proofs.Asking.{group-numbers, group-fits, unit-fits, unit-first, Applied, applied, sharing-trees, kids-numbers, rule-asks, conjunction-group}
+use Rattle.factor.proofs.Asking.{group-numbers, group-fits, unit-first, Applied, applied, sharing-trees, kids-numbers, rule-asks}
 use Rattle.regroup.specs.Regrouped.{factored, tree-after, step-after}
 use Rattle.model.specs.Limits.{kind-factor}
 use Rattle.regroup.proofs.KeptTrees.{units-trees, groups-kept}
@@ -90,12 +90,6 @@ module _ {l : List ℕ} (s : Stretch l) (h : Headed 14 l) where
       ∙ ap length (live-numbers (encode f) (h .zeros) ∙ code-node or k (h .rest))
       ∙ omega (arith, length-append (code k) (code (h .rest)))
 
-  pub live-within : length (live l) ≤ length l
-  unfolding spell
-  live-within =
-      let f = node or (h .children) (h .rest) in
-      omega (arith, ap (λ t. length (live t)) (rule-group .spelled), ap length (live-numbers (encode f) (h .zeros)), ap length (rule-group .spelled), length-append (code f) (replicate (h .zeros) 0))
-
   pub ends-live : child-at (children (getD l 0 0)) l ≤ length (live l)
   ends-live = omega (arith, tree-end, live-long)
 
@@ -111,10 +105,10 @@ module _ {l : List ℕ} (s : Stretch l) (h : Headed 14 l) where
   -- The literal that is factored out, with what the rule asks of the children.
   module _ {i j : ℕ} (p : Applied i j (h .children)) where
     unit-number : unit-of j (drop (child-at i l) l) ≡ number-of (leaf (p .literal))
-    unit-number = unit-first (conjunction-group s h i j (p .conjunction)) j (p .there) (p .new)
+    unit-number = unit-first (conjunction-group s h i (p .conjunction)) j (p .there) (p .new)
 
     unit-fitting : fits (leaf (p .literal)) ≡ true
-    unit-fitting = unit-fits (conjunction-group s h i j (p .conjunction)) j (p .there)
+    unit-fitting = literal-fits (conjunction-group s h i (p .conjunction)) j (p .there) .0
 
     groups-number : sharing (number-of (leaf (p .literal))) (size (h .children)) (drop 1 l) ≡ groups (h .children)
     groups-number =

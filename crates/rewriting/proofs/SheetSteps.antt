@@ -1,23 +1,21 @@
 -- A step on a lent stretch as a step on the sheet.
-use mathlib.Core.Bool.{Bool, true, false}
-use mathlib.Core.List.{List, [], _∷_, _++_, map, map-append, append-assoc}
+use mathlib.Core.Bool.{true}
+use mathlib.Core.List.{List, _∷_, _++_, map, map-append, append-assoc}
 use mathlib.Core.Option.{some}
 use mathlib.Core.Path.{_≡_, sym, ap, ap₂, _∙_}
-use Prim.Native.Nat.{ℕ, suc, _+_, _-_, _≤_, _<_}
+use Prim.Native.Nat.{ℕ, _+_, _-_, _≤_, _<_}
 use native.Mathlib.Omega.{arith}
 use borrow.Rule.Slice.PartMut.{midOf, putMid}
-use lib.Dec.{eqb}
 use lib.ListN.{length, take, drop, set, replicate, length-append, length-map, length-drop}
 use lib.Seq.{length-take-le}
 use Rattle.lists.proofs.Lent.{lent-part, lent-back}
-use Rattle.model.specs.Base.{pick, is-some, maybe, then}
+use Rattle.model.specs.Base.{is-some, maybe, then}
 use Rattle.model.specs.Forest.{Forest}
 use Rattle.model.specs.Code.{encode, decode, number-of}
 use Rattle.model.specs.Limits.{last-rule, sheet-length, sheet-room}
 use Rattle.model.specs.Rules as M
 use Rattle.model.specs.Rules.{rewrite}
 use Rattle.model.specs.Sheet.{options-in, used-in, nodes-in, sheet-of}
-use Rattle.model.specs.Book.{characters}
 use Rattle.theory.specs.Logic.{is-some-of, is-some-then}
 use Rattle.theory.specs.Bounds.{step-within}
 use Rattle.theory.specs.Inversion.{step-some}
@@ -27,7 +25,7 @@ use Rattle.theory.specs.Sheets.{Formed}
 use Rattle.theory.specs.Stretches.{Stretch, forest-in, spell-to, live, live-numbers, sheet-stretch}
 use Rattle.theory.specs.Places.{lend, place-used, before-place}
 use Rattle.theory.specs.Heads.{Headed, rewritten-to}
-use Rattle.locality.specs.SameCount.{level-length}
+use Rattle.locality.specs.Locality.{level-length}
 use Rattle.heads.proofs.Laws.{applied-headed}
 use Rattle.model.specs.Results.{stepped}
 
@@ -76,15 +74,6 @@ module _ (s : List ℕ) (h : Formed s) where
       turned-numbers r p i j (place-used s h r p i j t) (w .1)
       ∙ ap (λ u. options-in s ∷ u ∷ (map number-of ms ++ replicate (sheet-room - length ms) 0)) count
       ∙ ap (λ o. sheet-of (options-in s) (maybe ns (λ xs. xs) o)) (sym did)
-
-pub live-short : (l : List ℕ) → length (live l) ≤ length l
-unfolding characters pick
-live-short [] = omega arith
-live-short (x ∷ l) = shorter (eqb x 0) (live-short l)
-  where
-    shorter : (b : Bool) → length (live l) ≤ length l → length (pick b [] (x ∷ live l)) ≤ suc (length l)
-    shorter true h = omega arith
-    shorter false h = omega arith
 
 -- What is known of a step that applies: its rule, the sheet's length, and the stretch that is lent.
 pub record Ready (s : List ℕ) (r p i j : ℕ) : Type 0 where

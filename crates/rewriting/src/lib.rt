@@ -74,8 +74,8 @@ pub fn apply(sheet: &mut [u16], rule: usize, place: usize, i: usize, j: usize)
 {
     let from = 2 + place;
     turn(&mut sheet[from..], rule, i, j);
-    if 9 <= rule && rule <= 12 {
-        return;
+    match rule {
+        9..=12 => {}
+        _ => sheet[1] = shifts::live_count(&sheet[2..]) as u16,
     }
-    sheet[1] = shifts::live_count(&sheet[2..]) as u16;
 }

@@ -1,10 +1,10 @@
 -- Rules 1 to 8 on a stretch: what they ask of its numbers, and what becomes of them.
-use mathlib.Core.Bool.{true, false, _&&_}
+use mathlib.Core.Bool.{Bool, true, false, _&&_}
 use mathlib.Core.List.{List, [], _∷_, _++_}
 use mathlib.Core.Path.{_≡_, refl, sym, ap, ap₂, _∙_}
 use Prim.Native.Nat.{ℕ, zero, suc, _+_, _-_, _≤_, _<_}
 use native.Mathlib.Omega.{arith}
-use borrow.Author.Tests.{le-leb, lt-leb, eqb-true, eq-eqb}
+use borrow.Author.Tests.{le-leb, eqb-true, eq-eqb}
 use lib.Dec.{eqb, leb}
 use lib.ListN.{length, getD, take, drop, set, replicate, length-drop}
 use lib.Seq.{drop-cons}
@@ -19,8 +19,8 @@ use Rattle.theory.specs.Spans.{child-at}
 use Rattle.theory.specs.Flat.{spell, spell-node}
 use Rattle.theory.specs.Stretches.{Stretch, forest-in}
 use Rattle.theory.specs.Heads.{Headed, rewritten-to}
-use Rattle.theory.specs.Children.{Group, code, headed-group, group-head, group-few, child-place, child-split, child-later, child-constant, child-within, child-opened, spell-zeros, removed-at}
-use Rattle.theory.specs.Turns.{family-at, family-of, family-asks, family-turn}
+use Rattle.theory.specs.Children.{Group, code, headed-group, group-head, group-few, child-place, child-split, child-later, child-constant, child-opened, spell-zeros, removed-at, applied-child}
+use Rattle.theory.specs.Turns.{family-at, family-1, family-4, family-7, family-of, family-asks, family-turn}
 use Rattle.simplify.specs.Constants.{wanted, group-of, constantFor}
 
 -- Rules 2, 4 and 6 look for true.
@@ -45,26 +45,23 @@ module _ (r : ℕ) (c : Conn) (i j : ℕ) (k : Forest) where
 
   single-asked : 7 ≤ r → r ≤ 8 → is-some (change (family-at r) c i j k) ≡ (eqb i 0 && eqb j 0 && eqb (size k) 1)
   unfolding family-at pick change unwrap
-  single-asked a b = rw (lt-leb r 3 (omega arith), lt-leb r 6 a, le-leb r 8 b) (is-some-only _ _)
+  single-asked a b = rw (family-7 r a b) (is-some-only _ _)
 
-  -- In either case j is 0, and there is a child i.
-  asked-here : r ≤ 8 → is-some (change (family-at r) c i j k) ≡ true → (j ≡ 0) × (i < size k)
+  -- In either case j is 0.
+  second-zero : r ≤ 8 → is-some (change (family-at r) c i j k) ≡ true → j ≡ 0
   unfolding family-at pick change absorb omit unwrap
-  asked-here b = rw (le-leb r 8 b) (pick-keeps Here (leb r 3) (there (deciding c) _) (pick-keeps Here (leb r 6) (there (neutral c) _) single))
+  second-zero b = rw (le-leb r 8 b) (pick-keeps Zero (leb r 3) (first _ _) (pick-keeps Zero (leb r 6) (first _ _) single))
     where
-      Here : Family → Type 0
-      Here x = is-some (change x c i j k) ≡ true → (j ≡ 0) × (i < size k)
+      Zero : Family → Type 0
+      Zero x = is-some (change x c i j k) ≡ true → j ≡ 0
 
-      there : (d : Conn) (g : Forest) → is-some (only-if (eqb j 0 && constant-at d (after i k)) g) ≡ true → (j ≡ 0) × (i < size k)
-      there d g t =
-          let o = and-split (eqb j 0) (constant-at d (after i k)) (sym (is-some-only _ _) ∙ t) in
-          (eqb-true j 0 (o .0), child-within i k (constant-here d i k (o .1)))
+      first : (b : Bool) (g : Forest) → is-some (only-if (eqb j 0 && b) g) ≡ true → j ≡ 0
+      first b g t = eqb-true j 0 (and-split (eqb j 0) b (sym (is-some-only _ _) ∙ t) .0)
 
-      single : is-some (only-if (eqb i 0 && eqb j 0 && eqb (size k) 1) k) ≡ true → (j ≡ 0) × (i < size k)
+      single : is-some (only-if (eqb i 0 && eqb j 0 && eqb (size k) 1) k) ≡ true → j ≡ 0
       single t =
           let o = and-split (eqb i 0 && eqb j 0) (eqb (size k) 1) (sym (is-some-only _ _) ∙ t) in
-          let p = and-split (eqb i 0) (eqb j 0) (o .0) in
-          (eqb-true j 0 (p .1), omega (arith, eqb-true i 0 (p .0), eqb-true (size k) 1 (o .1)))
+          eqb-true j 0 (and-split (eqb i 0) (eqb j 0) (o .0) .1)
 
 group-is : (c : Conn) → group-of (conn-kind c) ≡ c
 unfolding group-of conn-kind pick
@@ -79,11 +76,8 @@ constant-number {r} h = rw (h .its-row, family-of r (h .its-row), h .its-kind, g
 
 -- The test, on the numbers.
 module _ {r : ℕ} {l : List ℕ} (s : Stretch l) (h : Headed r l) (i j : ℕ) where
-  pub applied-here : r ≤ 8 → is-some (rewrite r i j (forest-in l)) ≡ true → (j ≡ 0) × (i < size (h .children))
-  applied-here b t = asked-here r (h .conn) i j (h .children) b (sym (family-asks h i j) ∙ t)
-
   pub asks-nothing : r ≤ 8 → (j ≡ 0 → ⊥) → false ≡ is-some (rewrite r i j (forest-in l))
-  asks-nothing b n = sym (fails-if (is-some (rewrite r i j (forest-in l))) (λ t. n (applied-here b t .0)))
+  asks-nothing b n = sym (fails-if (is-some (rewrite r i j (forest-in l))) (λ t. n (second-zero r (h .conn) i j (h .children) b (sym (family-asks h i j) ∙ t))))
 
   pub asks-single : 7 ≤ r → r ≤ 8 → j ≡ 0 → i < size (h .children) → eqb (size (h .children)) 1 ≡ is-some (rewrite r i j (forest-in l))
   asks-single a b e n =
@@ -128,7 +122,7 @@ module _ {r : ℕ} {l out : List ℕ} (s : Stretch l) (h : Headed r l) (i j : �
       let gone : out ≡ spell (k ⊕ h .rest) (z + 1) =
       e ∙ removed-at [] (number-of (head (h .conn) (size k)) ∷ []) (spell (k ⊕ h .rest) z) l 0 1 (h .spelled ∙ spell-node (h .conn) k (h .rest) z) refl refl ∙ spell-zeros (k ⊕ h .rest) z 1 in
       family-turn h i j (z + 1) t
-      (λ g q. let o = only-some (eqb i 0 && eqb j 0 && eqb (size k) 1) k (rw (lt-leb r 3 (omega arith), lt-leb r 6 a, le-leb r 8 b) at q) in
+      (λ g q. let o = only-some (eqb i 0 && eqb j 0 && eqb (size k) 1) k (rw (family-7 r a b) at q) in
       rw (o .1) at gone)
       n
 
@@ -139,7 +133,7 @@ module _ {r : ℕ} {l out : List ℕ} (s : Stretch l) (h : Headed r l) (i j : �
       let c = h .conn in
       let k = h .children in
       family-turn h i j (h .zeros + 1) t
-      (λ g w. let o = only-some (eqb j 0 && constant-at (neutral c) (after i k)) (node c (first i k ⊕ after (suc i) k) nil) (rw (lt-leb r 3 a, le-leb r 6 b) at w) in
+      (λ g w. let o = only-some (eqb j 0 && constant-at (neutral c) (after i k)) (node c (first i k ⊕ after (suc i) k) nil) (rw (family-4 r a b) at w) in
       let here = constant-here (neutral c) i k (and-split (eqb j 0) _ (o .0) .1) in
       e ∙ child-opened (headed-group s h) i here v (omega arith) ∙ ap (λ m. spell (m ⊕ h .rest) (h .zeros + 1)) (o .1))
       n
@@ -150,9 +144,9 @@ module _ {r : ℕ} {l out : List ℕ} (s : Stretch l) (h : Headed r l) (i j : �
   turns-absorb b e =
       let d = deciding (h .conn) in
       let k = h .children in
-      let sought : constantFor r ≡ number (conn-kind d) 0 = constant-number h ∙ rw (le-leb r 3 b) in
-      let there = applied-here s h i j (omega arith) t .1 in
+      let sought : constantFor r ≡ number (conn-kind d) 0 = constant-number h ∙ rw (family-1 r b) in
+      let there = applied-child s h j t .there in
       family-turn h i j (h .zeros + (child-at (size k) l - 2)) t
-      (λ g w. let o = only-some (eqb j 0 && constant-at d (after i k)) (node (h .conn) (constant d) nil) (rw (le-leb r 3 b) at w) in
+      (λ g w. let o = only-some (eqb j 0 && constant-at d (after i k)) (node (h .conn) (constant d) nil) (rw (family-1 r b) at w) in
       rw sought at e ∙ only-child (headed-group s h) (omega arith) d ∙ ap (λ m. spell (m ⊕ h .rest) (h .zeros + (child-at (size k) l - 2))) (o .1))
       n

@@ -35,14 +35,14 @@ pub fn asks(part: &[u16], rule: usize, i: usize, j: usize, at: usize) -> bool
     if j != 0 {
         return false;
     }
-    if 7 <= rule {
-        return nodes::children_of(numbers::wide16(part[0])) == 1;
+    match rule {
+        1..=6 => part[at] == constant_for(rule),
+        _ => nodes::children_of(numbers::wide16(part[0])) == 1,
     }
-    part[at] == constant_for(rule)
 }
 
-// The step itself, where the rule applies. From 7 on the single child takes the head's place; from 4 on child i, one number,
-// goes; before that only the constant stays, and the node keeps its kind.
+// The step itself, where the rule applies. Rules 1 to 3 leave only the constant, and the node keeps its kind; 4 to 6 leave out
+// child i, one number; 7 and 8 put the single child in the head's place.
 pub fn turn(part: &mut [u16], rule: usize, i: usize, j: usize)
     requires { ⌜ (1 ≤ rule) × (rule ≤ 8) ⌝ }
     requires { ⌜ Stretch (now part) ⌝ }
@@ -50,20 +50,20 @@ pub fn turn(part: &mut [u16], rule: usize, i: usize, j: usize)
     requires { ⌜ «is-some» (rewrite rule i j («forest-in» (now part))) ≡ true ⌝ }
     ensures { λ r. ⌜ now (part .exit) ≡ «rewritten-to» rule i j (now (part .entry)) ⌝ }
 {
-    if 7 <= rule {
-        shifts::remove(part, 0, 1);
-        return;
+    match rule {
+        1..=3 => {
+            let head = part[0];
+            let k = nodes::children_of(numbers::wide16(head));
+            let end = spans::child_at(part, k);
+            part[0] = head - head % KIND_FACTOR_16 + 1;
+            part[1] = constant_for(rule);
+            shifts::remove(part, 2, end - 2);
+        }
+        4..=6 => {
+            let at = spans::child_at(part, i);
+            part[0] = part[0] - 1;
+            shifts::remove(part, at, 1);
+        }
+        _ => shifts::remove(part, 0, 1),
     }
-    if 4 <= rule {
-        let at = spans::child_at(part, i);
-        part[0] = part[0] - 1;
-        shifts::remove(part, at, 1);
-        return;
-    }
-    let head = part[0];
-    let k = nodes::children_of(numbers::wide16(head));
-    let end = spans::child_at(part, k);
-    part[0] = head - head % KIND_FACTOR_16 + 1;
-    part[1] = constant_for(rule);
-    shifts::remove(part, 2, end - 2);
 }

@@ -8,7 +8,7 @@ use Prim.Native.Nat.{ℕ, suc, _+_, _*_, _≤_, _<_}
 use native.Mathlib.Nat.{eq-or-lt-of-le}
 use native.Mathlib.Numerals.{add-one}
 use native.Mathlib.Omega.{arith}
-use borrow.Author.Tests.{ne-eqb, lt-ltb, le-ltb, ltb-true, lt-leb, le-leb}
+use borrow.Author.Tests.{ne-eqb, lt-ltb, le-ltb, ltb-true}
 use lib.Dec.{eqb}
 use lib.ListN.{length, getD, take, drop, length-append, length-map, take-append-drop}
 use lib.Seq.{slice, take-at, drop-at, getD-at, drop-cons, drop-append-le, length-take-le, length-slice, getD-take}
@@ -17,20 +17,19 @@ use Rattle.model.specs.Limits.{kind-factor}
 use Rattle.model.specs.Literal.{Literal, pos, neg, option, complement, same}
 use Rattle.model.specs.Forest.{Conn, or, root, Forest, nil, lit, node, _⊕_, size, first, after, literal-at, mentions}
 use Rattle.model.specs.Code.{leaf, head, encode, number, conn-kind, conn-value, number-of}
-use Rattle.model.specs.Rules.{Row, spreads, table, row-of, neutral, deciding, assigned, spread, change, rewrite}
-use Rattle.theory.specs.Logic.{some-inj, is-some-of, is-some-only, is-some-first, pick-true, pick-false, only-some, then-some}
+use Rattle.model.specs.Rules.{Row, table, row-of, neutral, deciding, assigned, spread, change, rewrite}
+use Rattle.theory.specs.Logic.{some-inj, is-some-only, pick-true, pick-false, only-some, then-some}
 use Rattle.theory.specs.Lists.{any-append}
 use Rattle.theory.specs.Literals.{option-complement}
-use Rattle.theory.specs.Forests.{conn-of-kind, ⊕-nil, first-after, first-⊕, size-⊕, literal-here, assigned-lit, size-after}
-use Rattle.theory.specs.Codes.{encode-⊕, size-length}
+use Rattle.theory.specs.Forests.{conn-of-kind, first-after, size-⊕, literal-here, size-assigned}
 use Rattle.theory.specs.Numbers.{amount, fits}
 use Rattle.theory.specs.Leaves.{leaf-literal, leaf-value, leaf-test, head-inner, head-unlike}
 use Rattle.theory.specs.Spans.{child-at}
 use Rattle.theory.specs.Flat.{spell, Fits, fits-⊕, fits-lit, fits-tree, spell-⊕}
 use Rattle.theory.specs.Stretches.{Stretch, forest-in}
 use Rattle.theory.specs.Heads.{Headed, rewritten-to}
-use Rattle.theory.specs.Children.{code, Group, headed-group, child-place, child-split, child-fits, child-literal, opening, spell-parts}
-use Rattle.theory.specs.Turns.{family-at, family-asks, family-turn}
+use Rattle.theory.specs.Children.{code, Group, headed-group, group-end, child-place, child-split, child-fits, child-literal, literal-within, literal-fits, literal-number, opening, spell-parts}
+use Rattle.theory.specs.Turns.{family-9, family-asks, family-turn}
 use Rattle.shifts.specs.Replaced.{replaced}
 use Rattle.spread.specs.Assigning.{names, spreads-from, opposite, empty, assign, around}
 
@@ -126,12 +125,6 @@ module _ (c : Conn) (l : Literal) where
   abbrev placed : ℕ → ℕ
   placed = replaced (number-of (leaf l)) (number-of (leaf (complement l))) (number-of (head (neutral c) 0)) (number-of (head (deciding c) 0))
 
-  size-assigned : (f : Forest) → size (assigned c l f) ≡ size f
-  unfolding size assigned
-  size-assigned nil = refl
-  size-assigned (lit x f) = let h = ap suc (size-assigned f) in assigned-lit (λ g. size g ≡ suc (size f)) c l x f (λ e. h) (λ e. h) (λ e o. h)
-  size-assigned (node d k f) = ap suc (size-assigned f)
-
   module _ (fit : fits (leaf l) ≡ true) where
     complement-fits : fits (leaf (complement l)) ≡ true
     unfolding fits amount
@@ -159,17 +152,7 @@ module _ (c : Conn) (l : Literal) where
     assigned-code (node d k f) h =
         let s = fits-tree d k f h in
         let t = fits-⊕ k f (s .1) in
-        rw (placed-head d (size k) (s .0), size-assigned k, map-append number-of (encode k) (encode f), map-append placed (code k) (code f), assigned-code k (t .0), assigned-code f (t .1), map-append number-of (encode (assigned c l k)) (encode (assigned c l f)))
-
--- Where a group ends, from one of its children on; each child takes a number at least.
-module _ {l : List ℕ} {c : Conn} {k f : Forest} {z : ℕ} (g : Group l c k f z) where
-  group-end : (i : ℕ) → i ≤ size k → child-at (size k) l ≡ child-at i l + length (encode (after i k))
-  group-end i h =
-      let whole : encode (first (size k) k) ≡ encode (first i k) ++ encode (after i k) = ap encode (ap (first (size k)) (sym (⊕-nil k)) ∙ first-⊕ k nil ∙ sym (first-after i k)) ∙ encode-⊕ (first i k) (after i k) in
-      omega (arith, child-place g i h, child-place g (size k) (omega arith), length-map (encode (first i k)) number-of, length-map (encode (first (size k) k)) number-of, ap length whole, length-append (encode (first i k)) (encode (after i k)))
-
-  pub child-inside : (i : ℕ) → i < size k → child-at i l < child-at (size k) l
-  child-inside i h = omega (arith, group-end i (omega arith), size-length (after i k), size-after i k)
+        rw (placed-head d (size k) (s .0), size-assigned c l k, map-append number-of (encode k) (encode f), map-append placed (code k) (code f), assigned-code k (t .0), assigned-code f (t .1), map-append number-of (encode (assigned c l k)) (encode (assigned c l f)))
 
 -- A literal among a group's children: the list cut at its number.
 module _ {l : List ℕ} {c : Conn} {k f : Forest} {z : ℕ} (g : Group l c k f z) (i : ℕ) {x : Literal} (e : literal-at (after i k) ≡ some x) where
@@ -182,42 +165,32 @@ module _ {l : List ℕ} {c : Conn} {k f : Forest} {z : ℕ} (g : Group l c k f z
   stands : after i k ≡ lit x behind
   stands = literal-here i k e
 
-  literal-within : i < size k
-  unfolding size
-  literal-within = omega (arith, size-after i k, ap size stands)
-
   parts : k ≡ before ⊕ lit x behind
   parts = sym (first-after i k) ∙ ap (λ t. before ⊕ t) stands
 
   fit-before : Fits before
-  fit-before = child-fits g i (omega (arith, literal-within)) .0
-
-  fit-rest : (fits (leaf x) ≡ true) × Fits behind
-  fit-rest = fits-lit x behind (rw stands at (fits-⊕ (after i k) f (child-fits g i (omega (arith, literal-within)) .1) .0))
+  fit-before = child-fits g i (omega (arith, literal-within g i e)) .0
 
   cut : l ≡ number-of (head c (size k)) ∷ (code before ++ number-of (leaf x) ∷ (code behind ++ spell f z))
   unfolding encode
   cut =
       let there : spell (after i k ⊕ f) z ≡ number-of (leaf x) ∷ (code behind ++ spell f z) = ap (λ t. spell (t ⊕ f) z) stands ∙ spell-⊕ (lit x behind) f z in
-      child-split g i (omega (arith, literal-within)) ∙ ap (λ t. opening c k i ++ t) there
+      child-split g i (omega (arith, literal-within g i e)) ∙ ap (λ t. opening c k i ++ t) there
 
   cut-place : child-at i l ≡ 1 + length (code before)
-  cut-place = omega (arith, child-place g i (omega (arith, literal-within)))
+  cut-place = omega (arith, child-place g i (omega (arith, literal-within g i e)))
 
   cut-end : child-at (size k) l ≡ child-at i l + 1 + length (code behind)
   unfolding encode
-  cut-end = omega (arith, group-end g i (omega (arith, literal-within)), ap (λ t. length (encode t)) stands, length-map (encode behind) number-of)
+  cut-end = omega (arith, group-end g i (omega (arith, literal-within g i e)), ap (λ t. length (encode t)) stands, length-map (encode behind) number-of)
 
-  -- The literal's number, and what a change around it gives.
-  cut-number : getD l (child-at i l) 0 ≡ number-of (leaf x)
-  cut-number = part-number _ (number-of (leaf x)) (code before) (code behind) (spell f z) cut cut-place cut-end
-
+  -- What stands around it, and what a change around it gives.
   cut-mentions : spreads-from (child-at i l) (child-at (size k) l) l ≡ (mentions (option x) before || mentions (option x) behind)
   unfolding spreads-from
   cut-mentions =
       let h = number-of (head c (size k)) in
       let n = number-of (leaf x) in
-      rw (cut-number, part-left h n (code before) (code behind) (spell f z) cut cut-place cut-end, part-right h n (code before) (code behind) (spell f z) cut cut-place cut-end, leaf-literal x (fit-rest .0), leaf-value x (fit-rest .0), mentions-code (option x) before fit-before, mentions-code (option x) behind (fit-rest .1))
+      rw (literal-number g i e, part-left h n (code before) (code behind) (spell f z) cut cut-place cut-end, part-right h n (code before) (code behind) (spell f z) cut cut-place cut-end, leaf-literal x (literal-fits g i e .0), leaf-value x (literal-fits g i e .0), mentions-code (option x) before fit-before, mentions-code (option x) behind (literal-fits g i e .1))
 
   cut-assigned : around (placed c x) (child-at i l) (child-at (size k) l) l ≡ spell (node c (assigned c x before ⊕ lit x (assigned c x behind)) f) z
   unfolding encode size
@@ -228,14 +201,10 @@ module _ {l : List ℕ} {c : Conn} {k f : Forest} {z : ℕ} (g : Group l c k f z
       let same-size : size k ≡ size (p ⊕ lit x q) =
       omega (arith, size-⊕ p (lit x q), size-⊕ before (lit x behind), ap size parts, size-assigned c x before, size-assigned c x behind) in
       part-around (placed c x) (number-of (head c (size k))) n (code before) (code behind) (spell f z) cut cut-place cut-end
-      ∙ rw (assigned-code c x (fit-rest .0) before fit-before, assigned-code c x (fit-rest .0) behind (fit-rest .1), same-size) (ap (λ t. number-of (head c (size (p ⊕ lit x q))) ∷ (code p ++ t)) (sym (spell-⊕ (lit x q) f z)))
+      ∙ rw (assigned-code c x (literal-fits g i e .0) before fit-before, assigned-code c x (literal-fits g i e .0) behind (literal-fits g i e .1), same-size) (ap (λ t. number-of (head c (size (p ⊕ lit x q))) ∷ (code p ++ t)) (sym (spell-⊕ (lit x q) f z)))
       ∙ sym (spell-parts c p (lit x q) f z)
 
 -- What rules 9 and 10 ask of a group's children.
-spread-family : (r : ℕ) → 9 ≤ r → r ≤ 10 → family-at r ≡ spreads
-unfolding family-at pick
-spread-family r lo hi = rw (lt-leb r 3 (omega arith), lt-leb r 6 (omega arith), lt-leb r 8 (omega arith), le-leb r 10 hi)
-
 no-second : (c : Conn) (i j : ℕ) (k : Forest) → (j ≡ 0 → ⊥) → is-some (spread c i j k) ≡ false
 unfolding spread then only-if is-some
 no-second c i j k n = rw (ne-eqb j 0 n) (go (literal-at (after i k)))
@@ -256,7 +225,7 @@ spread-asked {l} {c} {k} g i h = go (literal-at (after i k)) refl
 module _ {r : ℕ} {l : List ℕ} (s : Stretch l) (h : Headed r l) (i j : ℕ) (lo : 9 ≤ r) (hi : r ≤ 10) where
   asks-spread : is-some (rewrite r i j (forest-in l)) ≡ is-some (spread (h .conn) i j (h .children))
   unfolding change
-  asks-spread = family-asks h i j ∙ rw (spread-family r lo hi)
+  asks-spread = family-asks h i j ∙ rw (family-9 r lo hi)
 
   pub asks-none : (j ≡ 0 → ⊥) → false ≡ is-some (rewrite r i j (forest-in l))
   asks-none n = sym (asks-spread ∙ no-second (h .conn) i j (h .children) n)
@@ -286,12 +255,6 @@ empty-groups r {w} c lo hi e k =
 
 -- The step, on the numbers.
 module _ {r : ℕ} {l : List ℕ} (s : Stretch l) (h : Headed r l) (i j : ℕ) (lo : 9 ≤ r) (hi : r ≤ 10) (t : is-some (rewrite r i j (forest-in l)) ≡ true) where
-  pub spread-within : i < size (h .children)
-  unfolding spread
-  spread-within =
-      let o = is-some-of (literal-at (after i (h .children))) (is-some-first (literal-at (after i (h .children))) _ (sym (asks-spread s h i j lo hi) ∙ t)) in
-      literal-within (headed-group s h) i (o .1)
-
   pub turns-spread : {out : List ℕ} → length out ≡ length l → out ≡ around (assign (eqb r 9) (getD l (child-at i l) 0)) (child-at i l) (child-at (size (h .children)) l) l → out ≡ rewritten-to r i j l
   unfolding assign change spread _⊕_
   turns-spread n e =
@@ -300,8 +263,8 @@ module _ {r : ℕ} {l : List ℕ} (s : Stretch l) (h : Headed r l) (i j : ℕ) (
       let k = h .children in
       let put = empty-groups r c lo hi (h .its-row) (h .its-kind) in
       family-turn h i j (h .zeros) t
-      (λ new w. let o = then-some (literal-at (after i k)) _ (rw (spread-family r lo hi) at w) in
+      (λ new w. let o = then-some (literal-at (after i k)) _ (rw (family-9 r lo hi) at w) in
       let x = o .0 in
       let here = o .1 in
-      e ∙ rw (cut-number g i here, opposite-number x (fit-rest g i here .0), put .0, put .1) (cut-assigned g i here) ∙ ap (λ f. spell (f ⊕ h .rest) (h .zeros)) (only-some _ (node c (assigned c x (first i k) ⊕ lit x (assigned c x (after (suc i) k))) nil) (o .2) .1))
+      e ∙ rw (literal-number g i here, opposite-number x (literal-fits g i here .0), put .0, put .1) (cut-assigned g i here) ∙ ap (λ f. spell (f ⊕ h .rest) (h .zeros)) (only-some _ (node c (assigned c x (first i k) ⊕ lit x (assigned c x (after (suc i) k))) nil) (o .2) .1))
       n

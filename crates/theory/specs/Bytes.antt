@@ -36,6 +36,10 @@ unfolding words
 length-words zero b = refl
 length-words (suc n) b = ap suc (length-words n (drop 2 b))
 
+pub word-drop : (n k : ℕ) (b : List ℕ) → word (drop n b) k ≡ word b (n + k)
+unfolding word
+word-drop n k b = let one : n + suc k ≡ suc (n + k) = omega arith in rw (getD-drop n b k 0, getD-drop n b (suc k) 0, one)
+
 pub length-bytes : (xs : List ℕ) → length (bytes-of xs) ≡ 2 * length xs
 unfolding bytes-of
 length-bytes [] = refl

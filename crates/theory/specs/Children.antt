@@ -4,7 +4,7 @@ use mathlib.Core.Bool.{true, _&&_}
 use mathlib.Core.List.{List, [], _∷_, _++_, map, append-assoc}
 use mathlib.Core.Option.{some}
 use mathlib.Core.Path.{_≡_, refl, sym, ap, ap₂, _∙_}
-use Prim.Native.Nat.{ℕ, _+_, _-_, _≤_, _<_}
+use Prim.Native.Nat.{ℕ, suc, _+_, _-_, _≤_, _<_}
 use native.Mathlib.Nat.{add-zero}
 use native.Mathlib.Omega.{arith}
 use borrow.Author.Tests.{eqb-true, eq-eqb, ne-eqb, ltb-true}
@@ -13,17 +13,18 @@ use lib.ListN.{length, getD, take, drop, set, replicate, length-append, length-m
 use lib.Seq.{take-at, drop-at, getD-at, getD-drop, drop-drop}
 use Rattle.model.specs.Base.{all, maybe, is-some, then}
 use Rattle.model.specs.Limits.{kind-factor, sheet-room}
-use Rattle.model.specs.Literal.{pos, neg, option}
-use Rattle.model.specs.Forest.{Conn, and, or, root, same-conn, Forest, nil, lit, node, _⊕_, size, first, after, literal-at, conjunction-at, constant-at}
-use Rattle.model.specs.Code.{Node, head, encode, kind, children, number, conn-kind, conn-value, number-of}
+use Rattle.model.specs.Literal.{Literal, pos, neg, option}
+use Rattle.model.specs.Forest.{Conn, and, or, root, same-conn, Forest, nil, lit, node, _⊕_, size, first, after, kids, literal-at, conjunction-at, constant-at}
+use Rattle.model.specs.Code.{Node, leaf, head, encode, kind, children, number, conn-kind, conn-value, number-of}
 use Rattle.model.specs.Rules.{change, rewrite}
-use Rattle.theory.specs.Logic.{is-some-then, and-split, and-join, same-test}
-use Rattle.theory.specs.Forests.{conn-of-kind, same-conn-is, same-conn-self, ⊕-assoc, node-⊕, first-after, size-first, size-after, size-⊕}
-use Rattle.theory.specs.Codes.{size-length}
+use Rattle.theory.specs.Logic.{is-some-of, is-some-then, and-split, and-join, same-test}
+use Rattle.theory.specs.Forests.{⊕-nil, first-⊕, conn-of-kind, same-conn-is, same-conn-self, ⊕-assoc, node-⊕, first-after, size-first, size-after, size-⊕, literal-here, conjunction-here}
+use Rattle.theory.specs.Codes.{encode-⊕, size-length}
+use Rattle.theory.specs.Bounds.{child-needed}
 use Rattle.theory.specs.Numbers.{fits, amount, kind-number, head-number, head-few, head-kind}
 use Rattle.theory.specs.Scan.{is-literal}
 use Rattle.theory.specs.Spans.{span, child-at}
-use Rattle.theory.specs.Flat.{spell, spell-⊕, spell-node, Fits, fits-⊕, fits-tree}
+use Rattle.theory.specs.Flat.{spell, spell-⊕, spell-node, Fits, fits-⊕, fits-lit, fits-tree}
 use Rattle.theory.specs.Stretches.{Stretch, forest-in, spell-to}
 use Rattle.theory.specs.Heads.{Headed, headed-rewrite, rewritten-to, conn-kind-bounds, first-node, child-start}
 
@@ -168,6 +169,15 @@ module _ {l : List ℕ} {c : Conn} {k f : Forest} {z : ℕ} (g : Group l c k f z
   pub group-long : 1 ≤ length l
   group-long = omega (arith, child-room 0 (omega arith))
 
+  -- Where the group ends, from one of its children on; each child takes a number at least.
+  pub group-end : (i : ℕ) → i ≤ size k → child-at (size k) l ≡ child-at i l + length (encode (after i k))
+  group-end i h =
+      let whole : encode (first (size k) k) ≡ encode (first i k) ++ encode (after i k) = ap encode (ap (first (size k)) (sym (⊕-nil k)) ∙ first-⊕ k nil ∙ sym (first-after i k)) ∙ encode-⊕ (first i k) (after i k) in
+      omega (arith, child-place i h, child-place (size k) (omega arith), length-map (encode (first i k)) number-of, length-map (encode (first (size k) k)) number-of, ap length whole, length-append (encode (first i k)) (encode (after i k)))
+
+  pub child-inside : (i : ℕ) → i < size k → child-at i l < child-at (size k) l
+  child-inside i h = omega (arith, group-end i (omega arith), size-length (after i k), size-after i k)
+
   -- Which child that is.
   module _ (i : ℕ) (h : i < size k) where
     some-left : 1 ≤ size (after i k)
@@ -184,6 +194,21 @@ module _ {l : List ℕ} {c : Conn} {k f : Forest} {z : ℕ} (g : Group l c k f z
 
     pub child-conjunction : eqb (kind (getD l (child-at i l) 0)) 3 ≡ is-some (conjunction-at (after i k))
     child-conjunction = rw child-number (first-kind z f (after i k) some-left (child-fits i (omega arith) .1) .1)
+
+  -- A child that is a literal: that it is there, that it fits, and its number.
+  module _ (i : ℕ) {x : Literal} (e : literal-at (after i k) ≡ some x) where
+    pub literal-within : i < size k
+    unfolding size
+    literal-within = omega (arith, size-after i k, ap size (literal-here i k e))
+
+    pub literal-fits : (fits (leaf x) ≡ true) × Fits (after (suc i) k)
+    literal-fits =
+        let here = child-fits i (omega (arith, literal-within)) .1 in
+        fits-lit x (after (suc i) k) (rw (literal-here i k e) at (fits-⊕ (after i k) f here .0))
+
+    pub literal-number : getD l (child-at i l) 0 ≡ number-of (leaf x)
+    unfolding spell encode _⊕_
+    literal-number = child-number i literal-within ∙ ap (λ t. getD (spell (t ⊕ f) z) 0 0) (literal-here i k e)
 
   -- A child that is itself a group, with its own children and the trees after it.
   module _ (i : ℕ) {d : Conn} {m q : Forest} (e : after i k ≡ node d m q) where
@@ -214,12 +239,54 @@ module _ {l : List ℕ} {c : Conn} {k f : Forest} {z : ℕ} (g : Group l c k f z
         ∙ ap₂ (λ x t. x ∷ (code p ++ t)) new left
         ∙ sym (spell-parts c p (m ⊕ q) f (z + 1))
 
--- A child that the head of a stretch counts is one of its group's children, and begins within the stretch.
-pub counted-child : {r : ℕ} {l : List ℕ} → Stretch l → (h : Headed r l) → {i a : ℕ} → (i < children (getD l 0 0)) × (a ≡ child-at i l) → (i < size (h .children)) × (a < length l) × (length l ≤ sheet-room)
-counted-child s h {i} p =
-    let g = headed-group s h in
-    let n : i < size (h .children) = omega (arith, group-children g, p .0) in
-    (n, omega (arith, p .1, child-room g i (omega arith)), s .short)
+-- What is known in numbers of the group that a stretch begins with, and of its child i, which begins at a place.
+pub record Child (l : List ℕ) (k : Forest) (i at : ℕ) : Type 0 where
+  pub there : i < size k
+  pub place : at ≡ child-at i l
+  pub later : i < at
+  pub before-end : at < child-at (size k) l
+  pub end : child-at (size k) l ≤ length l
+  pub short : length l ≤ sheet-room
+  pub low : 12288 ≤ getD l 0 0
+  pub high : getD l 0 0 < 24576
+  pub few : size k < kind-factor
+  pub counted : children (getD l 0 0) ≡ size k
+
+module _ {r : ℕ} {l : List ℕ} (s : Stretch l) (h : Headed r l) {i : ℕ} where
+  child-known : {at : ℕ} → i < size (h .children) → at ≡ child-at i l → Child l (h .children) i at
+  child-known n e =
+      let g = headed-group s h in
+      let k = h .children in
+      record {
+        there = n;
+        place = e;
+        later = omega (arith, child-later g i (omega arith));
+        before-end = omega (arith, child-inside g i n);
+        end = omega (arith, child-room g (size k) (omega arith));
+        short = s .short;
+        low = group-bounds g .0;
+        high = group-bounds g .1;
+        few = group-few g;
+        counted = group-children g;
+      }
+
+  -- A child that the head counts is known; so is the child of a rule that applies.
+  pub asked-child : {at : ℕ} → (i < children (getD l 0 0)) × (at ≡ child-at i l) → Child l (h .children) i at
+  asked-child p = child-known (omega (arith, group-children (headed-group s h), p .0)) (p .1)
+
+  pub applied-child : (j : ℕ) → is-some (rewrite r i j (forest-in l)) ≡ true → Child l (h .children) i (child-at i l)
+  unfolding kids
+  applied-child j t =
+      let needed = child-needed r i j (forest-in l) (is-some-of (rewrite r i j (forest-in l)) t .1) in
+      child-known (omega (arith, ap (λ f. size (kids f)) (h .forest))) refl
+
+  pub counted-child : {at : ℕ} → (i < children (getD l 0 0)) × (at ≡ child-at i l) → (i < size (h .children)) × (at < length l) × (length l ≤ sheet-room)
+  counted-child p = let c = asked-child p in (c .there, omega arith, c .short)
+
+-- A child that is a conjunction: its own group, from its place on.
+module _ {r : ℕ} {l : List ℕ} (s : Stretch l) (h : Headed r l) (i : ℕ) where
+  pub conjunction-group : {m : Forest} → conjunction-at (after i (h .children)) ≡ some m → Group (drop (child-at i l) l) and m (after (suc i) (h .children) ⊕ h .rest) (h .zeros)
+  conjunction-group e = child-group (headed-group s h) i (conjunction-here i (h .children) e)
 
 -- What a rule does to a stretch, from what its family does to the group's children.
 module _ {r : ℕ} {l : List ℕ} (h : Headed r l) (i j : ℕ) where

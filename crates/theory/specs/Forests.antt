@@ -1,19 +1,20 @@
 -- Laws of forests side by side, of their first trees and the rest, and of what stands in them; each for all connectives.
 use mathlib.Core.Bool.{Bool, true, false, _||_, or-assoc}
+use mathlib.Core.Logic.{⊎-elim}
 use mathlib.Core.Option.{some}
 use mathlib.Core.Path.{_≡_, refl, sym, ap, _∙_}
 use Prim.Native.Nat.{ℕ, zero, suc, _+_, _≤_, _-_}
 use native.Mathlib.Nat.{zero-add, suc-add}
 use native.Mathlib.Omega.{arith}
-use borrow.Author.Tests.{eqb-true}
+use borrow.Author.Tests.{eqb-true, eq-eqb}
 use lib.Dec.{eqb}
 use Rattle.model.specs.Base.{pick}
 use Rattle.model.specs.Literal.{Literal, option, same, complement}
 use Rattle.model.specs.Forest.{Conn, and, or, root, same-conn, Forest, nil, lit, node, _⊕_, size, first, after, literal-at, conjunction-at, constant-at, has-unit, mentions}
 use Rattle.model.specs.Code.{conn-kind}
 use Rattle.model.specs.Rules.{neutral, deciding, assigned, groups}
-use Rattle.theory.specs.Logic.{true-false, none-some, some-inj, and-split, or-left, or-right}
-use Rattle.theory.specs.Literals.{same-self}
+use Rattle.theory.specs.Logic.{true-false, none-some, some-inj, and-split, or-split, or-left, or-right}
+use Rattle.theory.specs.Literals.{same-is, same-self}
 
 pub ⊕-nil : (f : Forest) → f ⊕ nil ≡ f
 unfolding _⊕_
@@ -189,6 +190,16 @@ unit-here l nil q = or-left (has-unit l q) (same-self l)
 unit-here l (lit x p) q = or-right (same l x) (unit-here l p q)
 unit-here l (node c k p) q = unit-here l p q
 
+pub unit-mentions : (l : Literal) (f : Forest) → has-unit l f ≡ true → mentions (option l) f ≡ true
+unfolding has-unit mentions
+unit-mentions l nil e = e
+unit-mentions l (lit x f) e =
+    ⊎-elim
+    (λ s. or-left (mentions (option l) f) (eq-eqb (option l) (option x) (ap option (same-is l x s))))
+    (λ u. or-right (eqb (option l) (option x)) (unit-mentions l f u))
+    (or-split (same l x) (has-unit l f) e)
+unit-mentions l (node c k f) e = or-right (mentions (option l) k) (unit-mentions l f e)
+
 pub groups-size : (f : Forest) → groups f ≤ size f
 unfolding groups size
 groups-size nil = omega arith
@@ -204,3 +215,10 @@ assigned-lit P c l x f same-one other-one neither = go (same l x) (same (complem
     go true b e o = same-one e
     go false true e o = other-one o
     go false false e o = neither e o
+
+pub size-assigned : (c : Conn) (l : Literal) (f : Forest) → size (assigned c l f) ≡ size f
+unfolding size assigned
+size-assigned c l nil = refl
+size-assigned c l (lit x f) =
+    let h = ap suc (size-assigned c l f) in assigned-lit (λ g. size g ≡ suc (size f)) c l x f (λ e. h) (λ e. h) (λ e o. h)
+size-assigned c l (node d k f) = ap suc (size-assigned c l f)

@@ -4,13 +4,13 @@ use mathlib.Core.List.{List, [], _∷_, _++_, map, flatten, List·Memᴰ, List·
 use mathlib.Core.Logic.{_⊎_, inl, inr, _↔_}
 use mathlib.Core.Option.{some}
 use mathlib.Core.Path.{_≡_, refl, sym, ap, ap₂, _∙_}
-use Prim.Native.Nat.{ℕ, zero, suc, _+_, _≤_, _<_}
+use Prim.Native.Nat.{ℕ, zero, suc, _+_, _-_, _≤_, _<_}
 use native.Mathlib.Nat.{add-zero}
 use native.Mathlib.Omega.{arith}
 use borrow.Author.Tests.{eqb-true}
 use lib.Dec.{eqb}
 use lib.ListN.{length, getD, getElem?, take, drop, replicate, take-append-drop}
-use lib.Seq.{drop-cons, drop-drop}
+use lib.Seq.{take-nil, drop-cons, drop-drop}
 use Rattle.model.specs.Base.{all, any}
 use Rattle.model.specs.Propagation.{count-from}
 use Rattle.theory.specs.Logic.{true-false, none-some, some-inj, and-split, and-join, or-split, or-left, or-right, fails-if}
@@ -147,3 +147,10 @@ two-first xs h = drop-cons xs 0 0 (omega arith) ∙ ap (λ r. getD xs 0 0 ∷ r)
 -- A list from a place on is a part of it and the list from the part's end on.
 pub part-and-rest : {A : Type 0} (k j : ℕ) (xs : List A) → take k (drop j xs) ++ drop (j + k) xs ≡ drop j xs
 part-and-rest k j xs = ap (λ r. take k (drop j xs) ++ r) (sym (drop-drop k j xs)) ∙ take-append-drop k (drop j xs)
+
+-- A list from a place on, of which the start was kept.
+pub drop-take : {A : Type 0} (n m : ℕ) (xs : List A) → drop n (take m xs) ≡ take (m - n) (drop n xs)
+drop-take zero m xs = let e : m - 0 ≡ m = omega arith in rw e
+drop-take (suc n) zero xs = let e : 0 - suc n ≡ 0 = omega arith in rw e
+drop-take (suc n) (suc m) [] = sym (take-nil (suc m - suc n))
+drop-take (suc n) (suc m) (x ∷ xs) = let e : suc m - suc n ≡ m - n = omega arith in rw e (drop-take n m xs)

@@ -5,6 +5,7 @@ use mathlib.Core.Path.{_≡_, refl, sym, ap, ap₂, _∙_}
 use Prim.Native.Nat.{ℕ, zero, suc, _+_, _-_, _≤_}
 use native.Mathlib.Omega.{arith}
 use borrow.Author.Tests.{ne-eqb}
+use lib.Dec.{eqb}
 use lib.ListN.{length, drop, replicate, length-map, length-drop, take-append-drop}
 use lib.Seq.{drop-drop, drop-append-le}
 use Rattle.model.specs.Base.{pick, all}
@@ -14,7 +15,7 @@ use Rattle.model.specs.Forest.{and, or, root, Forest}
 use Rattle.model.specs.Code.{Node, leaf, head, encode, decode, literals, weight, number, conn-kind, number-of, node-of}
 use Rattle.model.specs.Book.{characters}
 use Rattle.model.specs.Sheet.{used-in, numbers-in, nodes-in, rest-in}
-use Rattle.theory.specs.Logic.{and-split, and-join}
+use Rattle.theory.specs.Logic.{and-split, and-join, pick-keeps}
 use Rattle.theory.specs.Codes.{decode-encode, encode-decode, trees-drop}
 use Rattle.theory.specs.Numbers.{fits, fits-node, node-number}
 use Rattle.theory.specs.Lists.{map-back, map-drop}
@@ -54,6 +55,11 @@ unfolding characters pick
 live-zeros zero = refl
 live-zeros (suc z) = refl
 
+pub live-short : (l : List ℕ) → length (live l) ≤ length l
+unfolding characters pick
+live-short [] = omega arith
+live-short (x ∷ l) = let h = live-short l in pick-keeps (λ xs. length xs ≤ suc (length l)) (eqb x 0) {x = []} {y = x ∷ live l} (omega arith) (omega arith)
+
 pub live-numbers : (ns : List Node) (z : ℕ) → live (map number-of ns ++ replicate z 0) ≡ map number-of ns
 unfolding characters pick
 live-numbers [] z = live-zeros z
@@ -83,10 +89,11 @@ drop-literals (suc p) [] = omega arith
 drop-literals (suc p) (leaf l ∷ ns) = let h = drop-literals p ns in omega arith
 drop-literals (suc p) (head c k ∷ ns) = drop-literals p ns
 
-all-nodes-fit : (xs : List ℕ) → all fits (map node-of xs) ≡ true
+-- Every number is that of a node that fits.
+pub all-fit : (xs : List ℕ) → all fits (map node-of xs) ≡ true
 unfolding all
-all-nodes-fit [] = refl
-all-nodes-fit (x ∷ xs) = and-join (fits-node x) (all-nodes-fit xs)
+all-fit [] = refl
+all-fit (x ∷ xs) = and-join (fits-node x) (all-fit xs)
 
 all-drop : {A : Type 0} (q : A → Bool) (p : ℕ) (xs : List A) → all q xs ≡ true → all q (drop p xs) ≡ true
 unfolding all
@@ -119,4 +126,4 @@ sheet-stretch s p h le =
     let left : sheet-room - used-in s ≡ length (drop (2 + p) s) - length (encode (decode ms)) = let u = facts .used in omega (arith, ap length code) in
     let spelled : drop (2 + p) s ≡ spell-to (length (drop (2 + p) s)) (decode ms) =
     here ∙ ap₂ (λ xs z. map number-of xs ++ replicate z 0) (sym code) left in
-    stretch-of (decode ms) (drop (2 + p) s) spelled (rw code (all-drop fits p ns (all-nodes-fit (numbers-in s)))) (rw code (let w = facts .weight in let d = drop-literals p ns in omega arith)) (omega arith)
+    stretch-of (decode ms) (drop (2 + p) s) spelled (rw code (all-drop fits p ns (all-fit (numbers-in s)))) (rw code (let w = facts .weight in let d = drop-literals p ns in omega arith)) (omega arith)

@@ -121,7 +121,8 @@ conflict-fails t f = ap (λ p. any p (clauses root f)) (refuted-set t) ∙ bridg
 abbrev pub Right : List Clause → List ℕ → Type 0
 Right cs t = (Contradictory cs → ⊥) → Sound cs (facts-in t)
 
-zero-everywhere : (k i : ℕ) → _≡_ {A = ℕ} (getD (replicate k 0) i 0) 0
+-- A list of zeros has a zero at every place, and past its end.
+pub zero-everywhere : (k i : ℕ) → _≡_ {A = ℕ} (getD (replicate k 0) i 0) 0
 zero-everywhere zero i = refl
 zero-everywhere (suc k) zero = refl
 zero-everywhere (suc k) (suc i) = zero-everywhere k i

@@ -3,9 +3,10 @@ use mathlib.Core.Bool.{true}
 use mathlib.Core.List.{List, [], _∷_, map}
 use mathlib.Core.Option.{some}
 use mathlib.Core.Path.{_≡_, refl, sym, ap, _∙_}
-use Prim.Native.Nat.{ℕ, zero, suc, _+_}
+use Prim.Native.Nat.{ℕ, zero, suc, _+_, _≤_}
 use native.Mathlib.Nat.{add-zero}
 use native.Mathlib.Omega.{arith}
+use borrow.Author.Tests.{le-leb, lt-leb}
 use lib.Dec.{leb}
 use lib.ListN.{length, getElem?}
 use Rattle.model.specs.Base.{pick, is-some}
@@ -24,6 +25,32 @@ family-at r =
     pick (leb r 3)
     absorbs
     (pick (leb r 6) omits (pick (leb r 8) unwraps (pick (leb r 10) spreads (pick (leb r 12) lifts (pick (leb r 13) merges factors)))))
+
+-- The family of each range of rules.
+pub family-1 : (r : ℕ) → r ≤ 3 → family-at r ≡ absorbs
+unfolding family-at pick
+family-1 r b = rw (le-leb r 3 b)
+
+pub family-4 : (r : ℕ) → 4 ≤ r → r ≤ 6 → family-at r ≡ omits
+unfolding family-at pick
+family-4 r a b = rw (lt-leb r 3 (omega arith), le-leb r 6 b)
+
+pub family-7 : (r : ℕ) → 7 ≤ r → r ≤ 8 → family-at r ≡ unwraps
+unfolding family-at pick
+family-7 r a b = rw (lt-leb r 3 (omega arith), lt-leb r 6 (omega arith), le-leb r 8 b)
+
+pub family-9 : (r : ℕ) → 9 ≤ r → r ≤ 10 → family-at r ≡ spreads
+unfolding family-at pick
+family-9 r a b = rw (lt-leb r 3 (omega arith), lt-leb r 6 (omega arith), lt-leb r 8 (omega arith), le-leb r 10 b)
+
+pub family-11 : (r : ℕ) → 11 ≤ r → r ≤ 12 → family-at r ≡ lifts
+unfolding family-at pick
+family-11 r a b =
+    rw (lt-leb r 3 (omega arith), lt-leb r 6 (omega arith), lt-leb r 8 (omega arith), lt-leb r 10 (omega arith), le-leb r 12 b)
+
+pub family-13 : family-at 13 ≡ merges
+unfolding family-at pick
+family-13 = refl
 
 in-order : (ws : List Row) (n : ℕ) → map (λ w. w .family) ws ≡ map family-at (count-from n (length ws)) → (r : ℕ) {w : Row} → getElem? ws r ≡ some w → w .family ≡ family-at (n + r)
 unfolding count-from

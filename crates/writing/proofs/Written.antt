@@ -13,17 +13,14 @@ use Rattle.model.specs.Limits.{sheet-length, sheet-room, most-options, most-rul
 use Rattle.model.specs.Sheet.{options-in, used-in, numbers-in, nodes-in}
 use Rattle.model.specs.Book.{bytes-of, options-of, lined-up, counts, written-rules, written}
 use Rattle.theory.specs.Loading.{Accepted}
-use Rattle.theory.specs.Lists.{all-from, all-map}
-use Rattle.theory.specs.Numbers.{fits, fits-node, children-small, node-children}
+use Rattle.theory.specs.Numbers.{fits, children-small, node-children}
 use Rattle.theory.specs.Bytes.{length-bytes}
 use Rattle.theory.specs.Sheets.{Formed}
+use Rattle.theory.specs.Stretches.{all-fit}
 use Rattle.theory.specs.Shape.{shaped-flat, shaped-decode}
 use Rattle.theory.specs.Spans.{spans, spans-counts}
 use Rattle.encoding.proofs.TreeContents.{length-contents}
 use Rattle.loading.proofs.Loaded.{head-of}
-
-all-fit : (xs : List ℕ) → all fits (map node-of xs) ≡ true
-all-fit xs = all-map node-of fits xs ∙ all-from (λ x. fits (node-of x)) xs (λ x m. fits-node x)
 
 -- The rules of a sheet: the numbers below the root, as many as the count of nodes without the root, and the root's children.
 module _ (s : List ℕ) (sheet : Formed s) where

@@ -21,7 +21,7 @@ use Rattle.locality.specs.Zones.{between, zone, tree-length, tree-end, child-pl
 use Rattle.locality.specs.ChildPlaces.{read-here, length-here, child-here}
 use Rattle.locality.specs.Turned.{Turned, turned, old-here}
 use Rattle.locality.specs.Locality.{its-zone, step-extent, step-after}
-use Rattle.locality.specs.SameCount.{family-1, family-4, family-7, family-9, family-11}
+use Rattle.theory.specs.Turns.{family-1, family-4, family-7, family-9, family-11}
 use Rattle.zones.specs.Zoned.{after-step, Zoned}
 
 lit-size : (l : Literal) (f : Forest) → 1 ≤ size (lit l f)

@@ -47,11 +47,14 @@ span-of-requires c κs =
     omega (arith, counted (c .before .before), children-small (getD l 0 0), ap length (lent-part 1 l), length-drop 1 l)
 
 -- Child j is there; where it stands, what is read there, and where its first copy stands.
-there : (c : tie.After-span-of) → let a = c .before .before .before .before .before .before .before .args in a .j < children (getD (a .part .now) 0 0)
+abbrev start : tie.After-span-of → tie.Start
+start c = c .before .before .before .before .before .before .before
+
+there : (c : tie.After-span-of) → let a = start c .args in a .j < children (getD (a .part .now) 0 0)
 there c = omega (arith, counted (c .before .before .before))
 
-before : (c : tie.After-span-of) → let a = c .before .before .before .before .before .before .before .args in c .span-of .result ≡ span (a .j) (drop 1 (a .part .now))
-before c = rw (lent-part 1 (c .before .before .before .before .before .before .before .args .part .now)) at (c .span-of .ensures .0)
+before : (c : tie.After-span-of) → let a = start c .args in c .span-of .result ≡ span (a .j) (drop 1 (a .part .now))
+before c = rw (lent-part 1 (start c .args .part .now)) at (c .span-of .ensures .0)
 
 add-x : tie.Need-add-x
 add-x c = search needs
@@ -60,7 +63,7 @@ mul-x : tie.Need-mul-x
 mul-x c = search needs
 
 shared-slice-read-x : tie.Need-shared-slice-read-x
-shared-slice-read-x c = omega (arith, before (c .before), c .before .before .before .before .before .before .before .before .pre .1 (there (c .before)))
+shared-slice-read-x c = omega (arith, before (c .before), start (c .before) .pre .1 (there (c .before)))
 
 wide16-requires-2 : tie.Need-wide16-requires-2
 wide16-requires-2 c κs = search needs
@@ -68,13 +71,13 @@ wide16-requires-2 c κs = search needs
 is-literal-requires : tie.Need-is-literal-requires
 is-literal-requires c κs = search needs
 
-seen : (c : tie.After-is-literal) → let a = c .before .before .before .before .before .before .before .before .before .before .args in c .is-literal .result ≡ is-literal (getD (a .part .now) (child-at (a .j) (a .part .now)) 0)
+seen : (c : tie.After-is-literal) → let a = start (c .before .before .before) .args in c .is-literal .result ≡ is-literal (getD (a .part .now) (child-at (a .j) (a .part .now)) 0)
 seen c =
     let s = c .before .before .before in
     c .is-literal .ensures
-    ∙ ap is-literal (c .before .wide162 .ensures .0 ∙ ap (λ n. getD (s .before .before .before .before .before .before .before .args .part .now) (1 + n) 0) (before s))
+    ∙ ap is-literal (c .before .wide162 .ensures .0 ∙ ap (λ n. getD (start s .args .part .now) (1 + n) 0) (before s))
 
-found : (c : tie.Else2) → let a = c .before .before .before .before .before .before .before .before .before .before .before .args in is-literal (getD (a .part .now) (child-at (a .j) (a .part .now)) 0) ≡ true
+found : (c : tie.Else2) → let a = start (c .before .before .before .before) .args in is-literal (getD (a .part .now) (child-at (a .j) (a .part .now)) 0) ≡ true
 found c = sym (seen (c .before)) ∙ not-false (c .before .is-literal .result) (c .if2 .left)
 
 returns-2 : tie.Need-returns-2
@@ -92,10 +95,10 @@ part-unit-place-end c = search needs
 unit-place-requires : tie.Need-unit-place-requires
 unit-place-requires c κs = search needs
 
-placed : (c : tie.After-unit-place) → let a = c .before .before .before .before .before .before .before .before .before .before .before .before .before .args in c .unit-place .result ≡ unit-place (getD (a .part .now) (child-at (a .j) (a .part .now)) 0) (a .j) (drop 1 (a .part .now))
+placed : (c : tie.After-unit-place) → let a = start (c .before .before .before .before .before .before) .args in c .unit-place .result ≡ unit-place (getD (a .part .now) (child-at (a .j) (a .part .now)) 0) (a .j) (drop 1 (a .part .now))
 placed c =
     let s = c .before .before .before .before .before .before in
-    rw (lent-part 1 (s .before .before .before .before .before .before .before .args .part .now), before s) at (c .unit-place .ensures .0)
+    rw (before s, lent-part 1 (start s .args .part .now)) at (c .unit-place .ensures .0)
 
 returns-3 : tie.Need-returns-3
 returns-3 c =
@@ -107,7 +110,7 @@ returns-4 : tie.Need-returns-4
 returns-4 c =
     let u = c .before in
     let s = c .before .before .before .before .before .before .before in
-    let l = s .before .before .before .before .before .before .before .args .part .now in
+    let l = start s .args .part .now in
     ap (λ n. getD l (1 + n) 0) (before s) ∙ sym (unit-new _ l (there s) (found (c .before .before .before)) (omega (arith, placed u, before s)))
 
 pub unit-of-spec : {M : Type 1} → statement M

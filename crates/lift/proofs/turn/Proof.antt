@@ -1,7 +1,8 @@
--- `lift::turn` meets its contract: the conjunction's head goes and its children stay, or one number moves to before it.
+-- `lift::turn` meets its contract: one number moves to before the conjunction, or the conjunction's head goes and its children stay.
+use mathlib.Core.Logic.{⊎-elim}
 use mathlib.Core.Option.{some}
 use mathlib.Core.Path.{_≡_, ap, _∙_}
-use Prim.Native.Nat.{ℕ, suc, _+_, _-_, _*_, _≤_, _<_}
+use Prim.Native.Nat.{ℕ, suc, _+_, _-_, _<_}
 use native.Mathlib.Omega.{arith}
 use borrow.Author.Needs.{needs}
 use lib.ListN.{length, getD, take, drop, set, length-set, length-drop}
@@ -9,68 +10,115 @@ use lib.Seq.{getD-set-other}
 use Rattle.lists.proofs.Lent.{lent-part}
 use Rattle.model.specs.Code.{children}
 use Rattle.model.specs.Forest.{and, Forest, _⊕_, size, after, conjunction-at}
-use Rattle.model.specs.Limits.{kind-factor}
-use Rattle.theory.specs.Forests.{conjunction-here}
 use Rattle.theory.specs.Numbers.{children-small}
 use Rattle.theory.specs.Spans.{child-at}
-use Rattle.theory.specs.Children.{first-left, Group, headed-group, group-bounds, group-few, group-long, child-within, child-room}
-use Rattle.lift.proofs.Lifting.{conjunction-group, conjunction-there, literal-within, turns-merge, turns-lift}
+use Rattle.theory.specs.Children.{first-left, Group, group-bounds, group-few, group-long, child-room, Child, applied-child, conjunction-group}
+use Rattle.lift.proofs.Lifting.{conjunction-there, inner-within, turns-merge, turns-lift}
 use Rattle.lift.proofs.turn.Statement.{statement}
 use Rattle.lift.proofs.turn.Tie as tie
 
--- The group that the stretch begins with, and the conjunction that is its child i.
-group : (c : tie.Start) → let h = c .pre .1 .1 .0 in Group (c .args .part .now) (h .conn) (h .children) (h .rest) (h .zeros)
-group c = headed-group (c .pre .1 .0) (c .pre .1 .1 .0)
+-- Child i of the group that the stretch begins with, and the conjunction that it is.
+child : (c : tie.Start) → let l = c .args .part .now in Child l (c .pre .1 .1 .0 .children) (c .args .i) (child-at (c .args .i) l)
+child c = applied-child (c .pre .1 .0) (c .pre .1 .1 .0) (c .args .j) (c .pre .1 .1 .1)
 
 conjunction : (c : tie.Start) → (m : Forest) × (conjunction-at (after (c .args .i) (c .pre .1 .1 .0 .children)) ≡ some m)
 conjunction c =
     conjunction-there (c .pre .1 .0) (c .pre .1 .1 .0) (c .args .i) (c .args .j) (c .pre .1 .1 .1) (c .pre .0 .0) (c .pre .0 .1)
 
-there : (c : tie.Start) → c .args .i < size (c .pre .1 .1 .0 .children)
-there c = let k = c .pre .1 .1 .0 .children in child-within (c .args .i) k (conjunction-here (c .args .i) k (conjunction c .1))
+inner : (c : tie.Start) → let h = c .pre .1 .1 .0 in Group (drop (child-at (c .args .i) (c .args .part .now)) (c .args .part .now)) and (conjunction c .0) (after (suc (c .args .i)) (h .children) ⊕ h .rest) (h .zeros)
+inner c = conjunction-group (c .pre .1 .0) (c .pre .1 .1 .0) (c .args .i) (conjunction c .1)
 
 -- Where it begins, what is left from there on, and the number that stands there.
-inside : (c : tie.After-child-at) → c .child-at .result < length (c .before .before .before .args .part .now)
-inside c =
-    let a = c .before .before .before in
-    let n = there a in
-    omega (arith, child-room (group a) (a .args .i) (omega arith))
+abbrev start : tie.After-child-at → tie.Start
+start c = c .before .before .before
 
-left : (c : tie.After-child-at) → let a = c .before .before .before in let l = a .args .part .now in take (length l - c .child-at .result) (drop (c .child-at .result) l) ≡ drop (child-at (a .args .i) l) l
-left c =
-    let l = c .before .before .before .args .part .now in
-    lent-part (c .child-at .result) l ∙ ap (λ n. drop n l) (c .child-at .ensures .0)
+inside : (c : tie.After-child-at) → c .child-at .result < length (start c .args .part .now)
+inside c = let k = child (start c) in omega arith
 
-read : (c : tie.After-child-at) (v : ℕ) → let a = c .before .before .before in let l = a .args .part .now in getD (set l 0 v) (c .child-at .result) 0 ≡ getD l (child-at (a .args .i) l) 0
+left : (c : tie.After-child-at) → let l = start c .args .part .now in take (length l - c .child-at .result) (drop (c .child-at .result) l) ≡ drop (child-at (start c .args .i) l) l
+left c = let l = start c .args .part .now in lent-part (c .child-at .result) l ∙ ap (λ n. drop n l) (c .child-at .ensures .0)
+
+read : (c : tie.After-child-at) (v : ℕ) → let l = start c .args .part .now in getD (set l 0 v) (c .child-at .result) 0 ≡ getD l (child-at (start c .args .i) l) 0
 read c v =
-    let l = c .before .before .before .args .part .now in
+    let l = start c .args .part .now in
     getD-set-other l 0 (c .child-at .result) v 0 (λ e. omega arith) ∙ ap (λ n. getD l n 0) (c .child-at .ensures .0)
 
-inner : (c : tie.Start) → let h = c .pre .1 .1 .0 in Group (drop (child-at (c .args .i) (c .args .part .now)) (c .args .part .now)) and (conjunction c .0) (after (suc (c .args .i)) (h .children) ⊕ h .rest) (h .zeros)
-inner c = conjunction-group (c .pre .1 .0) (c .pre .1 .1 .0) (c .args .i) (c .args .j) (conjunction c .1)
-
 -- Where its literal stands.
-literal : (c : tie.Else1) → let a = c .before .before .before .before in a .args .j < size (conjunction a .0)
+literal : (c : tie.Then2) → let a = start (c .before .before) in a .args .j < size (conjunction a .0)
 literal c =
-    let a = c .before .before .before .before in
-    literal-within (a .pre .1 .0) (a .pre .1 .1 .0) (a .args .i) (a .args .j) (a .pre .1 .1 .1) (a .pre .0 .0) (omega arith) (conjunction a .1)
+    let a = start (c .before .before) in
+    inner-within (a .pre .1 .0) (a .pre .1 .1 .0) (a .args .i) (a .args .j) (a .pre .1 .1 .1) (a .pre .0 .0) (omega arith) (conjunction a .1)
 
-found : (c : tie.After-child-at2) → let a = c .before .before .before .before .before .before .before in let l = a .args .part .now in c .child-at2 .result ≡ child-at (a .args .j) (drop (child-at (a .args .i) l) l)
-found c = rw (left (c .before .before .before .before)) at (c .child-at2 .ensures .0)
+abbrev begun : tie.After-child-at2 → tie.After-child-at
+begun c = c .before .before .before .before .before
 
-ended : (c : tie.After-child-at2) → c .before .before .before .before .child-at .result + c .child-at2 .result < length (c .before .before .before .before .before .before .before .args .part .now)
+found : (c : tie.After-child-at2) → let a = start (begun c) in let l = a .args .part .now in c .child-at2 .result ≡ child-at (a .args .j) (drop (child-at (a .args .i) l) l)
+found c = rw (left (begun c)) at (c .child-at2 .ensures .0)
+
+ended : (c : tie.After-child-at2) → begun c .child-at .result + c .child-at2 .result < length (start (begun c) .args .part .now)
 ended c =
-    let e = c .before .before .before in
-    let a = e .before .before .before .before in
+    let a = start (begun c) in
     let l = a .args .part .now in
-    let n = literal e in
-    omega (arith, found c, inside (e .before), e .before .child-at .ensures .0, child-room (inner a) (a .args .j) (omega arith), length-drop (child-at (a .args .i) l) l)
+    let n = literal (c .before .before .before) in
+    omega (arith, found c, inside (begun c), child-room (inner a) (a .args .j) (omega arith), length-drop (child-at (a .args .i) l) l)
 
 child-at-requires : tie.Need-child-at-requires
-child-at-requires c κs =
-    let a = c .before .before in
-    let g = group a in
-    (group-long g, a .pre .1 .0 .short, omega (arith, there a, group-few g))
+child-at-requires c κs = let k = child (c .before .before) in omega arith
+
+mul-child-at : tie.Need-mul-child-at
+mul-child-at c = search needs
+
+sub-child-at : tie.Need-sub-child-at
+sub-child-at c = omega (arith, inside (c .before .before))
+
+part-child-at-start : tie.Need-part-child-at-start
+part-child-at-start c = omega (arith, inside (c .before .before .before))
+
+part-child-at-end : tie.Need-part-child-at-end
+part-child-at-end c = search needs
+
+child-at-requires-2 : tie.Need-child-at-requires-2
+child-at-requires-2 c κs =
+    let e = c .before .before in
+    let a = start (e .before .before) in
+    let l = a .args .part .now in
+    let g = inner a in
+    let short = a .pre .1 .0 .short in
+    rw (left (e .before .before)) (group-long g, omega (arith, length-drop (child-at (a .args .i) l) l), omega (arith, literal e, group-few g))
+
+add-from : tie.Need-add-from
+add-from c = omega (arith, ended c)
+
+slice-read-part : tie.Need-slice-read-part
+slice-read-part c = omega (arith, inside (begun (c .before)))
+
+add-part : tie.Need-add-part
+add-part c = let k = child (start (begun (c .before))) in omega arith
+
+slice-write-part : tie.Need-slice-write-part
+slice-write-part c = omega (arith, inside (begun (c .before)))
+
+mul-part : tie.Need-mul-part
+mul-part c = search needs
+
+slice-read-part-2 : tie.Need-slice-read-part-2
+slice-read-part-2 c = simp length-set (inside (begun (c .before .before)))
+
+sub-part : tie.Need-sub-part
+sub-part c =
+    let d = begun (c .before .before) in
+    let a = start d in
+    let l = a .args .part .now in
+    omega (arith, read d (getD l 0 0 + 1), first-left (child-at (a .args .i) l) l, group-bounds (inner a))
+
+mul-part-2 : tie.Need-mul-part-2
+mul-part-2 c = search needs
+
+slice-write-part-2 : tie.Need-slice-write-part-2
+slice-write-part-2 c = simp length-set (inside (begun (c .before .before)))
+
+move-before-requires : tie.Need-move-before-requires
+move-before-requires c κs = simp length-set (omega arith, ended (c .before .before .before))
 
 slice-read-wide16 : tie.Need-slice-read-wide16
 slice-read-wide16 c = search needs
@@ -90,133 +138,61 @@ wide16-requires-2 c κs = search needs
 children-of-requires : tie.Need-children-of-requires
 children-of-requires c κs = search needs
 
--- The head of the stretch, and the number of children of the conjunction.
-headed : (c : tie.After-children-of) → c .before .before .before .wide16 .result ≡ getD (c .before .before .before .before .before .before .before .before .before .args .part .now) 0 0
-headed c = c .before .before .before .wide16 .ensures .0
+-- The number of children of the conjunction, and that the head has room for them.
+abbrev joined : tie.After-children-of → tie.Joined1
+joined c = c .before .before .before .before .before
 
-counted : (c : tie.After-children-of) → let a = c .before .before .before .before .before .before .before .before .before in let l = a .args .part .now in c .children-of .result ≡ children (getD l (child-at (a .args .i) l) 0)
+counted : (c : tie.After-children-of) → let a = start (joined c .before) in let l = a .args .part .now in c .children-of .result ≡ children (getD l (child-at (a .args .i) l) 0)
 counted c =
-    let e = c .before .before .before .before .before .before in
-    let l = e .before .before .before .args .part .now in
+    let e = joined c .before in
+    let l = start e .args .part .now in
     c .children-of .ensures ∙ ap children (c .before .wide162 .ensures .0 ∙ ap (λ n. getD l n 0) (e .child-at .ensures .0))
 
-small : (c : tie.After-children-of) → (3 * kind-factor ≤ c .before .before .before .wide16 .result) × (c .before .before .before .wide16 .result < 6 * kind-factor) × (c .children-of .result < kind-factor)
-small c =
-    let bounds = group-bounds (group (c .before .before .before .before .before .before .before .before .before)) in
-    let few = children-small (c .before .wide162 .result) in
-    (omega (arith, headed c), omega (arith, headed c), omega (arith, c .children-of .ensures))
+add-part-2 : tie.Need-add-part-2
+add-part-2 c = let k = child (start (joined c .before)) in omega (arith, children-small (c .before .wide162 .result))
 
-add-part : tie.Need-add-part
-add-part c = omega (arith, small c)
-
-sub-part : tie.Need-sub-part
-sub-part c = omega (arith, small c)
+sub-part-2 : tie.Need-sub-part-2
+sub-part-2 c = let k = child (start (joined c .before)) in omega arith
 
 cast-part : tie.Need-cast-part
-cast-part c = omega (arith, small c)
+cast-part c = let k = child (start (joined c .before)) in omega (arith, children-small (c .before .wide162 .result))
 
-slice-write-part : tie.Need-slice-write-part
-slice-write-part c = search needs
+slice-write-part-3 : tie.Need-slice-write-part-3
+slice-write-part-3 c = search needs
 
 remove-requires : tie.Need-remove-requires
-remove-requires c κs =
-    simp length-set (omega (arith, inside (c .before .before .before .before .before .before .before)))
+remove-requires c κs = simp length-set (omega (arith, inside (joined (c .before) .before)))
 
 same-length : tie.Need-same-length
-same-length c = c .before .before .remove .kept .0 ∙ simp length-set
+same-length c = c .before .before .move-before .kept .0 ∙ simp length-set
 
 returns : tie.Need-returns
 returns c =
-    let d = c .before .before in
-    let k = d .before .before in
-    let e = k .before .before .before .before .before .before in
-    let a = e .before .before .before in
-    turns-merge (a .pre .1 .0) (a .pre .1 .1 .0) (a .args .i) (a .args .j) (a .pre .1 .1 .1) (omega arith) (same-length c) (rw (e .child-at .ensures .0, headed k, counted k) at (d .remove .ensures))
-
-mul-child-at : tie.Need-mul-child-at
-mul-child-at c = search needs
-
-sub-child-at : tie.Need-sub-child-at
-sub-child-at c = omega (arith, inside (c .before))
-
-part-child-at-start : tie.Need-part-child-at-start
-part-child-at-start c = omega (arith, inside (c .before .before))
-
-part-child-at-end : tie.Need-part-child-at-end
-part-child-at-end c = search needs
-
-child-at-requires-2 : tie.Need-child-at-requires-2
-child-at-requires-2 c κs =
-    let e = c .before .before in
-    let a = e .before .before .before .before in
-    let g = inner a in
-    rw (left (e .before))
-    (group-long g, omega (arith, length-drop (child-at (a .args .i) (a .args .part .now)) (a .args .part .now), a .pre .1 .0 .short), omega (arith, literal e, group-few g))
-
-add-from : tie.Need-add-from
-add-from c = omega (arith, ended c)
-
-slice-read-part : tie.Need-slice-read-part
-slice-read-part c = omega (arith, inside (c .before .before .before .before .before))
-
-add-part-2 : tie.Need-add-part-2
-add-part-2 c = omega (arith, group-bounds (group (c .before .before .before .before .before .before .before .before)))
-
-slice-write-part-2 : tie.Need-slice-write-part-2
-slice-write-part-2 c = omega (arith, inside (c .before .before .before .before .before))
-
-mul-part : tie.Need-mul-part
-mul-part c = search needs
-
-slice-read-part-2 : tie.Need-slice-read-part-2
-slice-read-part-2 c = simp length-set (inside (c .before .before .before .before .before .before))
-
-sub-part-2 : tie.Need-sub-part-2
-sub-part-2 c =
-    let d = c .before .before .before .before .before .before in
-    let a = d .before .before .before in
-    let l = a .args .part .now in
-    omega (arith, read d (getD l 0 0 + 1), first-left (child-at (a .args .i) l) l, group-bounds (inner a))
-
-mul-part-2 : tie.Need-mul-part-2
-mul-part-2 c = search needs
-
-slice-write-part-3 : tie.Need-slice-write-part-3
-slice-write-part-3 c = simp length-set (inside (c .before .before .before .before .before .before))
-
-move-before-requires : tie.Need-move-before-requires
-move-before-requires c κs = simp length-set (omega arith, ended (c .before .before .before))
+    let m = c .before .before in
+    let f = m .before .before .before .before in
+    let e = begun f in
+    let a = start e in
+    turns-lift (a .pre .1 .0) (a .pre .1 .1 .0) (a .args .i) (a .args .j) (a .pre .1 .1 .1) (a .pre .0 .0) (omega arith) (same-length c)
+    (e .child-at .ensures .0) (found f) (read e (getD (a .args .part .now) 0 0 + 1)) (m .move-before .ensures)
 
 same-length-2 : tie.Need-same-length-2
-same-length-2 c = c .before .before .move-before .kept .0 ∙ simp length-set
+same-length-2 c = c .before .before .remove .kept .0 ∙ simp length-set
 
 returns-2 : tie.Need-returns-2
 returns-2 c =
-    let m = c .before .before in
-    let f = m .before .before .before .before in
-    let e = f .before .before .before .before in
-    let a = e .before .before .before in
-    let new = rw (read e (getD (a .args .part .now) 0 0 + 1), e .child-at .ensures .0, found f) at (m .move-before .ensures) in
-    turns-lift (a .pre .1 .0) (a .pre .1 .1 .0) (a .args .i) (a .args .j) (a .pre .1 .1 .1) (a .pre .0 .0) (omega arith) (same-length-2 c) new
+    let d = c .before .before in
+    let k = d .before .before in
+    let e = joined k .before in
+    let a = start e in
+    let last : a .args .rule ≡ 13 = ⊎-elim (λ w. omega arith) (λ w. omega arith) (joined k .if1 .came) in
+    turns-merge (a .pre .1 .0) (a .pre .1 .1 .0) (a .args .i) (a .args .j) (a .pre .1 .1 .1) last (same-length-2 c)
+    (e .child-at .ensures .0) (k .before .before .before .wide16 .ensures .0) (counted k) (d .remove .ensures)
 
 pub turn-spec : {M : Type 1} → statement M
 turn-spec =
     tie.close
     (tie.spec
     child-at-requires
-    slice-read-wide16
-    wide16-requires
-    mul-wide16
-    slice-read-wide16-2
-    wide16-requires-2
-    children-of-requires
-    add-part
-    sub-part
-    cast-part
-    slice-write-part
-    remove-requires
-    same-length
-    returns
     mul-child-at
     sub-child-at
     part-child-at-start
@@ -224,13 +200,26 @@ turn-spec =
     child-at-requires-2
     add-from
     slice-read-part
-    add-part-2
-    slice-write-part-2
+    add-part
+    slice-write-part
     mul-part
     slice-read-part-2
-    sub-part-2
+    sub-part
     mul-part-2
-    slice-write-part-3
+    slice-write-part-2
     move-before-requires
+    slice-read-wide16
+    wide16-requires
+    mul-wide16
+    slice-read-wide16-2
+    wide16-requires-2
+    children-of-requires
+    add-part-2
+    sub-part-2
+    cast-part
+    slice-write-part-3
+    remove-requires
+    same-length
+    returns
     same-length-2
     returns-2)

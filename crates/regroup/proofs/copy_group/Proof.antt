@@ -46,34 +46,39 @@ add-p : tie.Need-add-p
 add-p c = search needs
 
 child-at-requires : tie.Need-child-at-requires
-child-at-requires c κs = let a = c .before .before .before .before .before .before .before in (a .pre .0 .0, a .pre .0 .1, omega (arith, counted (c .before .before), children-small (getD (a .args .part .now) 0 0)))
+child-at-requires c κs =
+    let a = c .before .before .before .before .before .before .before in
+    (a .pre .0 .0, a .pre .0 .1, omega (arith, counted (c .before .before), children-small (getD (a .args .part .now) 0 0)))
 
 -- The numbers before the literal, and after it.
+abbrev start : tie.After-child-at → tie.Start
+start c = c .before .before .before .before .before .before .before .before
+
 abbrev before-it : tie.After-child-at → List ℕ
-before-it c = take (1 + c .before .unit-place .result - 1) (drop 1 (c .before .before .before .before .before .before .before .before .args .part .now))
+before-it c = take (1 + c .before .unit-place .result - 1) (drop 1 (start c .args .part .now))
 
 abbrev after-it : tie.After-child-at → List ℕ
 after-it c =
     let p = 1 + c .before .unit-place .result + 1 in
-    take (c .child-at .result - p) (drop p (c .before .before .before .before .before .before .before .before .args .part .now))
+    take (c .child-at .result - p) (drop p (start c .args .part .now))
 
 found : (c : tie.After-unit-place) → let a = c .before .before .before .before .before .before .before .args in c .unit-place .result ≡ unit-place (a .literal) (c .before .before .children-of .result) (drop 1 (a .part .now))
 found c = rw (lent-part 1 (c .before .before .before .before .before .before .before .args .part .now)) at (c .unit-place .ensures .0)
 
-parts : (c : tie.After-child-at) → let a = c .before .before .before .before .before .before .before .before .args in less-unit (a .literal) (a .part .now) ≡ (getD (a .part .now) 0 0 - 1) ∷ (before-it c ++ after-it c)
+parts : (c : tie.After-child-at) → let a = start c .args in less-unit (a .literal) (a .part .now) ≡ (getD (a .part .now) 0 0 - 1) ∷ (before-it c ++ after-it c)
 parts c =
-    let a = c .before .before .before .before .before .before .before .before .args in
+    let a = start c .args in
     less-unit-parts (a .literal) (a .part .now) (counted (c .before .before .before)) (found (c .before)) (c .child-at .ensures .0)
 
 -- There is room for them, and the literal stands before the end.
-room : (c : tie.After-child-at) → let a = c .before .before .before .before .before .before .before .before .args in a .at + (1 + (length (before-it c) + length (after-it c))) ≤ length (a .out .now)
+room : (c : tie.After-child-at) → let a = start c .args in a .at + (1 + (length (before-it c) + length (after-it c))) ≤ length (a .out .now)
 room c =
-    omega (arith, ap length (parts c), length-append (before-it c) (after-it c), c .before .before .before .before .before .before .before .before .pre .1 .1 .1)
+    omega (arith, ap length (parts c), length-append (before-it c) (after-it c), start c .pre .1 .1 .1)
 
 inside : (c : tie.After-child-at) → 1 + c .before .unit-place .result < c .child-at .result
 unfolding among
 inside c =
-    let s = c .before .before .before .before .before .before .before .before in
+    let s = start c in
     let l = s .args .part .now in
     let m = children (getD l 0 0) in
     let u : c .before .unit-place .result ≡ unit-place (s .args .literal) m (drop 1 l) = rw (counted (c .before .before .before)) at (found (c .before)) in
@@ -85,7 +90,7 @@ shared-slice-read-out c = search needs
 
 sub-out : tie.Need-sub-out
 unfolding kind
-sub-out c = omega (arith, c .before .before .before .before .before .before .before .before .before .pre .1 .0)
+sub-out c = omega (arith, start (c .before) .pre .1 .0)
 
 mul-out : tie.Need-mul-out
 mul-out c = search needs
@@ -126,7 +131,7 @@ part-copy-end-2 c = search needs
 copy-requires-2 : tie.Need-copy-requires-2
 copy-requires-2 c κs =
     let d = c .before .before .before .before .before .before .before .before in
-    let a = d .before .before .before .before .before .before .before .before .args in
+    let a = start d .args in
     omega (arith, room d, c .before .before .before .before .copy .ensures .end, c .before .before .before .before .copy .kept .0, length-set (a .out .now) (a .at) (getD (a .part .now) 0 0 - 1))
 
 same-length : tie.Need-same-length
@@ -135,7 +140,7 @@ same-length c = c .before .before .copy2 .kept .0 ∙ c .before .before .before 
 returns : tie.Need-returns
 returns c =
     let d = c .before .before .before .before .before .before .before .before .before .before .before in
-    let a = d .before .before .before .before .before .before .before .before .args in
+    let a = start d .args in
     appended-as (sym (parts d)) (appended-both (appended-one _ (a .at) (a .out .now) (omega (arith, room d))) (appended-both (c .before .before .before .before .before .before .before .copy .ensures) (c .before .before .copy2 .ensures)))
 
 pub copy-group-spec : {M : Type 1} → statement M

@@ -7,11 +7,11 @@ use lib.ListN.{length, getD, take, drop, length-append}
 use Rattle.model.specs.Code.{children}
 use Rattle.theory.specs.Numbers.{children-small}
 use Rattle.theory.specs.Spans.{child-at}
-use Rattle.theory.specs.Stretches.{live}
+use Rattle.theory.specs.Stretches.{live, live-short}
 use Rattle.factor.proofs.Asking.{stretch-some}
 use Rattle.regroup.specs.Regrouped.{tree-after, step-after}
 use Rattle.regroup.proofs.Append.{appended-both}
-use Rattle.regroup.proofs.Turning.{rule-found, live-within, ends-live, step-room}
+use Rattle.regroup.proofs.Turning.{rule-found, ends-live, step-room}
 use Rattle.regroup.proofs.write_step.Statement.{statement}
 use Rattle.regroup.proofs.write_step.Tie as tie
 
@@ -28,15 +28,18 @@ children-of-requires : tie.Need-children-of-requires
 children-of-requires c κs = search needs
 
 -- The number of children, and where the last one ends.
-counted : (c : tie.After-children-of) → c .children-of .result ≡ children (getD (c .before .before .before .before .before .before .before .before .before .args .part .now) 0 0)
+abbrev start : tie.After-children-of → tie.Start
+start c = c .before .before .before .before .before .before .before .before .before
+
+counted : (c : tie.After-children-of) → c .children-of .result ≡ children (getD (start c .args .part .now) 0 0)
 counted c = c .children-of .ensures ∙ ap children (c .before .wide16 .ensures .0)
 
 child-at-requires : tie.Need-child-at-requires
 child-at-requires c κs =
-    let s = c .before .before .before .before .before .before .before .before .before in
+    let s = start c in
     (stretch-some (s .pre .0) (s .pre .1 .0), s .pre .0 .short, omega (arith, counted c, children-small (getD (s .args .part .now) 0 0)))
 
-ended : (c : tie.After-child-at) → let l = c .before .before .before .before .before .before .before .before .before .before .args .part .now in c .child-at .result ≡ child-at (children (getD l 0 0)) l
+ended : (c : tie.After-child-at) → let l = start (c .before) .args .part .now in c .child-at .result ≡ child-at (children (getD l 0 0)) l
 ended c = rw (counted (c .before)) at (c .child-at .ensures .0)
 
 live-count-requires : tie.Need-live-count-requires
@@ -46,24 +49,31 @@ mul-copy : tie.Need-mul-copy
 mul-copy c = search needs
 
 sub-copy : tie.Need-sub-copy
-sub-copy c = let s = c .before .before .before .before .before .before .before .before .before .before .before .before in omega (arith, ended (c .before .before), c .before .live-count .ensures, ends-live (s .pre .0) (s .pre .1 .0))
+sub-copy c =
+    let s = start (c .before .before .before) in
+    omega (arith, ended (c .before .before), c .before .live-count .ensures, ends-live (s .pre .0) (s .pre .1 .0))
 
 part-copy-start : tie.Need-part-copy-start
-part-copy-start c = let s = c .before .before .before .before .before .before .before .before .before .before .before .before in omega (arith, ended (c .before .before), ends-live (s .pre .0) (s .pre .1 .0), live-within (s .pre .0) (s .pre .1 .0))
+part-copy-start c =
+    let s = start (c .before .before .before) in
+    omega (arith, ended (c .before .before), ends-live (s .pre .0) (s .pre .1 .0), live-short (s .args .part .now))
 
 part-copy-end : tie.Need-part-copy-end
-part-copy-end c = let s = c .before .before .before .before .before .before .before .before .before .before .before .before in omega (arith, ended (c .before .before), c .before .live-count .ensures, ends-live (s .pre .0) (s .pre .1 .0), live-within (s .pre .0) (s .pre .1 .0))
+part-copy-end c =
+    let s = start (c .before .before .before) in
+    omega (arith, ended (c .before .before), c .before .live-count .ensures, ends-live (s .pre .0) (s .pre .1 .0), live-short (s .args .part .now))
 
 copy-requires : tie.Need-copy-requires
 unfolding step-after
 copy-requires c κs =
-    let s = c .before .before .before .before .before .before .before .before .before .before .before .before .before in
+    let d = c .before .before .before in
+    let s = start (d .before) in
     let a = s .args in
     let l = a .part .now in
     let e = child-at (children (getD l 0 0)) l in
-    let w = c .before .before .before .before .before .before .before .before .before .write-tree in
+    let w = d .before .before .before .before .before .before .write-tree in
     let room = step-room (s .pre .0) (s .pre .1 .0) (rule-found (s .pre .0) (s .pre .1 .0) (a .i) (a .j) (s .pre .1 .1 .0)) in
-    rw (ended (c .before .before .before), c .before .before .live-count .ensures)
+    rw (ended d, c .before .before .live-count .ensures)
     (omega (arith, room, length-append (tree-after (a .i) (a .j) l) (take (length (live l) - e) (drop e l)), w .ensures .end, w .kept .0, s .pre .1 .1 .1))
 
 same-length : tie.Need-same-length
@@ -71,7 +81,10 @@ same-length c = search needs
 
 returns : tie.Need-returns
 unfolding step-after
-returns c = rw (ended (c .before .before .before .before .before .before), c .before .before .before .before .before .live-count .ensures) at (appended-both (c .before .before .before .before .before .before .before .before .before .before .before .before .write-tree .ensures) (c .before .before .copy .ensures))
+returns c =
+    let d = c .before .before .before .before .before .before in
+    rw (ended d, c .before .before .before .before .before .live-count .ensures)
+    at (appended-both (d .before .before .before .before .before .before .write-tree .ensures) (c .before .before .copy .ensures))
 
 pub write-step-spec : {M : Type 1} → statement M
 write-step-spec =

@@ -1,29 +1,29 @@
 -- `regroup::write_tree` meets its contract: the literal and the number of groups are found, and the tree is built of them.
 use mathlib.Core.Path.{_≡_, ap, _∙_}
-use Prim.Native.Nat.{_-_, _≤_}
+use Prim.Native.Nat.{_-_}
 use native.Mathlib.Omega.{arith}
 use borrow.Author.Needs.{needs}
 use lib.ListN.{length, getD, take, drop, length-drop}
 use Rattle.lists.proofs.Lent.{lent-part}
 use Rattle.model.specs.Code.{children}
-use Rattle.theory.specs.Numbers.{children-small}
 use Rattle.theory.specs.Spans.{child-at}
+use Rattle.theory.specs.Children.{Child, applied-child}
 use Rattle.factor.specs.Walks.{unit-of, sharing}
-use Rattle.factor.proofs.Asking.{Applied, stretch-some, conjunction-index, conjunction-room}
+use Rattle.factor.proofs.Asking.{Applied, conjunction-room}
 use Rattle.regroup.specs.Regrouped.{tree-after}
 use Rattle.regroup.proofs.Turning.{rule-found, all-shared, groups-few, tree-room, step-room}
 use Rattle.regroup.proofs.write_tree.Statement.{statement}
 use Rattle.regroup.proofs.write_tree.Tie as tie
 
--- What the rule asks of the children holds.
+-- What the rule asks of the children holds, and child i is there.
 applies : (c : tie.Start) → Applied (c .args .i) (c .args .j) (c .pre .1 .0 .children)
 applies c = rule-found (c .pre .0) (c .pre .1 .0) (c .args .i) (c .args .j) (c .pre .1 .1 .0)
 
-some-there : (c : tie.Start) → 1 ≤ length (c .args .part .now)
-some-there c = stretch-some (c .pre .0) (c .pre .1 .0)
+child : (c : tie.Start) → let l = c .args .part .now in Child l (c .pre .1 .0 .children) (c .args .i) (child-at (c .args .i) l)
+child c = applied-child (c .pre .0) (c .pre .1 .0) (c .args .j) (c .pre .1 .1 .0)
 
 shared-slice-read-wide16 : tie.Need-shared-slice-read-wide16
-shared-slice-read-wide16 c = some-there (c .before .before .before)
+shared-slice-read-wide16 c = let k = child (c .before .before .before) in omega arith
 
 wide16-requires : tie.Need-wide16-requires
 wide16-requires c κs = search needs
@@ -36,9 +36,7 @@ counted : (c : tie.After-children-of) → c .children-of .result ≡ children (g
 counted c = c .children-of .ensures ∙ ap children (c .before .wide16 .ensures .0)
 
 child-at-requires : tie.Need-child-at-requires
-child-at-requires c κs =
-    let s = c .before .before .before .before .before in
-    (some-there s, s .pre .0 .short, conjunction-index (s .pre .0) (s .pre .1 .0) (s .args .i) (s .args .j) (applies s .conjunction))
+child-at-requires c κs = let k = child (c .before .before .before .before .before) in omega arith
 
 left : (c : tie.After-child-at) → let a = c .before .before .before .before .before .before .args in take (length (a .part .now) - c .child-at .result) (drop (c .child-at .result) (a .part .now)) ≡ drop (child-at (a .i) (a .part .now)) (a .part .now)
 left c =
@@ -64,7 +62,7 @@ unit-of-requires c κs =
     let room = conjunction-room (s .pre .0) (s .pre .1 .0) (s .args .i) (s .args .j) (applies s .conjunction) in
     rw (left (c .before)) ((room .0, omega (arith, length-drop (child-at (s .args .i) l) l, s .pre .0 .short)), room .1)
 
-found : (c : tie.After-unit-of) → let a = c .before .before .before .before .before .before .before .before .args in c .unit-of .result ≡ unit-of (a .j) (drop (child-at (a .i) (a .part .now)) (a .part .now))
+found : (c : tie.After-unit-of) → let n = c .before .before .before in let a = n .before .before .before .before .before .args in c .unit-of .result ≡ unit-of (a .j) (drop (child-at (a .i) (a .part .now)) (a .part .now))
 found c = rw (left (c .before .before)) at (c .unit-of .ensures)
 
 sub-sharing-groups : tie.Need-sub-sharing-groups
@@ -78,28 +76,38 @@ part-sharing-groups-end c = search needs
 
 sharing-groups-requires : tie.Need-sharing-groups-requires
 sharing-groups-requires c κs =
-    let s = c .before .before .before .before .before .before .before .before .before in
+    let n = c .before .before .before .before in
+    let s = n .before .before .before .before .before in
     let l = s .args .part .now in
-    rw (lent-part 1 l) (omega (arith, length-drop 1 l, s .pre .0 .short), omega (arith, counted (c .before .before .before .before), children-small (getD l 0 0)))
+    let k = child s in
+    rw (lent-part 1 l) (omega (arith, length-drop 1 l), omega (arith, counted n))
 
-grouped : (c : tie.After-sharing-groups) → let a = c .before .before .before .before .before .before .before .before .before .before .args in c .sharing-groups .result ≡ sharing (c .before .before .unit-of .result) (c .before .before .before .before .before .children-of .result) (drop 1 (a .part .now))
-grouped c = rw (lent-part 1 (c .before .before .before .before .before .before .before .before .before .before .args .part .now)) at (c .sharing-groups .ensures)
+grouped : (c : tie.After-sharing-groups) → let u = c .before .before in let n = u .before .before .before in let a = n .before .before .before .before .before .args in c .sharing-groups .result ≡ sharing (u .unit-of .result) (n .children-of .result) (drop 1 (a .part .now))
+grouped c =
+    let n = c .before .before .before .before .before in
+    rw (lent-part 1 (n .before .before .before .before .before .args .part .now)) at (c .sharing-groups .ensures)
 
 build-requires : tie.Need-build-requires
 unfolding tree-after
 build-requires c κs =
-    let s = c .before .before .before .before .before .before .before .before .before .before .before in
-    let p = applies s in
     let d = c .before in
-    rw (grouped d, found (d .before .before), counted (d .before .before .before .before .before))
-    ((some-there s, s .pre .0 .short), (groups-few (s .pre .0) (s .pre .1 .0) p, (all-shared (s .pre .0) (s .pre .1 .0) p, omega (arith, tree-room (s .pre .0) (s .pre .1 .0) p, step-room (s .pre .0) (s .pre .1 .0) p, s .pre .1 .1 .1))))
+    let u = d .before .before in
+    let n = u .before .before .before in
+    let s = n .before .before .before .before .before in
+    let p = applies s in
+    let k = child s in
+    rw (grouped d, found u, counted n)
+    ((omega arith, omega arith), (groups-few (s .pre .0) (s .pre .1 .0) p, (all-shared (s .pre .0) (s .pre .1 .0) p, omega (arith, tree-room (s .pre .0) (s .pre .1 .0) p, step-room (s .pre .0) (s .pre .1 .0) p, s .pre .1 .1 .1))))
 
 same-length : tie.Need-same-length
 same-length c = search needs
 
 returns : tie.Need-returns
 unfolding tree-after
-returns c = let d = c .before .before .before .before in rw (grouped d, found (d .before .before), counted (d .before .before .before .before .before)) at (c .before .before .build .ensures)
+returns c =
+    let d = c .before .before .before .before in
+    let u = d .before .before in
+    rw (grouped d, found u, counted (u .before .before .before)) at (c .before .before .build .ensures)
 
 pub write-tree-spec : {M : Type 1} → statement M
 write-tree-spec =

@@ -3,12 +3,12 @@ use mathlib.Core.Path.{_≡_, sym, ap, _∙_}
 use Prim.Native.Nat.{_+_, _-_}
 use native.Mathlib.Omega.{arith}
 use borrow.Author.Needs.{needs}
-use borrow.Author.Tests.{leb-true}
 use borrow.Rule.Slice.PartMut.{midOf, putMid}
 use lib.ListN.{length, length-drop}
 use Rattle.lists.proofs.Lent.{lent-part}
 use Rattle.model.specs.Limits.{sheet-length}
-use Rattle.rewriting.proofs.SheetSteps.{live-short, Ready, ready, back-long, back-sheet, back-level}
+use Rattle.theory.specs.Stretches.{live-short}
+use Rattle.rewriting.proofs.SheetSteps.{Ready, ready, back-long, back-sheet, back-level}
 use Rattle.rewriting.proofs.apply.Statement.{statement}
 use Rattle.rewriting.proofs.apply.Tie as tie
 
@@ -42,16 +42,6 @@ turn-requires c κs =
     let k = known (c .before .before) in
     rw (k .lent) ((k .low, k .high), (k .stretch, (k .head, k .applied)))
 
-same-length : tie.Need-same-length
-same-length c = long (c .before .before .before .before) ∙ sym (known (c .before .before .before .before .before .before .before) .whole)
-
-returns : tie.Need-returns
-returns c =
-    let d = c .before .before .before .before in
-    let b = d .before .before .before in
-    let a = b .args in
-    back-level (a .sheet .now) (b .pre .0) (a .rule) (a .place) (a .i) (a .j) (b .pre .1) (d .turn .ensures) (c .before .if1 .taken) (leb-true (a .rule) 12 (c .if2 .taken))
-
 sub-live-count : tie.Need-sub-live-count
 sub-live-count c = omega (arith, long (c .before .before .before))
 
@@ -74,6 +64,16 @@ cast-sheet c =
 slice-write-sheet : tie.Need-slice-write-sheet
 slice-write-sheet c = omega (arith, long (c .before .before .before .before .before .before))
 
+same-length : tie.Need-same-length
+same-length c = long (c .before .before .before .before) ∙ sym (known (c .before .before .before .before .before .before .before) .whole)
+
+returns : tie.Need-returns
+returns c =
+    let d = c .before .before .before .before in
+    let b = d .before .before .before in
+    let a = b .args in
+    back-level (a .sheet .now) (b .pre .0) (a .rule) (a .place) (a .i) (a .j) (b .pre .1) (d .turn .ensures) (omega arith) (omega arith)
+
 same-length-2 : tie.Need-same-length-2
 same-length-2 c = search needs
 
@@ -95,13 +95,13 @@ apply-spec =
     part-turn-start
     part-turn-end
     turn-requires
-    same-length
-    returns
     sub-live-count
     part-live-count-start
     part-live-count-end
     live-count-requires
     cast-sheet
     slice-write-sheet
+    same-length
+    returns
     same-length-2
     returns-2)
