@@ -25,8 +25,8 @@ use Rattle.locality.specs.Turned.{Turned, turned}
 use Rattle.theory.specs.Turns.{family-9}
 use Rattle.locality.specs.Locality.{level-length}
 use Rattle.sizes.specs.Tables.{Sized}
-use Rattle.zones.specs.Zoned.{after-step}
-use Rattle.zones.proofs.OnSheet as O
+use Rattle.run_bounds_after.specs.Zoned.{after-step}
+use Rattle.run_bounds_after.proofs.SheetZones as O
 
 -- The number of a node's children.
 abbrev below : Node → ℕ

@@ -18,7 +18,7 @@ use Rattle.locality.specs.Zones.{Holds, Twice, zone}
 use Rattle.locality.specs.Locality.{step-before}
 use Rattle.locality.specs.Locality.{level-length}
 use Rattle.bounds.specs.Tables.{Bounds, High, Rises}
-use Rattle.zones.specs.Zoned.{after-step, Zoned}
+use Rattle.run_bounds_after.specs.Zoned.{after-step, Zoned}
 use Rattle.advance.specs.Holders.{Holders}
 use Rattle.advance.specs.Settled.{Spared, Settled}
 use Rattle.locality.specs.Inside.{spread-inside}

@@ -18,9 +18,9 @@ use Rattle.theory.specs.Sheets.{Formed}
 use Rattle.sizes.specs.Tables.{Sized}
 use Rattle.model.specs.Results.{stepped}
 use Rattle.bounds.specs.Tables.{Bounds, High}
-use Rattle.zones.specs.Zoned.{after-step, Zoned}
-use Rattle.zones.proofs.OnSheet as O
-use Rattle.zones.proofs.Zones.{tall}
+use Rattle.run_bounds_after.specs.Zoned.{after-step, Zoned}
+use Rattle.run_bounds_after.proofs.SheetZones as O
+use Rattle.run_bounds_after.proofs.FamilyZones.{tall}
 use Rattle.locality.specs.Zones.{zone}
 use Rattle.theory.specs.Turns.{family-9}
 use Rattle.locality.specs.Locality.{step-extent}

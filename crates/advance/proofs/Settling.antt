@@ -9,8 +9,8 @@ use lib.Dec.{eqb}
 use lib.ListN.{getD}
 use Rattle.model.specs.Code.{Node}
 use Rattle.theory.specs.Logic.{either}
-use Rattle.renewal.specs.Renewed.{Renewed}
-use Rattle.touched.specs.Touched.{Set-back}
+use Rattle.run_bounds_after.specs.Renewed.{Renewed}
+use Rattle.run_bounds_after.specs.SetBack.{Set-back}
 use Rattle.advance.specs.Settled.{Spared, Settled}
 
 -- A table renewed with the whole zone is settled by any rule.

@@ -25,9 +25,9 @@ use Rattle.locality.specs.Zones.{tree-length, tree-end}
 use Rattle.locality.specs.Locality.{level-length}
 use Rattle.locality.specs.Locality.{length-before, length-holding, length-at}
 use Rattle.sizes.specs.Tables.{Sized}
-use Rattle.zones.specs.Zoned.{after-step, Zoned}
-use Rattle.zones.proofs.Places.{size-here}
-use Rattle.zones.proofs.OnSheet as O
+use Rattle.run_bounds_after.specs.Zoned.{after-step, Zoned}
+use Rattle.run_bounds_after.proofs.ChildPlaces.{size-here}
+use Rattle.run_bounds_after.proofs.SheetZones as O
 
 -- Of zeros that follow a list some are left from a place among them on.
 zeros-left : (xs : List ℕ) (gone left q : ℕ) → length xs + gone ≡ q → drop q (xs ++ replicate (gone + left) 0) ≡ replicate left 0

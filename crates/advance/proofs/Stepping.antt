@@ -19,9 +19,9 @@ use Rattle.theory.specs.Sheets.{Formed, formed-made, nodes-made}
 use Rattle.locality.specs.Zones.{Holds, Twice, tree-end}
 use Rattle.sizes.specs.Tables.{Sized}
 use Rattle.model.specs.Results.{stepped}
-use Rattle.zones.specs.Zoned.{after-step}
-use Rattle.zones.proofs.Places.{size-here}
-use Rattle.zones.proofs.OnSheet as O
+use Rattle.run_bounds_after.specs.Zoned.{after-step}
+use Rattle.run_bounds_after.proofs.ChildPlaces.{size-here}
+use Rattle.run_bounds_after.proofs.SheetZones as O
 use Rattle.advance.specs.Holders.{Holders}
 
 -- The sheet after a step.

@@ -6,7 +6,7 @@ use Prim.Native.Nat.{ℕ, _+_, _-_, _≤_, _<_}
 use lib.ListN.{getD}
 use Rattle.model.specs.Code.{Node}
 use Rattle.model.specs.Limits.{sheet-room}
-use Rattle.touched.specs.Touched.{Bare}
+use Rattle.run_bounds_after.specs.SetBack.{Bare}
 
 -- The bound of a place after the step's own has stayed: the rule is 9 or 10, and no child of the node there is a constant.
 pub record Spared (rule place q : ℕ) (ms : List Node) (t u : List ℕ) : Type 0 where

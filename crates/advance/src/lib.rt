@@ -13,7 +13,7 @@ ghost use Rattle.sizes.specs.Tables.{Sized};
 ghost use Rattle.model.specs.Results.{stepped};
 ghost use Rattle.theory.specs.Sheets.{Formed};
 ghost use Rattle.bounds.specs.Tables.{Bounds, High};
-ghost use Rattle.zones.specs.Zoned.{Zoned};
+ghost use Rattle.run_bounds_after.specs.Zoned.{Zoned};
 ghost use Rattle.advance.specs.Holders.{Holders};
 ghost use Rattle.advance.specs.Settled.{Settled};
 
@@ -53,7 +53,7 @@ fn look_ahead(sheet: &[u16], sizes: &[u16], rule: usize, place: usize, i: usize,
 {
     let inner = sizes::holder(sizes, place, place);
     let outer = sizes::holder(sizes, inner, place);
-    let zone = zones::zone_of(sheet, sizes, rule, place, i, j);
+    let zone = run_bounds_after::zone_of(sheet, sizes, rule, place, i, j);
     Plan {
         from: zone.from,
         old: zone.old,
@@ -74,7 +74,7 @@ fn settle(sheet: &[u16], sizes: &[u16], low: &mut [u16], rule: usize, place: usi
     ensures { λ r. ⌜ Settled rule (plan .from) (plan .old) (plan .new) place (plan .inner) (plan .outer) («nodes-in» (now (sheet .entry))) (now (low .entry)) (now (low .exit)) ⌝ }
 {
     if 9 <= rule && rule <= 10 {
-        renewal::renew(
+        run_bounds_after::renew(
             low,
             plan.new,
             plan.old,
@@ -83,10 +83,10 @@ fn settle(sheet: &[u16], sizes: &[u16], low: &mut [u16], rule: usize, place: usi
             plan.inner,
             plan.outer,
         );
-        touched::set_back(sheet, sizes, low, place + 1, plan.new);
+        run_bounds_after::set_back(sheet, sizes, low, place + 1, plan.new);
         return;
     }
-    renewal::renew(
+    run_bounds_after::renew(
         low,
         plan.from,
         plan.old,

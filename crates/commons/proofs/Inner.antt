@@ -22,7 +22,7 @@ use Rattle.theory.specs.Stretches.{Stretch, forest-in}
 use Rattle.theory.specs.Heads.{Headed}
 use Rattle.theory.specs.Children.{headed-group, group-children, first-left, child-stands, child-fits}
 use Rattle.sizes.proofs.Laws.{child-next}
-use Rattle.firsts.specs.Firsts.{First-inner}
+use Rattle.sizes.specs.FirstApplying.{First-inner}
 use Rattle.factor.specs.Walks.{unit-place, unit-of, sharing}
 use Rattle.factor.proofs.Here.{unit-past, unit-inner, unit-again, unit-new}
 use Rattle.factor.proofs.Asking.{asks-nothing, asks-other, asks-shared, conjunction-there, conjunction-room}

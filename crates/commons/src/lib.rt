@@ -9,7 +9,7 @@ ghost use Rattle.theory.specs.Stretches.{Stretch};
 ghost use Rattle.theory.specs.Heads.{Headed};
 ghost use Rattle.sizes.specs.Tables.{Sized};
 ghost use Rattle.factor.specs.Walks.{«group-here»};
-ghost use Rattle.firsts.specs.Firsts.{«First-inner»};
+ghost use Rattle.sizes.specs.FirstApplying.{«First-inner»};
 ghost use Rattle.commons.specs.Held.{«literal-numbers», Noted, Carried, Filter, Barred};
 use limits::KIND_FACTOR;
 

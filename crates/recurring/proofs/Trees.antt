@@ -18,7 +18,7 @@ use Rattle.sizes.proofs.Laws.{span-tree}
 use Rattle.spread.specs.Assigning.{spreads-from}
 use Rattle.theory.specs.Children.{child-inside}
 use Rattle.spread.proofs.Spreading.{asks-around}
-use Rattle.firsts.specs.Firsts.{First-child}
+use Rattle.sizes.specs.FirstApplying.{First-child}
 use Rattle.recurring.specs.Recurring.{Ends, First-again}
 
 module _ {r : ℕ} {l : List ℕ} (s : Stretch l) (h : Headed r l) where

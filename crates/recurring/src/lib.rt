@@ -5,7 +5,7 @@ ghost use lib.ListN.{length, replicate};
 ghost use Rattle.model.specs.Limits.{«kind-factor», «sheet-room»};
 ghost use Rattle.theory.specs.Stretches.{Stretch};
 ghost use Rattle.theory.specs.Heads.{Headed};
-ghost use Rattle.firsts.specs.Firsts.{«First-child»};
+ghost use Rattle.sizes.specs.FirstApplying.{«First-child»};
 ghost use Rattle.sizes.specs.Tables.{Sized};
 ghost use Rattle.spread.specs.Assigning.{«spreads-from»};
 ghost use Rattle.recurring.specs.Recurring.{Ends, «First-again», Tallied, «Tallied-if-any»};

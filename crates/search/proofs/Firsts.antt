@@ -29,7 +29,7 @@ use Rattle.lift.specs.Asked.{othersLiteral}
 use Rattle.lift.proofs.Lifting.{conjunction-there, asks-others}
 use Rattle.factor.proofs.Asking.{asks-late}
 use Rattle.commons.proofs.Inner.{child-arity}
-use Rattle.firsts.specs.Firsts.{First-child, First-inner}
+use Rattle.sizes.specs.FirstApplying.{First-child, First-inner}
 use Rattle.search.proofs.Laws.{below-more, j-found, j-none, i-found, i-none}
 use Rattle.search.proofs.Children.{child-first, children-counted}
 use Rattle.search.proofs.Inner.{flat-found, flat-none}

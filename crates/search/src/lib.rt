@@ -11,7 +11,7 @@ ghost use Rattle.theory.specs.Stretches.{Stretch, «forest-in»};
 ghost use Rattle.theory.specs.Heads.{Headed};
 ghost use Rattle.theory.specs.Sheets.{Formed};
 ghost use Rattle.sizes.specs.Tables.{Sized};
-ghost use Rattle.firsts.specs.Firsts.{«First-child»};
+ghost use Rattle.sizes.specs.FirstApplying.{«First-child»};
 ghost use Rattle.search.specs.Meaning.{spotOf};
 
 // Where a rule applies to a node: the child and the inner child.

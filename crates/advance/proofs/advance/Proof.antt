@@ -8,7 +8,7 @@ use Rattle.model.specs.Limits.{no-rule}
 use Rattle.model.specs.Sheet.{used-in}
 use Rattle.theory.specs.Places.{used-here}
 use Rattle.theory.specs.Sheets.{Formed}
-use Rattle.zones.proofs.OnSheet.{rules}
+use Rattle.run_bounds_after.proofs.SheetZones.{rules}
 use Rattle.advance.proofs.Bounding.{high-all, high-ahead}
 use Rattle.advance.proofs.Stepping.{after}
 use Rattle.advance.proofs.advance.Statement.{statement}

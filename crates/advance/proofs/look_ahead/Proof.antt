@@ -3,7 +3,7 @@ use Prim.Native.Nat.{_≤_, _<_}
 use native.Mathlib.Omega.{arith}
 use Rattle.model.specs.Limits.{sheet-room}
 use Rattle.model.specs.Sheet.{used-in}
-use Rattle.zones.proofs.OnSheet.{within}
+use Rattle.run_bounds_after.proofs.SheetZones.{within}
 use Rattle.advance.proofs.Stepping.{holders}
 use Rattle.advance.proofs.look_ahead.Statement.{statement}
 use Rattle.advance.proofs.look_ahead.Tie as tie

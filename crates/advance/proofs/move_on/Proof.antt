@@ -9,7 +9,7 @@ use Rattle.model.specs.Limits.{sheet-room, sheet-length}
 use Rattle.model.specs.Sheet.{used-in}
 use Rattle.theory.specs.Places.{used-here}
 use Rattle.theory.specs.Sheets.{Formed}
-use Rattle.zones.proofs.OnSheet.{within}
+use Rattle.run_bounds_after.proofs.SheetZones.{within}
 use Rattle.advance.proofs.Moving.{whole-after, still, outside, past, spread-zone, moved-on}
 use Rattle.advance.proofs.move_on.Statement.{statement}
 use Rattle.advance.proofs.move_on.Tie as tie

@@ -5,7 +5,7 @@ use borrow.Author.Needs.{needs}
 use lib.ListN.{getD}
 use Rattle.model.specs.Code.{children}
 use Rattle.theory.specs.Children.{headed-group, group-long}
-use Rattle.firsts.specs.Firsts.{First-child}
+use Rattle.sizes.specs.FirstApplying.{First-child}
 use Rattle.search.proofs.Firsts.{single-first, single-none}
 use Rattle.search.proofs.first_beside.Statement.{statement}
 use Rattle.search.proofs.first_beside.Tie as tie

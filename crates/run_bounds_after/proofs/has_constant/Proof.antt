@@ -1,0 +1,136 @@
+-- `run_bounds_after::has_constant` meets its contract. Invariant: child i begins at the present place, and none before it is a constant.
+use mathlib.Core.Path.{_≡_, ap, _∙_}
+use Prim.Native.Nat.{_+_, _-_, _<_}
+use native.Mathlib.Omega.{arith}
+use borrow.Author.Needs.{needs}
+use borrow.Author.Tests.{eqb-false}
+use lib.ListN.{length, getD}
+use Rattle.model.specs.Limits.{sheet-room, sheet-length}
+use Rattle.theory.specs.Logic.{true-false}
+use Rattle.theory.specs.Spans.{arity}
+use Rattle.theory.specs.Places.{lend}
+use Rattle.run_bounds_after.proofs.ConstantChildren.{Passed, passed-first, passed-inside, passed-room, passed-more, passed-all}
+use Rattle.run_bounds_after.proofs.has_constant.Statement.{statement}
+use Rattle.run_bounds_after.proofs.has_constant.Tie as tie
+
+abbrev Inv-loop : tie.InvT-loop
+Inv-loop sheet sizes place k i₀ at₀ i at = Passed sheet place i at
+
+abbrev μ-loop : tie.MeasureT-loop
+μ-loop sheet sizes place k i₀ at₀ i at = k - i
+
+-- The place is within the sheet.
+placed : (c : tie.Start Inv-loop μ-loop) → (c .args .place < sheet-room) × (length (c .args .sheet .now) ≡ sheet-length)
+placed c = let w = lend (c .args .sheet .now) (c .pre .0 .0) (c .args .place) (c .pre .0 .1) in (w .within, w .whole)
+
+counted : (c : tie.After-arity-of Inv-loop μ-loop) → let a = c .before .before .before .before .before .args in c .arity-of .result ≡ arity (getD (a .sheet .now) (2 + a .place) 0)
+counted c = c .arity-of .ensures .0 ∙ ap arity (c .before .wide16 .ensures .0)
+
+-- Child i is there, and begins within the sheet.
+here : (c : tie.In-loop Inv-loop μ-loop) → let a = c .before .before .before .before .before .before .before .args in c .before .loop .i < arity (getD (a .sheet .now) (2 + a .place) 0)
+here c = omega (arith, counted (c .before .before), c .loop-test .taken)
+
+inside : (c : tie.In-loop Inv-loop μ-loop) → c .before .loop .at < sheet-room
+inside c =
+    let b = c .before .before .before .before .before .before .before in
+    passed-inside (b .args .sheet .now) (b .pre .0 .0) (b .args .place) (b .pre .0 .1) (c .before .loop .inv) (here c)
+
+add-wide16 : tie.Need-add-wide16 Inv-loop μ-loop
+add-wide16 c = let w = placed (c .before .before) in omega arith
+
+mul-wide16 : tie.Need-mul-wide16 Inv-loop μ-loop
+mul-wide16 c = let w = placed (c .before .before) in omega arith
+
+shared-slice-read-wide16 : tie.Need-shared-slice-read-wide16 Inv-loop μ-loop
+shared-slice-read-wide16 c = let w = placed (c .before .before .before) in omega (arith, w .1)
+
+wide16-requires : tie.Need-wide16-requires Inv-loop μ-loop
+wide16-requires c κs = search needs
+
+arity-of-requires : tie.Need-arity-of-requires Inv-loop μ-loop
+arity-of-requires c κs = search needs
+
+add-at : tie.Need-add-at Inv-loop μ-loop
+add-at c = let w = placed (c .before .before .before .before .before) in omega arith
+
+loop-holds : tie.Need-loop-holds Inv-loop μ-loop
+loop-holds c =
+    let a = c .before .before .before .before .before .args in
+    passed-first (a .sheet .now) (a .place)
+
+add-x : tie.Need-add-x Inv-loop μ-loop
+add-x c = let w = inside c in omega arith
+
+mul-x : tie.Need-mul-x Inv-loop μ-loop
+mul-x c = let w = inside c in omega arith
+
+shared-slice-read-x : tie.Need-shared-slice-read-x Inv-loop μ-loop
+shared-slice-read-x c =
+    omega (arith, inside (c .before), placed (c .before .before .before .before .before .before .before .before) .1)
+
+returns : tie.Need-returns Inv-loop μ-loop
+returns c = λ e. true-false e
+
+mul-wide16-2 : tie.Need-mul-wide16-2 Inv-loop μ-loop
+mul-wide16-2 c = let w = inside (c .before .before .before) in omega arith
+
+shared-slice-read-wide16-2 : tie.Need-shared-slice-read-wide16-2 Inv-loop μ-loop
+shared-slice-read-wide16-2 c =
+    let n = c .before .before .before .before in
+    let b = n .before .before .before .before .before .before .before in
+    omega (arith, inside n, b .pre .1 .0)
+
+wide16-requires-2 : tie.Need-wide16-requires-2 Inv-loop μ-loop
+wide16-requires-2 c κs = search needs
+
+add-at-2 : tie.Need-add-at-2 Inv-loop μ-loop
+add-at-2 c =
+    let n = c .before .before .before .before .before in
+    let b = n .before .before .before .before .before .before .before in
+    let w = passed-room (b .args .sheet .now) (b .pre .0 .0) (b .args .place) (b .pre .0 .1) (n .before .loop .inv) (here n) (b .args .sizes .now) (b .pre .1 .1) (c .wide162 .ensures .0) in
+    omega arith
+
+add-i : tie.Need-add-i Inv-loop μ-loop
+add-i c = omega arith
+
+loop-less : tie.Need-loop-less Inv-loop μ-loop
+loop-less c = omega arith
+
+loop-again : tie.Need-loop-again Inv-loop μ-loop
+loop-again c =
+    let n = c .before .before .before .before .before in
+    let b = n .before .before .before .before .before .before .before in
+    let other = eqb-false (getD (b .args .sheet .now) (2 + n .before .loop .at) 0) 16384 (c .before .before .if2 .left) in
+    passed-more (b .args .sheet .now) (b .pre .0 .0) (b .args .place) (b .pre .0 .1) (n .before .loop .inv) (here n) (b .args .sizes .now) (b .pre .1 .1) (c .wide162 .ensures .0) (c .before .before .before .if1 .left) other
+
+returns-2 : tie.Need-returns-2 Inv-loop μ-loop
+returns-2 c e =
+    let n = c .before in
+    let b = n .before .before .before .before .before .before in
+    passed-all (b .args .sheet .now) (b .pre .0 .0) (b .args .place) (b .pre .0 .1) (n .loop .inv) (omega (arith, counted (n .before), c .loop-test .left))
+
+pub has-constant-spec : {M : Type 1} → statement M
+has-constant-spec =
+    tie.close
+    (tie.spec
+    Inv-loop
+    μ-loop
+    add-wide16
+    mul-wide16
+    shared-slice-read-wide16
+    wide16-requires
+    arity-of-requires
+    add-at
+    loop-holds
+    add-x
+    mul-x
+    shared-slice-read-x
+    returns
+    mul-wide16-2
+    shared-slice-read-wide16-2
+    wide16-requires-2
+    add-at-2
+    add-i
+    loop-less
+    loop-again
+    returns-2)

@@ -1,0 +1,3 @@
+pub mod Zoned
+pub mod Renewed
+pub mod SetBack

@@ -1,3 +1,0 @@
-pub mod Places
-pub mod Zones
-pub mod OnSheet
