@@ -8,7 +8,7 @@ use Rattle.calls.specs.Refusals.{option-refused}
 use Rattle.calls.specs.Outcomes.{Answer, refused, accepted, Outcome}
 use Rattle.calls.specs.Calls.{checkOf, lookupOf, loadOf, writeOf}
 use Rattle.cases.specs.Opened.{definitions}
-use Rattle.cases.specs.Samples.{P, Q, R, not-P, not-Q, not-R, True, False, plain, barred, all-of, any-of, root, text}
+use Rattle.cases.specs.Samples.{P, Q, not-P, not-Q, not-R, True, False, plain, barred, all-of, any-of, root, text}
 use Rattle.cases.specs.Samples.{book-of, book, first-book, sheet, said, samples}
 
 -- The number that the book check says: 0 where the book is good.

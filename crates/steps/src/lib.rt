@@ -1,7 +1,6 @@
 // The single step: one rule at one place of a sheet, for child i and inner child j.
 ghost use mathlib.Core.Path.{_≡_};
 ghost use Rattle.calls.specs.Calls.{stepOf};
-ghost use Rattle.model.specs.Code.{children};
 ghost use Rattle.answers.specs.AnswerMeaning.{doneOf, afterCall};
 use answers::Done;
 use answers::Refusal;

@@ -1,7 +1,6 @@
 // Books into sheets, and sheets into books.
 ghost use mathlib.Core.Path.{_≡_};
 ghost use Rattle.calls.specs.Calls.{loadOf, writeOf};
-ghost use Rattle.model.specs.Code.{children};
 ghost use Rattle.answers.specs.AnswerMeaning.{doneOf, foundOf, afterCall};
 use answers::Done;
 use answers::Found;

@@ -23,10 +23,11 @@ good-contents c =
 
 good-bodies :
     (c : tie.Else3) →
-    has-good-bodies (c .before .before .before .before .before .before .before .before .before .before .before .args .book .now) ≡ true
+    let lined = c .before .before .before .before in
+    has-good-bodies (lined .before .before .before .before .before .before .before .args .book .now) ≡ true
 good-bodies c =
-    bodies-test (c .before .before .before .before .before .before .before .before .before .before .before .pre)
-    (c .before .are-bodies .ensures)
+    let lined = c .before .before .before .before in
+    bodies-test (lined .before .before .before .before .before .before .before .pre) (c .before .are-bodies .ensures)
     ∙ not-false (c .before .are-bodies .result) (c .if3 .left)
 
 returns : tie.Need-returns

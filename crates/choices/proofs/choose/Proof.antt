@@ -26,8 +26,9 @@ known c =
 -- The weight as it was counted.
 counted :
     (c : tie.After-count-literals) →
+    let tested = c .before .before .before .before .before .before .before in
     c .before .before .before .wide16 .result + c .count-literals .result
-    ≡ weight (nodes-in (c .before .before .before .before .before .before .before .before .before .before .before .args .sheet .now))
+    ≡ weight (nodes-in (tested .before .before .before .before .args .sheet .now))
 counted c =
     weight-counted _ (good (c .before .before .before .before .before .before .before)) (c .before .before .before .wide16 .ensures .0)
     (c .count-literals .ensures)
@@ -54,8 +55,9 @@ part-count-literals-start c = let f = sheet-first _ (good (c .before .before .be
 
 count-literals-requires : tie.Need-count-literals-requires
 count-literals-requires c κs =
-    let s = c .before .before .before .before .before .before .before .before .before .before .args .sheet .now in
-    let f = sheet-first s (good (c .before .before .before .before .before .before)) in
+    let tested = c .before .before .before .before .before .before in
+    let s = tested .before .before .before .before .args .sheet .now in
+    let f = sheet-first s (good tested) in
     let u = c .before .before .wide16 .ensures .0 in
     (omega arith, rw (part-to-end s 2, length-drop 2 s) (omega arith))
 
@@ -67,24 +69,20 @@ add-if3-2 c = omega (arith, counted c, sheet-weight _ (good (c .before .before .
 
 returns-3 : tie.Need-returns-3
 returns-3 c =
-    no-room _ _ _ (good (c .before .before .before .before .before .before .before .before))
-    (known (c .before .before .before .before .before .before)) (omega (arith, counted (c .before), c .if3 .taken))
+    let named = c .before .before .before .before .before .before in
+    no-room _ _ _ (good (named .before .before)) (known named) (omega (arith, counted (c .before), c .if3 .taken))
 
 append-requires : tie.Need-append-requires
-append-requires c κs = (
-  sheet-formed _ (good (c .before .before .before .before .before .before .before .before .before)),
-  (
-    known (c .before .before .before .before .before .before .before),
-    omega (arith, counted (c .before .before), c .before .if3 .left),
-  ),
-)
+append-requires c κs =
+    let named = c .before .before .before .before .before .before .before in
+    (sheet-formed _ (good (named .before .before)), (known named, omega (arith, counted (c .before .before), c .before .if3 .left)))
 
 returns-4 : tie.Need-returns-4
 returns-4 c =
+    let tests = c .before .before .before .before in
+    let named = tests .before .before .before .before .before .before in
     rw (c .before .before .append .ensures)
-    (accepted-choice _ _ _ (good (c .before .before .before .before .before .before .before .before .before .before .before .before))
-    (known (c .before .before .before .before .before .before .before .before .before .before))
-    (omega (arith, counted (c .before .before .before .before .before), c .before .before .before .before .if3 .left)))
+    (accepted-choice _ _ _ (good (named .before .before)) (known named) (omega (arith, counted (tests .before), tests .if3 .left)))
 
 pub choose-spec : {M : Type 1} → statement M
 choose-spec =

@@ -18,8 +18,9 @@ returns c =
 
 cast-choose : tie.Need-cast-choose
 cast-choose c =
-    let start = c .before .before .before .before .before .before .before .before in
-    let said = ap foundOf (sym (c .before .before .found .given .1)) ∙ c .before .before .before .before .lookup .ensures in
+    let found = c .before .before .before .before in
+    let start = found .before .before .before .before in
+    let said = ap foundOf (sym (c .before .before .found .given .1)) ∙ found .lookup .ensures in
     record { fits = omega (arith, found-small (start .args .book .now) (start .args .code .now) _ said) }
 
 returns-2 : tie.Need-returns-2

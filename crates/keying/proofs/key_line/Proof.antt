@@ -24,15 +24,17 @@ returns-2 c =
 returns-3 : tie.Need-returns-3
 returns-3 c =
     let test = c .before .before .before .before .before in
-    let a = test .before .before .before .before .before .before .before .before .args in
+    let plus = test .before .before in
+    let a = plus .before .before .before .before .before .before .args in
     c .before .before .choose-code2 .ensures
     ∙ ap (λ code. choose-found (lookupOf (a .book .now) code) true (a .sheet .now)) (part-to-end (a .line .now) 1)
     ∙ keyed-minus (a .book .now) (a .sheet .now) (a .line .now) (test .if3 .taken)
 
 returns-4 : tie.Need-returns-4
 returns-4 c =
-    let a = c .before .before .before .before .before .before .before .before .args in
-    keyed-other (a .book .now) (a .sheet .now) (a .line .now) (c .before .before .if2 .left) (c .if3 .left)
+    let plus = c .before .before in
+    let a = plus .before .before .before .before .before .before .args in
+    keyed-other (a .book .now) (a .sheet .now) (a .line .now) (plus .if2 .left) (c .if3 .left)
 
 pub key-line-spec : {M : Type 1} → statement M
 key-line-spec =

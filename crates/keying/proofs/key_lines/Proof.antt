@@ -1,5 +1,5 @@
 -- `keying::key_lines` meets its contract. Invariant: what is left to key, on the sheet as it is, gives what all lines give on the first.
-use mathlib.Core.Path.{_≡_, refl, sym, ap, _∙_}
+use mathlib.Core.Path.{_≡_, refl, ap, _∙_}
 use Prim.Native.Nat.{_+_, _-_, _≤_}
 use native.Mathlib.Omega.{arith}
 use borrow.Author.Needs.{needs}

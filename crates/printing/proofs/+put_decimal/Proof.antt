@@ -1,6 +1,6 @@
 -- `printing::put_decimal` meets its contract: a number below ten is its digit, another the digits of a tenth of it and the last. The
 -- measure is the number.
-use Prim.Native.Nat.{ℕ, _+_, _/_, _<_}
+use Prim.Native.Nat.{ℕ, _/_, _<_}
 use native.Mathlib.Omega.{arith}
 use borrow.Author.Needs.{needs}
 use borrow.Fn.Kinds.{In}

@@ -41,8 +41,9 @@ put-line-requires c κs =
 
 returns : tie.Need-returns
 returns c =
-    let start = c .before .before .before .before .before .before .before .before .before .before in
-    let call = c .before .before .before .before .before .before .put-decimal in
+    let digits = c .before .before .before .before .before .before in
+    let call = digits .put-decimal in
+    let start = digits .before .before .before .before in
     let word = start .args .word .now in
     let old = start .args .out .now in
     c .before .before .put-line .ensures

@@ -21,9 +21,10 @@ returns c =
 returns-2 : tie.Need-returns-2
 unfolding printed
 returns-2 c =
-    let out = c .before .before .before .before .before .before .before .before .args .out .now in
+    let arm = c .before .before .before .before .before in
+    let out = arm .before .before .before .args .out .now in
     c .before .before .put-refusal .ensures
-    ∙ sym (ap (λ d. filled (printed (doneOf d) (λ u. [])) out) (c .before .before .before .before .before .answer .given .1))
+    ∙ sym (ap (λ d. filled (printed (doneOf d) (λ u. [])) out) (arm .answer .given .1))
 
 pub put-refused-spec : {M : Type 1} → statement M
 put-refused-spec =

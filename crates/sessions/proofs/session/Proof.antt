@@ -39,25 +39,25 @@ returns-3 c =
 
 put-ran-requires : tie.Need-put-ran-requires
 put-ran-requires c κs =
-    let load = c .before .before .before .before .before .before .before .before .before .before in
+    let loaded = c .before .before .before .before .before .before .before in
+    let load = loaded .before .before .before in
     let test = load .before .before in
     let book = test .before .before .before .before .args .book .now in
     let sheet = load .load .last .1 .0 in
-    let answer =
-    ap (λ d. afterCall (doneOf d) sheet) (sym (c .before .before .before .before .before .before .before .enum-told .given .1))
-    ∙ load .load .ensures in
+    let answer = ap (λ d. afterCall (doneOf d) sheet) (sym (loaded .enum-told .given .1)) ∙ load .load .ensures in
     (loaded-good book (replicate sheet-length 0) sheet (length-replicate {A = ℕ} sheet-length 0) answer, test .if1 .left)
 
 returns-4 : tie.Need-returns-4
 returns-4 c =
-    let keys = c .before .before .before .before .before .before .before .before .before in
+    let keyed = c .before .before .before .before .before .before in
+    let keys = keyed .before .before .before in
     let load = keys .before .before .before .before .before in
     let test = load .before .before in
     let a = test .before .before .before .before .args in
     c .before .before .before .put-ran .ensures
     ∙ session-printed (a .book .now) (a .input .now) (a .out .now) (test .if1 .left)
     (keys-accepted (a .book .now) (a .input .now) _ _ (load .load .ensures) (ap doneOf (keys .before .before .enum-told .given .1)) _ _
-    (keys .key-lines .ensures) (ap doneOf (c .before .before .before .before .before .before .enum-told3 .given .1)))
+    (keys .key-lines .ensures) (ap doneOf (keyed .enum-told3 .given .1)))
 
 pub session-spec : {M : Type 1} → statement M
 session-spec =

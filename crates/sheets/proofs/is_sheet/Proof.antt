@@ -83,9 +83,11 @@ told-tree c =
 
 told-clear :
     (c : tie.After-is-clear) →
-    all (eqb 0) (rest-in (sheet (c .before .before .before .before .before .before .before .before))) ≡ c .is-clear .result
+    let tree = c .before .before .before in
+    all (eqb 0) (rest-in (sheet (tree .before .before .before .before .before))) ≡ c .is-clear .result
 told-clear c =
-    let k = c .before .before .before .before .before .before .before .before in
+    let tree = c .before .before .before in
+    let k = tree .before .before .before .before .before in
     clear-is (sheet k) (k .wide162 .ensures .0) (c .is-clear .ensures)
 
 returns : tie.Need-returns
@@ -117,27 +119,36 @@ returns-5 c =
 
 returns-6 : tie.Need-returns-6
 returns-6 c =
-    let s = sheet (c .before .before .before .before .before .before .before .before .before) in
+    let tree = c .before .before .before .before in
+    let s = sheet (tree .before .before .before .before .before) in
     rw (sheet-is s, told-clear (c .before), not-true (c .before .is-clear .result) (c .if6 .taken), and-false)
 
 add-result : tie.Need-add-result
 add-result c =
-    let k = c .before .before .before .before .before .before .before .before .before .before .before in
+    let tree = c .before .before .before .before .before .before in
+    let k = tree .before .before .before .before .before in
     let part : List ℕ = take (length (sheet k) - 2) (drop 2 (sheet k)) in
     omega (arith, c .count-literals .ensures, few (k .wide162 .result) part)
 
 returns-7 : tie.Need-returns-7
 returns-7 c =
-    let k = c .before .before .before .before .before .before .before .before .before .before .before in
+    let tree = c .before .before .before .before .before .before in
+    let k = tree .before .before .before .before .before in
     let s = sheet k in
     let whole = eq-eqb (length s) sheet-length (omega arith) in
     let few-options = le-leb (getD s 0 0) most-options (omega arith) in
     let room = le-leb (getD s 1 0) sheet-room (omega arith) in
-    let tree =
-    told-tree (c .before .before .before .before .before .before)
-    ∙ not-false _ (c .before .before .before .before .before .if5 .left) in
+    let is-tree = told-tree tree ∙ not-false _ (c .before .before .before .before .before .if5 .left) in
     let clear = told-clear (c .before .before .before) ∙ not-false _ (c .before .before .if6 .left) in
-    rw (sheet-is s, whole, few-options, room, tree, clear, weight-is s (k .wide162 .ensures .0) (omega arith) (c .count-literals .ensures))
+    rw (
+      sheet-is s,
+      whole,
+      few-options,
+      room,
+      is-tree,
+      clear,
+      weight-is s (k .wide162 .ensures .0) (omega arith) (c .count-literals .ensures),
+    )
 
 pub is-sheet-spec : {M : Type 1} → statement M
 is-sheet-spec =

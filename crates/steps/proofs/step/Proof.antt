@@ -27,25 +27,33 @@ ruled c = sym (c .before .is-rule .ensures) ∙ not-false (c .before .is-rule .r
 -- Past the third the place is one of the sheet's nodes, and the stretch from there on can be lent.
 lent :
     (c : tie.Else3) →
-    let a = c .before .before .before .before .before .before .before .before .before .args in Lent (a .sheet .now) (a .place)
+    let tested = c .before .before .before .before .before in
+    let a = tested .before .before .before .before .args in
+    Lent (a .sheet .now) (a .place)
 lent c =
-    let a = c .before .before .before .before .before .before .before .before .before .args in
-    lend (a .sheet .now) (sheet-formed _ (good (c .before .before .before .before .before))) (a .place)
+    let tested = c .before .before .before .before .before in
+    let a = tested .before .before .before .before .args in
+    lend (a .sheet .now) (sheet-formed _ (good tested)) (a .place)
     (omega (arith, used-here (a .sheet .now), c .before .wide16 .ensures .0))
 
 -- What was asked of the stretch is whether the step applies.
 asked :
     (c : tie.After-applies) →
-    let a = c .before .before .before .before .before .before .before .before .before .before .before .before .args in
+    let placed = c .before .before .before in
+    let tested = placed .before .before .before .before .before in
+    let a = tested .before .before .before .before .args in
     c .applies .result ≡ is-some (M.step (a .rule) (a .place) (a .i) (a .j) (nodes-in (a .sheet .now)))
 asked c =
-    let d = c .before .before .before in
-    let a = d .before .before .before .before .before .before .before .before .before .args in
-    (rw (lent-part (2 + a .place) (a .sheet .now)) at (c .applies .ensures)) ∙ sym (lent d .asked (a .rule) (a .i) (a .j))
+    let placed = c .before .before .before in
+    let tested = placed .before .before .before .before .before in
+    let a = tested .before .before .before .before .args in
+    (rw (lent-part (2 + a .place) (a .sheet .now)) at (c .applies .ensures)) ∙ sym (lent placed .asked (a .rule) (a .i) (a .j))
 
 applying :
     (c : tie.Else4) →
-    let a = c .before .before .before .before .before .before .before .before .before .before .before .before .before .args in
+    let placed = c .before .before .before .before in
+    let tested = placed .before .before .before .before .before in
+    let a = tested .before .before .before .before .args in
     is-some (M.step (a .rule) (a .place) (a .i) (a .j) (nodes-in (a .sheet .now))) ≡ true
 applying c = sym (asked (c .before)) ∙ not-false (c .before .applies .result) (c .if4 .left)
 
@@ -81,11 +89,11 @@ part-applies-start c = omega (arith, lent (c .before) .within, lent (c .before) 
 
 applies-requires : tie.Need-applies-requires
 applies-requires c κs =
-    let d = c .before .before in
-    let a = d .before .before .before .before .before .before .before .before .before .args in
-    let r = rule-within (a .rule) (ruled (d .before .before .before)) in
-    rw (lent-part (2 + a .place) (a .sheet .now))
-    ((r .0, r .1, lent d .long), lent d .stretch)
+    let placed = c .before .before in
+    let tested = placed .before .before .before .before .before in
+    let a = tested .before .before .before .before .args in
+    let r = rule-within (a .rule) (ruled (placed .before .before .before)) in
+    rw (lent-part (2 + a .place) (a .sheet .now)) ((r .0, r .1, lent placed .long), lent placed .stretch)
 
 returns-4 : tie.Need-returns-4
 returns-4 c =
@@ -94,7 +102,8 @@ returns-4 c =
 
 apply-requires : tie.Need-apply-requires
 apply-requires c κs =
-    (sheet-formed _ (good (c .before .before .before .before .before .before .before .before .before .before)), applying (c .before))
+    let placed = c .before .before .before .before .before in
+    (sheet-formed _ (good (placed .before .before .before .before .before)), applying (c .before))
 
 returns-5 : tie.Need-returns-5
 returns-5 c =

@@ -26,27 +26,33 @@ sheet-here c = let call = c .before .is-sheet in sym (call .ensures) ∙ not-fal
 
 accepted-here :
     (c : tie.After-enum-told) →
-    book-refusal (c .before .before .before .before .before .before .before .before .args .book .now) ≡ none
+    let tested = c .before .before .before in
+    book-refusal (tested .before .before .before .before .before .args .book .now) ≡ none
 accepted-here c =
-    check-none (c .before .before .before .before .before .before .before .before .args .book .now)
+    let tested = c .before .before .before in
+    check-none (tested .before .before .before .before .before .args .book .now)
     (sym (ap doneOf (c .enum-told .given .1)) ∙ c .before .before .check .ensures)
 
 same-here :
     (c : tie.Else2) →
-    let a = c .before .before .before .before .before .before .before .before .before .before .before .args in
+    let tested = c .before .before .before .before .before .before in
+    let a = tested .before .before .before .before .before .args in
     options-of (a .book .now) ≡ options-in (a .sheet .now)
 unfolding options-of
 same-here c = sym (c .before .before .word-at .ensures) ∙ c .if2 .left ∙ c .before .options-in .ensures .0
 
 length-here :
     (c : tie.Else2) →
-    let a = c .before .before .before .before .before .before .before .before .before .before .before .args in
+    let tested = c .before .before .before .before .before .before in
+    let a = tested .before .before .before .before .before .args in
     length (written (a .sheet .now) (a .book .now))
     ≡ 8 + (13 * options-in (a .sheet .now) + (4 * children (getD (a .sheet .now) 2 0) + 2 * (used-in (a .sheet .now) - 1)))
 length-here c =
-    let a = c .before .before .before .before .before .before .before .before .before .before .before .args in
-    length-written (a .sheet .now) (a .book .now) (sheet-formed _ (sheet-here (c .before .before .before .before .before .before)))
-    (accepted-book _ (accepted-here (c .before .before .before))) (same-here c)
+    let tested = c .before .before .before .before .before .before in
+    let a = tested .before .before .before .before .before .args in
+    length-written (a .sheet .now) (a .book .now) (sheet-formed _ (sheet-here tested))
+    (accepted-book _ (accepted-here (c .before .before .before)))
+    (same-here c)
 
 returns : tie.Need-returns
 returns c =
@@ -56,20 +62,17 @@ returns c =
 
 returns-2 : tie.Need-returns-2
 returns-2 c =
-    let a = c .before .before .before .before .before .before .before .before .before .args in
+    let tested = c .before .before .before .before in
+    let a = tested .before .before .before .before .before .args in
     let told = ap doneOf (c .before .checked .given .1) in
-    write-refused (a .sheet .now) (a .book .now) (a .out .now) (sheet-here (c .before .before .before .before))
+    write-refused (a .sheet .now) (a .book .now) (a .out .now) (sheet-here tested)
     (check-some (a .book .now) _ (sym told ∙ c .before .before .before .check .ensures))
 
 enum-told : tie.Need-enum-told
 enum-told c = search needs
 
 word-at-requires : tie.Need-word-at-requires
-word-at-requires c κs =
-    omega (
-      arith,
-      head-of (c .before .before .before .before .before .before .before .before .args .book .now) (accepted-book _ (accepted-here c)),
-    )
+word-at-requires c κs = let accepted = accepted-book _ (accepted-here c) in omega (arith, head-of _ accepted)
 
 options-in-requires : tie.Need-options-in-requires
 options-in-requires c κs = sheet-formed _ (sheet-here (c .before .before .before .before))
@@ -77,9 +80,9 @@ options-in-requires c κs = sheet-formed _ (sheet-here (c .before .before .befor
 returns-3 : tie.Need-returns-3
 unfolding options-of
 returns-3 c =
-    let a = c .before .before .before .before .before .before .before .before .before .before .before .args in
-    write-other (a .sheet .now) (a .book .now) (a .out .now) (sheet-here (c .before .before .before .before .before .before))
-    (accepted-here (c .before .before .before))
+    let tested = c .before .before .before .before .before .before in
+    let a = tested .before .before .before .before .before .args in
+    write-other (a .sheet .now) (a .book .now) (a .out .now) (sheet-here tested) (accepted-here (c .before .before .before))
     (λ e. c .if2 .taken (c .before .before .word-at .ensures ∙ e ∙ sym (c .before .options-in .ensures .0)))
 
 written-length-requires : tie.Need-written-length-requires
@@ -88,10 +91,11 @@ written-length-requires c κs = sheet-formed _ (sheet-here (c .before .before .b
 returns-4 : tie.Need-returns-4
 returns-4 c =
     let e = c .before .before in
-    let a = e .before .before .before .before .before .before .before .before .before .before .before .args in
+    let tested = e .before .before .before .before .before .before in
+    let a = tested .before .before .before .before .before .args in
     let long = length-here e in
-    write-short (a .sheet .now) (a .book .now) (a .out .now) (sheet-here (e .before .before .before .before .before .before))
-    (accepted-here (e .before .before .before)) (same-here e) (omega arith)
+    write-short (a .sheet .now) (a .book .now) (a .out .now) (sheet-here tested) (accepted-here (e .before .before .before))
+    (same-here e) (omega arith)
 
 put-book-requires : tie.Need-put-book-requires
 put-book-requires c κs =
@@ -104,11 +108,12 @@ put-book-requires c κs =
 returns-5 : tie.Need-returns-5
 returns-5 c =
     let e = c .before .before .before .before .before .before in
-    let a = e .before .before .before .before .before .before .before .before .before .before .before .args in
+    let tested = e .before .before .before .before .before .before in
+    let a = tested .before .before .before .before .before .args in
     let long = length-here e in
     rw (c .before .before .put-book .ensures, c .before .before .before .before .before .written-length .ensures, ← long)
-    (write-done (a .sheet .now) (a .book .now) (a .out .now) (sheet-here (e .before .before .before .before .before .before))
-    (accepted-here (e .before .before .before)) (same-here e) (omega arith))
+    (write-done (a .sheet .now) (a .book .now) (a .out .now) (sheet-here tested) (accepted-here (e .before .before .before))
+    (same-here e) (omega arith))
 
 pub write-spec : {M : Type 1} → statement M
 write-spec =
