@@ -18,7 +18,7 @@ use Rattle.theory.specs.Logic.{true-false, and-split, and-join, or-split, or-le
 use Rattle.theory.specs.Literals.{is-same, same-self}
 use Rattle.theory.specs.Evaluation.{Set, fails-all, fails, values}
 use Rattle.theory.specs.Fine.{fine, fine-node}
-use Rattle.call_laws.specs.Irreducible.{Still, Calm}
+use Rattle.call_laws.specs.Irreducible.{Still, Irreducible}
 use Rattle.call_laws.specs.Standing.{stands, unit-mentions, unit-index}
 use Rattle.call_laws.specs.Still.{NoFalse, no-false, empty-or-two, literal-alone, nothing-to-lift, nothing-to-factor}
 
@@ -115,7 +115,7 @@ module _ (s : Set) (a : Literal) where
       go or n h u e (inr q) = absurd (or-holds k h q (w (no-false k or h q)) e)
       go root n h u e q = true-false n
 
-  fail-by : (n : ℕ) (f : Forest) → fine n f ≡ true → Calm f → NoFalse f → OnlyOne f → FailBy f
+  fail-by : (n : ℕ) (f : Forest) → fine n f ≡ true → Irreducible f → NoFalse f → OnlyOne f → FailBy f
   unfolding fine after stands constant-at
   fail-by n nil g w u o = tt
   fail-by n (lit x f) g w u o =
@@ -131,7 +131,7 @@ module _ (s : Set) (a : Literal) where
       (n : ℕ) (k : Forest) →
       fine n k ≡ true →
       Still root k →
-      Calm k →
+      Irreducible k →
       NoFalse k →
       OnlyOne k →
       fails s root k ≡ true →

@@ -20,10 +20,10 @@ abbrev pub Still : Conn → Forest → Type 0
 Still c k = (r i j : ℕ) → then (row-of r) (λ w. turn w c i j k) ≡ none
 
 -- Every node of the forest is still, at any depth.
-abbrev pub Calm : Forest → Type 0
-Calm nil = Unit {0}
-Calm (lit l f) = Calm f
-Calm (node c k f) = Still c k × Calm k × Calm f
+abbrev pub Irreducible : Forest → Type 0
+Irreducible nil = Unit {0}
+Irreducible (lit l f) = Irreducible f
+Irreducible (node c k f) = Still c k × Irreducible k × Irreducible f
 
 -- The same as `NoRule`, by the forest that is read from each place on.
 abbrev Unchanged : List Node → Type 0
@@ -36,21 +36,21 @@ still-first : (c : Conn) (k f : Forest) → ((r i j : ℕ) → rewrite r i j (no
 unfolding rewrite
 still-first c k f h r i j = then-then-none (row-of r) (λ w. turn w c i j k) (λ g. g ⊕ f) (h r i j)
 
-calm-before : (f : Forest) (ns : List Node) → Unchanged (encode f ++ ns) → Calm f
+irreducible-before : (f : Forest) (ns : List Node) → Unchanged (encode f ++ ns) → Irreducible f
 unfolding encode
-calm-before nil ns h = tt
-calm-before (lit l f) ns h = calm-before f ns (unchanged-after (leaf l ∷ []) (encode f ++ ns) h)
-calm-before (node c k f) ns h =
+irreducible-before nil ns h = tt
+irreducible-before (lit l f) ns h = irreducible-before f ns (unchanged-after (leaf l ∷ []) (encode f ++ ns) h)
+irreducible-before (node c k f) ns h =
     let read : decode (encode (node c k f) ++ ns) ≡ node c k (f ⊕ decode ns) =
     decode-encode-++ (node c k f) ns ∙ node-⊕ c k f (decode ns) in
     let inner : Unchanged (encode k ++ (encode f ++ ns)) =
     subst Unchanged (append-assoc (encode k) (encode f) ns)
     (unchanged-after (head c (size k) ∷ []) ((encode k ++ encode f) ++ ns) h) in (
       still-first c k (f ⊕ decode ns) (λ r i j. ap (rewrite r i j) (sym read) ∙ h r 0 i j),
-      calm-before k (encode f ++ ns) inner,
-      calm-before f ns (unchanged-after (encode k) (encode f ++ ns) inner),
+      irreducible-before k (encode f ++ ns) inner,
+      irreducible-before f ns (unchanged-after (encode k) (encode f ++ ns) inner),
     )
 
 -- Where no rule applies to a forest's code, every node of the forest is still.
-pub calm : (f : Forest) → NoRule (encode f) → Calm f
-calm f h = calm-before f [] (rw append-nil (λ r p i j. step-none r p i j (encode f) .0 (h r p i j)))
+pub irreducible : (f : Forest) → NoRule (encode f) → Irreducible f
+irreducible f h = irreducible-before f [] (rw append-nil (λ r p i j. step-none r p i j (encode f) .0 (h r p i j)))

@@ -16,12 +16,12 @@ use Rattle.theory.specs.Literals.{same-is}
 use Rattle.theory.specs.Evaluation.{Set, some-inside, with-one, bridge}
 use Rattle.theory.specs.Clauses.{unit-derived, all-but-one}
 use Rattle.theory.specs.Fine.{fine}
-use Rattle.call_laws.specs.Irreducible.{Still, Calm, calm}
+use Rattle.call_laws.specs.Irreducible.{Still, Irreducible, irreducible}
 use Rattle.call_laws.specs.Standing.{unit-stands}
 use Rattle.call_laws.specs.Still.{NoFalse, only-false, complement-absent}
 use Rattle.call_laws.specs.Failing.{OnlyOne, root-fails}
 
-module _ (n : ℕ) (k : Forest) (g : fine n k ≡ true) (h : Still root k) (w : Calm k) (u : NoFalse k) where
+module _ (n : ℕ) (k : Forest) (g : fine n k ≡ true) (h : Still root k) (w : Irreducible k) (u : NoFalse k) where
   -- The literals whose complements are units: none of them stands in the trees.
   refuted-by-units : Set
   refuted-by-units x = has-unit (complement x) k
@@ -60,6 +60,6 @@ pub normal-form :
     NoRule (encode (node root k nil)) →
     (k ≡ node or nil nil) ⊎ ((Contradictory (clauses root k) → ⊥) × ((l : Literal) → (has-unit l k ≡ true) ↔ Derived (clauses root k) l))
 normal-form n k g r =
-    let w = calm (node root k nil) r in
+    let w = irreducible (node root k nil) r in
     ⊎-elim inl (λ u. inr (consistent n k g (w .0) (w .1) u, λ l. (unit-derived l k, derived-unit n k g (w .0) (w .1) u)))
     (only-false k (w .0))

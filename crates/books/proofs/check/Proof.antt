@@ -1,12 +1,12 @@
 -- `books::check` meets its contract: length under 8, head, length, and then the parts.
 use mathlib.Core.Bool.{true}
 use mathlib.Core.Path.{_≡_, sym, _∙_}
-use Prim.Native.Nat.{_≤_}
+use Prim.Native.Nat.{_+_, _*_, _≤_}
 use native.Mathlib.Omega.{arith}
 use borrow.Author.Needs.{needs}
 use borrow.Author.Tests.{not-true, not-false, lt-ltb, le-ltb, eq-eqb, ne-eqb}
 use Rattle.model.specs.Limits.{most-options, most-rules, most-nodes}
-use Rattle.model.specs.Book.{head-in-limits}
+use Rattle.model.specs.Book.{head-in-limits, length-due}
 use Rattle.call_laws.specs.Books.{too-short, bad-head, bad-length, then-parts}
 use Rattle.books.proofs.BookTests.{head-limits, length-is, refused-by, done-by}
 use Rattle.books.proofs.check.Statement.{statement}
@@ -22,6 +22,14 @@ limits :
 limits c =
     head-limits _ _ _ _ (c .before .before .word-at .ensures) (c .before .word-at2 .ensures) (c .word-at3 .ensures)
     (good-head (c .before .before .before))
+
+-- The length due, as it is added up.
+due-here :
+    (c : tie.After-word-at3) →
+    let n = c .before .before .word-at .result in
+    let m = c .before .word-at2 .result in
+    length-due (c .before .before .before .before .before .before .before .args .book .now) ≡ 8 + 13 * n + 4 * m + 2 * c .word-at3 .result
+due-here c = length-is _ _ _ _ (c .before .before .word-at .ensures) (c .before .word-at2 .ensures) (c .word-at3 .ensures)
 
 returns : tie.Need-returns
 returns c = refused-by _ _ (too-short _ (lt-ltb _ 8 (c .if1 .taken)))
@@ -53,14 +61,8 @@ add-if3-3 c = let l = limits c in omega arith
 returns-3 : tie.Need-returns-3
 returns-3 c =
     let d = c .before .before .before .before in
-    refused-by _ _
-    (bad-length _ (le-ltb _ 8 (d .before .before .if1 .left)) (good-head d)
-    (ne-eqb _ _
-    (λ q.
-    c .if3 .taken
-    (q
-    ∙ length-is _ _ _ _ (c .before .before .before .word-at .ensures) (c .before .before .word-at2 .ensures)
-    (c .before .word-at3 .ensures)))))
+    let other = ne-eqb _ _ (λ q. c .if3 .taken (q ∙ due-here (c .before))) in
+    refused-by _ _ (bad-length _ (le-ltb _ 8 (d .before .before .if1 .left)) (good-head d) other)
 
 check-parts-requires : tie.Need-check-parts-requires
 check-parts-requires c κs =
@@ -79,15 +81,9 @@ returns-4 : tie.Need-returns-4
 returns-4 c =
     let e = c .before in
     let d = e .before .before .before .before in
-    done-by _ (c .check-parts .result)
-    (c .check-parts .ensures
-    ∙ sym
-    (then-parts _ (le-ltb _ 8 (d .before .before .if1 .left)) (good-head d)
-    (eq-eqb _ _
-    (e .if3 .left
-    ∙ sym
-    (length-is _ _ _ _ (e .before .before .before .word-at .ensures) (e .before .before .word-at2 .ensures)
-    (e .before .word-at3 .ensures))))))
+    let due = eq-eqb _ _ (e .if3 .left ∙ sym (due-here (e .before))) in
+    let parts = then-parts _ (le-ltb _ 8 (d .before .before .if1 .left)) (good-head d) due in
+    done-by _ (c .check-parts .result) (c .check-parts .ensures ∙ sym parts)
 
 pub check-spec : {M : Type 1} → statement M
 check-spec =
