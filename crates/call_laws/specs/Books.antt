@@ -33,15 +33,26 @@ module _ (b : List ℕ) where
   unfolding book-refusal first-of only-if
   too-short h = rw h
 
-  pub bad-head : lacks-head b ≡ false → head-in-limits b ≡ false → book-refusal b ≡ some head-refused
+  pub bad-head :
+      lacks-head b ≡ false →
+      head-in-limits b ≡ false →
+      book-refusal b ≡ some head-refused
   unfolding book-refusal first-of only-if
   bad-head h e = rw (h, e)
 
-  pub bad-length : lacks-head b ≡ false → head-in-limits b ≡ true → is-length-due b ≡ false → book-refusal b ≡ some length-refused
+  pub bad-length :
+      lacks-head b ≡ false →
+      head-in-limits b ≡ true →
+      is-length-due b ≡ false →
+      book-refusal b ≡ some length-refused
   unfolding book-refusal first-of only-if
   bad-length h e l = rw (h, e, l)
 
-  pub then-parts : lacks-head b ≡ false → head-in-limits b ≡ true → is-length-due b ≡ true → book-refusal b ≡ part-refusal b
+  pub then-parts :
+      lacks-head b ≡ false →
+      head-in-limits b ≡ true →
+      is-length-due b ≡ true →
+      book-refusal b ≡ part-refusal b
   unfolding book-refusal first-of only-if
   then-parts h e l = rw (h, e, l)
 

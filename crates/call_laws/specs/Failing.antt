@@ -54,13 +54,23 @@ module _ (s : Set) (a : Literal) where
       (or-split (fails-all d (values s k)) _ e)
 
   -- Where all trees fail, they mention the option of a; and where a is none of them, they are all conjunctions that have a.
-  all-mention : (f : Forest) → 1 ≤ size f → FailBy f → fails s or f ≡ true → mentions (option a) f ≡ true
+  all-mention :
+      (f : Forest) →
+      1 ≤ size f →
+      FailBy f →
+      fails s or f ≡ true →
+      mentions (option a) f ≡ true
   unfolding fails fails-all values all mentions size
   all-mention nil n w e = absurd (omega arith)
   all-mention (lit x f) n w e = or-left _ (eq-eqb (option a) (option x) (sym (ap option (w .0 (and-split (s x) _ e .0)))))
   all-mention (node c k f) n w e = or-left _ (unit-mentions a k (w .0 (and-split (fails-all c (values s k)) _ e .0) .1))
 
-  all-share : (f : Forest) → FailBy f → fails s or f ≡ true → has-unit a f ≡ false → (shares a f ≡ true) × (groups f ≡ size f)
+  all-share :
+      (f : Forest) →
+      FailBy f →
+      fails s or f ≡ true →
+      has-unit a f ≡ false →
+      (shares a f ≡ true) × (groups f ≡ size f)
   unfolding fails fails-all values all has-unit shares groups size
   all-share nil w e n = (refl, refl)
   all-share (lit x f) w e n = true-false (sym (is-same (sym (w .0 (and-split (s x) _ e .0)))) ∙ or-neither (same a x) _ n .0)
@@ -71,7 +81,13 @@ module _ (s : Set) (a : Literal) where
       (rw (q .0) (and-join (q .1) (r .0)), ap suc (r .1))
 
   -- A disjunction of two or more does not fail.
-  or-holds : (k : Forest) → Still or k → 2 ≤ size k → FailBy k → fails s or k ≡ true → ⊥
+  or-holds :
+      (k : Forest) →
+      Still or k →
+      2 ≤ size k →
+      FailBy k →
+      fails s or k ≡ true →
+      ⊥
   unfolding fails fails-all values all has-unit size same-conn literal-at after first mentions
   or-holds nil h n w e = omega arith
   or-holds (lit x f) h n w e =
@@ -115,7 +131,13 @@ module _ (s : Set) (a : Literal) where
       go or n h u e (inr q) = absurd (or-holds k h q (w (no-false k or h q)) e)
       go root n h u e q = true-false n
 
-  fail-by : (n : ℕ) (f : Forest) → fine n f ≡ true → Irreducible f → NoFalse f → OnlyOne f → FailBy f
+  fail-by :
+      (n : ℕ) (f : Forest) →
+      fine n f ≡ true →
+      Irreducible f →
+      NoFalse f →
+      OnlyOne f →
+      FailBy f
   unfolding fine after stands constant-at
   fail-by n nil g w u o = tt
   fail-by n (lit x f) g w u o =

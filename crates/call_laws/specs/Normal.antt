@@ -27,7 +27,13 @@ module _ (n : ℕ) (k : Forest) (g : fine n k ≡ true) (h : Still root k) (w : 
   refuted-by-units x = has-unit (complement x) k
 
   -- Where a clause lies inside a set of which only one literal may stand in the trees, that literal is a unit.
-  forced-unit : (s : Set) (l : Literal) → OnlyOne s l k → (c : Clause) → List·Memᴰ c (clauses root k) → all s c ≡ true → has-unit l k ≡ true
+  forced-unit :
+      (s : Set) (l : Literal) →
+      OnlyOne s l k →
+      (c : Clause) →
+      List·Memᴰ c (clauses root k) →
+      all s c ≡ true →
+      has-unit l k ≡ true
   unfolding some-inside
   forced-unit s l o c m i = root-fails s l n k g h w u o (sym (bridge s root k) ∙ any-from (all s) (clauses root k) m i)
 

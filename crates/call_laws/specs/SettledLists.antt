@@ -23,7 +23,11 @@ use Rattle.theory.specs.Sheets.{sheet-shaped}
 use Rattle.call_laws.specs.Effects.{Keeps, call-effect, run-outcome, run-leaves}
 
 -- A run that says settled leaves a sheet to which no rule applies.
-settled-call : (c : Call) (t : State) → is-sheet (t .sheet) ≡ true → says-settled c t ≡ true → NoRule (nodes-in (after-call c t .sheet))
+settled-call :
+    (c : Call) (t : State) →
+    is-sheet (t .sheet) ≡ true →
+    says-settled c t ≡ true →
+    NoRule (nodes-in (after-call c t .sheet))
 unfolding says-settled after-call if-accepted
 settled-call (choose v negative) t h e = true-false (sym e)
 settled-call (step r p i j) t h e = true-false (sym e)

@@ -31,12 +31,20 @@ use Rattle.theory.specs.Rooted.{Rooted, no-root, below-root, no-root-node}
 abbrev pub Suits : Set → Conn → Forest → Forest → Type 0
 Suits s c k g = (l : Literal) → has-unit l k ≡ true → has-unit l (kids g) ≡ true → (c ≡ and → ⊥) → Opposed s c l
 
-kept : (s : Set) (c : Conn) (k m : Forest) {g : Forest} → g ≡ node c m nil → fails s c m ≡ fails s c k → values s g ≡ fails s c k ∷ []
+kept :
+    (s : Set) (c : Conn) (k m : Forest) {g : Forest} →
+    g ≡ node c m nil →
+    fails s c m ≡ fails s c k →
+    values s g ≡ fails s c k ∷ []
 unfolding values fails
 kept s c k m r e = ap (values s) r ∙ ap (λ b. b ∷ []) e
 
 -- Soundness of a change: the tree that a node becomes has the node's value.
-pub sound : (s : Set) {c : Conn} {k g : Forest} → Change c k g → Suits s c k g → values s g ≡ fails s c k ∷ []
+pub sound :
+    (s : Set) {c : Conn} {k g : Forest} →
+    Change c k g →
+    Suits s c k g →
+    values s g ≡ fails s c k ∷ []
 unfolding kids
 sound s {c} {k} (absorbed p q e n r) h =
     kept s c k (constant (deciding c)) r (absorbed-fails s c p q ∙ ap (fails s c) (sym e))
@@ -104,7 +112,11 @@ holds-along u c f g e h =
     (sym (e (zeros u) (zeros-asked u)) ∙ h .0, λ m q. sym (e (with-one (zeros u) m) (with-one-asked u m q)) ∙ h .1 m q)
 
 -- A model gives a unit the value 2, since the unit is derived.
-pub unit-value : (u : Valuation) (l : Literal) (k : Forest) → Holds u root (node root k nil) → has-unit l k ≡ true → value-of u l ≡ 2
+pub unit-value :
+    (u : Valuation) (l : Literal) (k : Forest) →
+    Holds u root (node root k nil) →
+    has-unit l k ≡ true →
+    value-of u l ≡ 2
 unit-value u l k h e =
     derived-two u (rw (clauses-root k) at (model-holds u root (node root k nil) .1 h)) (unit-derived l k e)
 
@@ -122,14 +134,23 @@ unfolding deciding fails-all all
 unit-opposed u s a q l k h e o =
     rw q (a .zeros-in (complement l) (omega (arith, value-complement u l, unit-value u l k h e)))
 
-inner-suits : (s : Set) → Consistent s → (c : Conn) (k g : Forest) → (c ≡ root → ⊥) → Suits s c k g
+inner-suits :
+    (s : Set) →
+    Consistent s →
+    (c : Conn) (k g : Forest) →
+    (c ≡ root → ⊥) →
+    Suits s c k g
 unfolding neutral deciding fails-all any all
 inner-suits s h and k g n l before still m = absurd (m refl)
 inner-suits s h or k g n l before still m = h l
 inner-suits s h root k g n l before still m = absurd (n refl)
 
 -- A change of a root leaves a root.
-root-stays : {c : Conn} {k g : Forest} → Change c k g → c ≡ root → g ≡ node root (kids g) nil
+root-stays :
+    {c : Conn} {k g : Forest} →
+    Change c k g →
+    c ≡ root →
+    g ≡ node root (kids g) nil
 unfolding kids
 root-stays x h =
     ⊎-elim (λ w. rw (w .1, h)) (λ w. absurd (w .0 h)) (change-node x)

@@ -44,7 +44,11 @@ module _ (k : Forest) where
       sym (rw fits) ∙ turned
 
   -- Where there are two children or more, none of them is false: rules 1, 5 and 3.
-  pub no-false : (c : Conn) → Still c k → 2 ≤ size k → NoFalse k
+  pub no-false :
+      (c : Conn) →
+      Still c k →
+      2 ≤ size k →
+      NoFalse k
   unfolding row-of table change absorb omit deciding neutral conn-kind
   no-false and h n i = only-none _ _ (refused 1 (row 3 2 absorbs) refl and refl h n i 0)
   no-false or h n i = only-none _ _ (refused 5 (row 4 1 omits) refl or refl h (omega arith) i 0)
@@ -65,7 +69,11 @@ module _ (k : Forest) where
           inr (λ i. elim i [ zero ↦ q | suc j ↦ ap (constant-at or) (past-end (suc j) k (omega (arith, leb-false 2 (size k) n))) ])
 
   -- A group has no child or at least two: rules 7 and 8.
-  pub empty-or-two : (c : Conn) → same-conn root c ≡ false → Still c k → (k ≡ nil) ⊎ (2 ≤ size k)
+  pub empty-or-two :
+      (c : Conn) →
+      same-conn root c ≡ false →
+      Still c k →
+      (k ≡ nil) ⊎ (2 ≤ size k)
   unfolding row-of table same-conn change unwrap conn-kind
   empty-or-two c e h = go (either (leb 1 (size k))) (single c e h)
     where
@@ -129,7 +137,12 @@ module _ (k : Forest) where
       go root e h j = refused 12 (row 5 1 lifts) refl root refl h one i j
 
   -- In a disjunction with two groups, these are not all conjunctions that have one literal in common: rule 14.
-  pub nothing-to-factor : Still or k → (l : Literal) → shares l k ≡ true → 2 ≤ groups k → ⊥
+  pub nothing-to-factor :
+      Still or k →
+      (l : Literal) →
+      shares l k ≡ true →
+      2 ≤ groups k →
+      ⊥
   unfolding row-of table change factor then only-if conn-kind
   nothing-to-factor h l e n =
       let g = group-index l k e (omega arith) in
@@ -139,7 +152,12 @@ module _ (k : Forest) where
       none-some (sym (rw (g .2, u .1, g .3, u .2, e, le-leb 2 (groups k) n) at kept))
 
   -- At the root, the complement of a unit stands nowhere.
-  pub complement-absent : Still root k → (l : Literal) → has-unit (complement l) k ≡ true → stands l k ≡ true → ⊥
+  pub complement-absent :
+      Still root k →
+      (l : Literal) →
+      has-unit (complement l) k ≡ true →
+      stands l k ≡ true →
+      ⊥
   unfolding same-conn stands
   complement-absent h l u e =
       let i = unit-index (complement l) k u in

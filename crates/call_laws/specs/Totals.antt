@@ -128,7 +128,11 @@ module _ (u : Valuation) where
           (either (eqb (value-of u l) 0))
 
   -- A total reaches 2 unless all literals have value 0, or all but one that has value 1.
-  pub total-two : (c : Clause) → (((x : Literal) → List·Memᴰ x c → value-of u x ≡ 0) → ⊥) → (Single u c → ⊥) → 2 ≤ total u c
+  pub total-two :
+      (c : Clause) →
+      (((x : Literal) → List·Memᴰ x c → value-of u x ≡ 0) → ⊥) →
+      (Single u c → ⊥) →
+      2 ≤ total u c
   total-two c all-zero single = go (total u c) refl
     where
       go : (t : ℕ) → total u c ≡ t → 2 ≤ t

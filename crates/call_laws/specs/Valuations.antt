@@ -79,13 +79,21 @@ pub model-holds : (u : Valuation) (c : Conn) (f : Forest) → Model u (clauses c
 model-holds u c f = simp bridge at (model-outside u (clauses c f))
 
 -- A derived literal has value 2 in every model.
-pub derived-two : (u : Valuation) {cs : List Clause} {l : Literal} → Model u cs → Derived cs l → value-of u l ≡ 2
+pub derived-two :
+    (u : Valuation) {cs : List Clause} {l : Literal} →
+    Model u cs →
+    Derived cs l →
+    value-of u l ≡ 2
 derived-two u {l = l} h (derived c k i p) =
     let most = total-but-one u l c (λ x j n. omega (arith, derived-two u h (p x j n), value-complement u x)) in
     omega (arith, h c k, value-small u l)
 
 -- Contradictory clauses have no model.
-pub contradictory-no-model : (u : Valuation) {cs : List Clause} → Contradictory cs → Model u cs → ⊥
+pub contradictory-no-model :
+    (u : Valuation) {cs : List Clause} →
+    Contradictory cs →
+    Model u cs →
+    ⊥
 contradictory-no-model u w h =
     let low = total-zero u (w .0) (λ x j. omega (arith, derived-two u h (w .2 x j), value-complement u x)) in
     omega (arith, h (w .0) (w .1))
@@ -185,11 +193,19 @@ module _ {cs ds : List Clause} (e : SameModels cs ds) where
 pub same-of : {cs ds : List Clause} → cs ≡ ds → SameModels cs ds
 same-of {cs} e u = subst (λ xs. Model u cs ↔ Model u xs) e Iff·rfl
 
-pub same-trans : {cs ds es : List Clause} → SameModels cs ds → SameModels ds es → SameModels cs es
+pub same-trans :
+    {cs ds es : List Clause} →
+    SameModels cs ds →
+    SameModels ds es →
+    SameModels cs es
 same-trans p q u = Iff·trans (p u) (q u)
 
 -- Clauses with the same models, put together; the same clauses more; and two lists of clauses in another order.
-pub same-both : {bs cs ds es : List Clause} → SameModels bs cs → SameModels ds es → SameModels (bs ++ ds) (cs ++ es)
+pub same-both :
+    {bs cs ds es : List Clause} →
+    SameModels bs cs →
+    SameModels ds es →
+    SameModels (bs ++ ds) (cs ++ es)
 same-both {bs} {cs} {ds} {es} p q u =
     Iff·trans (model-append u bs ds) (Iff·trans (Iff·and (p u) (q u)) (Iff·symm (model-append u cs es)))
 
