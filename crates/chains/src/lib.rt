@@ -15,7 +15,8 @@ const BUCKETS: usize = 1024;
 // The first of n codes equals a later one.
 fn is_repeated(s: &[u8], n: usize) -> bool
     requires { ⌜ (1 ≤ n) × («code-length» * n ≤ length (now s)) ⌝ }
-    ensures { λ r. ⌜ r ≡ any («same-code» (take «code-length» (now (s .entry)))) (pieces «code-length» (n - 1) (drop «code-length» (now (s .entry)))) ⌝ }
+    ensures { λ r. ⌜ (let l = now (s .entry) in
+        r ≡ any («same-code» (take «code-length» l)) (pieces «code-length» (n - 1) (drop «code-length» l))) ⌝ }
 {
     let mut i = 1;
     while i < n {

@@ -70,7 +70,8 @@ fn put_contents(s: &[u16], m: usize, out: &mut [u8])
 // The contents of so many trees, and the numbers of their nodes.
 fn put_trees(s: &[u16], m: usize, out: &mut [u8])
     requires { ⌜ (length (now s) ≤ «sheet-room») × (4 * m + 2 * length (now s) ≤ length (now out)) ⌝ }
-    ensures { λ r. ⌜ now (out .exit) ≡ («bytes-of» («lined-up» 0 (spans m (now (s .entry)))) ++ «bytes-of» (now (s .entry))) ++ drop (4 * m + 2 * length (now (s .entry))) (now (out .entry)) ⌝ }
+    ensures { λ r. ⌜ (let l = now (s .entry) in
+        now (out .exit) ≡ («bytes-of» («lined-up» 0 (spans m l)) ++ «bytes-of» l) ++ drop (4 * m + 2 * length l) (now (out .entry))) ⌝ }
 {
     put_contents(s, m, out);
     let bodies = 4 * m;
@@ -80,7 +81,10 @@ fn put_trees(s: &[u16], m: usize, out: &mut [u8])
 // Codes, and the trees after them.
 pub fn put_parts(codes: &[u8], s: &[u16], m: usize, out: &mut [u8])
     requires { ⌜ (length (now s) ≤ «sheet-room») × (length (now codes) + (4 * m + 2 * length (now s)) ≤ length (now out)) ⌝ }
-    ensures { λ r. ⌜ now (out .exit) ≡ (now (codes .entry) ++ («bytes-of» («lined-up» 0 (spans m (now (s .entry)))) ++ «bytes-of» (now (s .entry)))) ++ drop (length (now (codes .entry)) + (4 * m + 2 * length (now (s .entry)))) (now (out .entry)) ⌝ }
+    ensures { λ r. ⌜ (let l = now (s .entry) in
+        let b = now (codes .entry) in
+        now (out .exit) ≡ (b ++ («bytes-of» («lined-up» 0 (spans m l)) ++ «bytes-of» l))
+        ++ drop (length b + (4 * m + 2 * length l)) (now (out .entry))) ⌝ }
 {
     let contents = codes.len();
     copy(codes, contents, out);

@@ -25,7 +25,7 @@ use Rattle.theory.specs.Flat.{spell, spell-⊕, Fits, fits-⊕, fits-lit, fits-
 use Rattle.theory.specs.Stretches.{Stretch, forest-in}
 use Rattle.theory.specs.Heads.{Headed, rewritten-to}
 use Rattle.theory.specs.Children.{moved-at, first-left, code, spell-parts, Group, group-head, group-children, group-bounds, opening, child-opened, child-within, child-place, headed-group, child-stands, child-room, child-fits, child-split, child-group, child-literal, literal-within, conjunction-group}
-use Rattle.theory.specs.Turns.{family-at, family-11, family-13, family-asks, family-turn}
+use Rattle.theory.specs.Turns.{family-at, family-11, family-asks, family-turn}
 use Rattle.lift.specs.Asked.{literalChild, othersLiteral}
 
 -- Trees that are literals, counted by their numbers.
@@ -38,11 +38,13 @@ literals-code (lit x g) r h =
 literals-code (node c k g) r h = rw (head-inner c (size k) (fits-tree c k g h .0))
 
 -- One number more that the loop has passed.
-pub literals-next : (k to : ℕ) (l : List ℕ) → k < to → to ≤ length l → is-literal (getD l k 0) ≡ true → all is-literal (slice (k + 1) to l) ≡ all is-literal (slice k to l)
+pub literals-next : (k to : ℕ) (l : List ℕ) → k < to → to ≤ length l → is-literal (getD l k 0) ≡ true →
+    all is-literal (slice (k + 1) to l) ≡ all is-literal (slice k to l)
 unfolding all
 literals-next k to l a b e = rw (slice-cons k to l 0 a b, e, add-one)
 
-pub literals-none : (k to : ℕ) (l : List ℕ) → k < to → to ≤ length l → is-literal (getD l k 0) ≡ false → all is-literal (slice k to l) ≡ false
+pub literals-none : (k to : ℕ) (l : List ℕ) → k < to → to ≤ length l → is-literal (getD l k 0) ≡ false →
+    all is-literal (slice k to l) ≡ false
 unfolding all
 literals-none k to l a b e = rw (slice-cons k to l 0 a b, e)
 
@@ -51,13 +53,15 @@ unfolding all
 literals-over to l = rw (slice-empty to l)
 
 -- So many numbers from a place on as there are trees, where those trees stand.
-literals-seen : (g : Forest) (from : ℕ) (l r : List ℕ) → from ≤ length l → Fits g → drop from l ≡ code g ++ r → all is-literal (slice from (from + size g) l) ≡ literals-only g
+literals-seen : (g : Forest) (from : ℕ) (l r : List ℕ) → from ≤ length l → Fits g → drop from l ≡ code g ++ r →
+    all is-literal (slice from (from + size g) l) ≡ literals-only g
 literals-seen g from l r h w e =
     ap (λ t. all is-literal (drop from t)) (take-add from (size g) l)
     ∙ ap (all is-literal) (drop-at (take from l) (take (size g) (drop from l)) from (length-take-le from l h) ∙ ap (take (size g)) e)
     ∙ literals-code g r w
 
-others-literals : {l : List ℕ} {c : Conn} {k f : Forest} {z : ℕ} → Group l c k f z → (i : ℕ) → i < size k → othersLiteral i (size k) l ≡ (literals-only (first i k) && literals-only (after (suc i) k))
+others-literals : {l : List ℕ} {c : Conn} {k f : Forest} {z : ℕ} → Group l c k f z → (i : ℕ) → i < size k →
+    othersLiteral i (size k) l ≡ (literals-only (first i k) && literals-only (after (suc i) k))
 unfolding othersLiteral
 others-literals {l} {c} {k} {f} {z} g i h =
     let before = size-first i k (omega arith) in
@@ -69,7 +73,8 @@ others-literals {l} {c} {k} {f} {z} g i h =
     rw add-one (ap₂ _&&_ (rw before at left) (rw later at right))
 
 -- A child that is a literal.
-literal-child : {l : List ℕ} {c : Conn} {k f : Forest} {z : ℕ} → Group l c k f z → (j : ℕ) → literalChild j l ≡ is-some (literal-at (after j k))
+literal-child : {l : List ℕ} {c : Conn} {k f : Forest} {z : ℕ} → Group l c k f z → (j : ℕ) →
+    literalChild j l ≡ is-some (literal-at (after j k))
 unfolding literalChild literal-at is-some
 literal-child {l} {k = k} g j = rw (group-children g) (go (ltb j (size k)) refl)
   where
@@ -95,13 +100,15 @@ module _ (r : ℕ) (c : Conn) (i j : ℕ) (k : Forest) where
     unfolding change lift then
     literal-asked a b = rw (family-11 r a b, e) (is-some-then (literal-at (after j m)) _)
 
-    others-asked : r ≡ 13 → is-some (change (family-at r) c i j k) ≡ (eqb j 0 && literals-only (first i k) && literals-only (after (suc i) k))
-    unfolding change merge then
-    others-asked q = rw (q, family-13, e) (is-some-only _ _)
+    others-asked : r ≡ 13 →
+        is-some (change (family-at r) c i j k) ≡ (eqb j 0 && literals-only (first i k) && literals-only (after (suc i) k))
+    unfolding family-at pick change merge then
+    others-asked q = rw (q, e) (is-some-only _ _)
 
 -- The test, on the numbers.
 module _ {r : ℕ} {l : List ℕ} (s : Stretch l) (h : Headed r l) (i j : ℕ) where
-  pub asks-nothing : 11 ≤ r → r ≤ 13 → is-some (conjunction-at (after i (h .children))) ≡ false → false ≡ is-some (rewrite r i j (forest-in l))
+  pub asks-nothing : 11 ≤ r → r ≤ 13 → is-some (conjunction-at (after i (h .children))) ≡ false →
+      false ≡ is-some (rewrite r i j (forest-in l))
   asks-nothing a b e =
       sym (fails-if (is-some (rewrite r i j (forest-in l))) (λ t. true-false (sym (conjunction-asked r (h .conn) i j (h .children) a b (sym (family-asks h i j) ∙ t)) ∙ e)))
 
@@ -111,17 +118,22 @@ module _ {r : ℕ} {l : List ℕ} (s : Stretch l) (h : Headed r l) (i j : ℕ) w
     asks-literal a b =
         literal-child (conjunction-group s h i e) j ∙ sym (family-asks h i j ∙ literal-asked r (h .conn) i j (h .children) e a b)
 
-    asks-beside : r ≡ 13 → is-some (rewrite r i j (forest-in l)) ≡ (eqb j 0 && literals-only (first i (h .children)) && literals-only (after (suc i) (h .children)))
+    asks-beside : r ≡ 13 →
+        is-some (rewrite r i j (forest-in l)) ≡ (eqb j 0 && literals-only (first i (h .children)) && literals-only (after (suc i) (h .children)))
     asks-beside q = family-asks h i j ∙ others-asked r (h .conn) i j (h .children) e q
 
     pub asks-others-none : r ≡ 13 → (j ≡ 0 → ⊥) → false ≡ is-some (rewrite r i j (forest-in l))
     asks-others-none q n = sym (asks-beside q ∙ rw (ne-eqb j 0 n))
 
-    pub asks-others : r ≡ 13 → j ≡ 0 → i < size (h .children) → othersLiteral i (size (h .children)) l ≡ is-some (rewrite r i j (forest-in l))
+    pub asks-others : r ≡ 13 → j ≡ 0 → i < size (h .children) →
+        othersLiteral i (size (h .children)) l ≡ is-some (rewrite r i j (forest-in l))
     asks-others q n b = others-literals (headed-group s h) i b ∙ sym (asks-beside q ∙ rw (eq-eqb j 0 n))
 
 -- Where the literal of an inner conjunction moves to before it.
-literal-moved : {l : List ℕ} {c : Conn} {k f : Forest} {z : ℕ} (g : Group l c k f z) (i j : ℕ) {m q u : Forest} {x : Literal} → after i k ≡ node and m q → after j m ≡ lit x u → let a = child-at i l in let b = a + child-at j (drop a l) in let new = set (set l 0 (getD l 0 0 + 1)) a (getD l a 0 - 1) in take a new ++ (getD new b 0 ∷ take (b - a) (drop a new) ++ drop (b + 1) new) ≡ spell (node c (first i k ⊕ lit x (node and (first j m ⊕ u) q)) f) z
+literal-moved : {l : List ℕ} {c : Conn} {k f : Forest} {z : ℕ} (g : Group l c k f z) (i j : ℕ) {m q u : Forest} {x : Literal} →
+    after i k ≡ node and m q → after j m ≡ lit x u → let a = child-at i l in let b = a + child-at j (drop a l) in
+    let new = set (set l 0 (getD l 0 0 + 1)) a (getD l a 0 - 1) in
+    take a new ++ (getD new b 0 ∷ take (b - a) (drop a new) ++ drop (b + 1) new) ≡ spell (node c (first i k ⊕ lit x (node and (first j m ⊕ u) q)) f) z
 unfolding spell encode size number _⊕_
 literal-moved {l} {c} {k} {f} {z} g i j {m} {q} {u} {x} e w =
     let a = child-at i l in
@@ -159,14 +171,16 @@ module _ {r : ℕ} {l : List ℕ} (s : Stretch l) (h : Headed r l) (i j : ℕ) (
       literal-within (conjunction-group s h i e) j (w .1)
 
   -- The conjunction's head goes.
-  pub turns-merge : {out : List ℕ} {a x m : ℕ} → r ≡ 13 → length out ≡ length l → a ≡ child-at i l → x ≡ getD l 0 0 → m ≡ children (getD l (child-at i l) 0) → let new = set l 0 (x + m - 1) in out ≡ take a new ++ (drop (a + 1) new ++ replicate 1 0) → out ≡ rewritten-to r i j l
-  unfolding change merge _⊕_
+  pub turns-merge : {out : List ℕ} {a x m : ℕ} → r ≡ 13 → length out ≡ length l → a ≡ child-at i l → x ≡ getD l 0 0 →
+      m ≡ children (getD l (child-at i l) 0) → let new = set l 0 (x + m - 1) in
+      out ≡ take a new ++ (drop (a + 1) new ++ replicate 1 0) → out ≡ rewritten-to r i j l
+  unfolding family-at pick change merge _⊕_
   turns-merge q n at-place at-head more-children e =
       let c = h .conn in
       let k = h .children in
       let g = headed-group s h in
       family-turn h i j (h .zeros + 1) t
-      (λ new w. let o = then-some (conjunction-at (after i k)) _ (rw (q, family-13) at w) in
+      (λ new w. let o = then-some (conjunction-at (after i k)) _ (rw q at w) in
       let m = o .0 in
       let here = conjunction-here i k (o .1) in
       let more : getD l 0 0 + children (getD l (child-at i l) 0) - 1 + 1 ≡ getD l 0 0 + size m =
@@ -175,7 +189,10 @@ module _ {r : ℕ} {l : List ℕ} (s : Stretch l) (h : Headed r l) (i j : ℕ) (
       n
 
   -- The literal moves.
-  pub turns-lift : {out : List ℕ} {a d y : ℕ} → 11 ≤ r → r ≤ 12 → length out ≡ length l → a ≡ child-at i l → d ≡ child-at j (drop (child-at i l) l) → y ≡ getD l (child-at i l) 0 → let new = set (set l 0 (getD l 0 0 + 1)) a (y - 1) in out ≡ take a new ++ (getD new (a + d) 0 ∷ take (a + d - a) (drop a new) ++ drop (a + d + 1) new) → out ≡ rewritten-to r i j l
+  pub turns-lift : {out : List ℕ} {a d y : ℕ} → 11 ≤ r → r ≤ 12 → length out ≡ length l → a ≡ child-at i l →
+      d ≡ child-at j (drop (child-at i l) l) → y ≡ getD l (child-at i l) 0 →
+      let new = set (set l 0 (getD l 0 0 + 1)) a (y - 1) in
+      out ≡ take a new ++ (getD new (a + d) 0 ∷ take (a + d - a) (drop a new) ++ drop (a + d + 1) new) → out ≡ rewritten-to r i j l
   unfolding change lift _⊕_
   turns-lift a b n at-place inner-place head-there e =
       let k = h .children in

@@ -12,6 +12,9 @@ module _ {A : Type 0} (a : ℕ) (l : List A) where
   pub lent-part : midOf a (length l - a) l ≡ drop a l
   lent-part = take-all (length l - a) (drop a l) (omega (arith, length-drop a l))
 
+  pub lent-at : {b : ℕ} → a ≡ b → midOf a (length l - a) l ≡ drop b l
+  lent-at e = lent-part ∙ ap (λ n. drop n l) e
+
   -- What comes back.
   pub lent-back : (ys : List A) → a ≤ length l → putMid a (length l - a) l ys ≡ take a l ++ ys
   lent-back ys h =

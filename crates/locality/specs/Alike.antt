@@ -19,7 +19,10 @@ pub data Alike : ℕ → Forest → Forest → Type 0 where
   one-literal : {n : ℕ} {l : Literal} {f g : Forest} → Alike n f g → Alike n (lit l f) (lit l g)
   groups-alike : {n : ℕ} {c : Conn} {k m f g : Forest} → Alike n k m → Alike (suc n) f g → Alike (suc n) (node c k f) (node c m g)
   deep-groups : {c b : Conn} {k m f g : Forest} → Covers k m → Alike zero f g → Alike zero (node c k f) (node b m g)
-  deep-literal : {c : Conn} {l : Literal} {k f g : Forest} → mentions (option l) k ≡ true → Alike zero f g → Alike zero (node c k f) (lit l g)
+  deep-literal : {c : Conn} {l : Literal} {k f g : Forest} →
+      mentions (option l) k ≡ true →
+      Alike zero f g →
+      Alike zero (node c k f) (lit l g)
   deep-constant : {c : Conn} {l : Literal} {f g : Forest} → Alike zero f g → Alike zero (lit l f) (node c nil g)
 
 pub alike-self : (n : ℕ) (f : Forest) → Alike n f f

@@ -21,7 +21,10 @@ pub data Differ : ℕ → ℕ → Forest → Forest → Type 0 where
   to-literal : {c : Conn} {k f : Forest} {l : Literal} → mentions (option l) k ≡ true → Differ zero zero (node c k f) (lit l f)
   to-group : {c b : Conn} {k m f : Forest} → Covers k m → Differ zero zero (node c k f) (node b m f)
   past-literal : {n d : ℕ} {l : Literal} {f g : Forest} → Differ n d f g → Differ (suc n) d (lit l f) (lit l g)
-  past-group : {n t d : ℕ} {c : Conn} {k f g : Forest} → t ≡ length (encode k) + n → Differ n d f g → Differ (suc t) d (node c k f) (node c k g)
+  past-group : {n t d : ℕ} {c : Conn} {k f g : Forest} →
+      t ≡ length (encode k) + n →
+      Differ n d f g →
+      Differ (suc t) d (node c k f) (node c k g)
   inside : {n d : ℕ} {c : Conn} {k m f : Forest} → Differ n d k m → Differ (suc n) (suc d) (node c k f) (node c m f)
 
 -- The difference stands at one of the nodes.

@@ -81,11 +81,9 @@ pub record Ready (s : List ℕ) (r p i j : ℕ) : Type 0 where
   pub high : r ≤ last-rule
   pub whole : length s ≡ sheet-length
   pub within : p < sheet-room
-  pub part : List ℕ
-  pub lent : midOf (2 + p) (length s - (2 + p)) s ≡ part
-  pub stretch : Stretch part
-  pub head : Headed r part
-  pub applied : is-some (rewrite r i j (forest-in part)) ≡ true
+  pub stretch : Stretch (drop (2 + p) s)
+  pub head : Headed r (drop (2 + p) s)
+  pub applied : is-some (rewrite r i j (forest-in (drop (2 + p) s))) ≡ true
 
 module _ (s : List ℕ) (h : Formed s) (r p i j : ℕ) (t : is-some (M.step r p i j (nodes-in s)) ≡ true) where
   pub ready : Ready s r p i j
@@ -99,8 +97,6 @@ module _ (s : List ℕ) (h : Formed s) (r p i j : ℕ) (t : is-some (M.step r p 
         high = there .rule-high;
         whole = l .whole;
         within = l .within;
-        part = drop (2 + p) s;
-        lent = lent-part (2 + p) s;
         stretch = l .stretch;
         head = applied-headed r i j (l .stretch) applied;
         applied = applied;

@@ -10,7 +10,7 @@ ghost use Rattle.shifts.specs.Replaced.{replaced};
 // Numbers from a place on move so many places to the left; the last ones stay as well.
 fn shift_left(s: &mut [u16], at: usize, count: usize)
     requires { ⌜ at + count ≤ length (now s) ⌝ }
-    ensures { λ r. ⌜ now (s .exit) ≡ take at (now (s .entry)) ++ (drop (at + count) (now (s .entry)) ++ drop (length (now (s .entry)) - count) (now (s .entry))) ⌝ }
+    ensures { λ r. ⌜ (let l = now (s .entry) in now (s .exit) ≡ take at l ++ (drop (at + count) l ++ drop (length l - count) l)) ⌝ }
 {
     let end = s.len() - count;
     let mut i = at;
@@ -45,7 +45,8 @@ pub fn remove(s: &mut [u16], at: usize, count: usize)
 // The number at one place moves to an earlier place; those between move one place to the right.
 pub fn move_before(s: &mut [u16], to: usize, from: usize)
     requires { ⌜ (to ≤ from) × (from < length (now s)) ⌝ }
-    ensures { λ r. ⌜ now (s .exit) ≡ take to (now (s .entry)) ++ (getD (now (s .entry)) from 0 ∷ take (from - to) (drop to (now (s .entry))) ++ drop (from + 1) (now (s .entry))) ⌝ }
+    ensures { λ r. ⌜ (let l = now (s .entry) in
+        now (s .exit) ≡ take to l ++ (getD l from 0 ∷ take (from - to) (drop to l) ++ drop (from + 1) l)) ⌝ }
 {
     let moved = s[from];
     let mut i = from;
@@ -94,7 +95,8 @@ pub fn assign(
     for_opposite: u16,
 )
     requires { ⌜ (from ≤ to) × (to ≤ length (now s)) ⌝ }
-    ensures { λ r. ⌜ now (s .exit) ≡ take from (now (s .entry)) ++ (map (replaced same opposite «for_same» «for_opposite») (slice from to (now (s .entry))) ++ drop to (now (s .entry))) ⌝ }
+    ensures { λ r. ⌜ (let l = now (s .entry) in
+        now (s .exit) ≡ take from l ++ (map (replaced same opposite «for_same» «for_opposite») (slice from to l) ++ drop to l)) ⌝ }
 {
     let mut i = from;
     while i < to {

@@ -87,7 +87,8 @@ module _ {r : ℕ} {l : List ℕ} (s : Stretch l) (h : Headed r l) (i j : ℕ) w
       (λ q. and-split (eqb i 0 && eqb j 0) (eqb (size k) 1) q .1)
       ∙ sym (family-asks h i j ∙ single-asked r (h .conn) i j k a b)
 
-  pub asks-constant : r ≤ 6 → j ≡ 0 → i < size (h .children) → eqb (getD l (child-at i l) 0) (constantFor r) ≡ is-some (rewrite r i j (forest-in l))
+  pub asks-constant : r ≤ 6 → j ≡ 0 → i < size (h .children) →
+      eqb (getD l (child-at i l) 0) (constantFor r) ≡ is-some (rewrite r i j (forest-in l))
   asks-constant b e n =
       let c = h .conn in
       let k = h .children in
@@ -95,7 +96,10 @@ module _ {r : ℕ} {l : List ℕ} (s : Stretch l) (h : Headed r l) (i j : ℕ) w
       rw (asked, constant-number h, eq-eqb j 0 e) (child-constant (headed-group s h) i n (wanted (family-at r) c))
 
 -- Where a constant is written after the head, and the other numbers of the children go.
-only-child : {l : List ℕ} {c : Conn} {k f : Forest} {z : ℕ} → Group l c k f z → 1 ≤ size k → (d : Conn) → let end = child-at (size k) l in let new = set (set l 0 (getD l 0 0 - value (getD l 0 0) + 1)) 1 (number (conn-kind d) 0) in take 2 new ++ (drop (2 + (end - 2)) new ++ replicate (end - 2) 0) ≡ spell (node c (constant d) f) (z + (end - 2))
+only-child : {l : List ℕ} {c : Conn} {k f : Forest} {z : ℕ} → Group l c k f z → 1 ≤ size k → (d : Conn) →
+    let end = child-at (size k) l in
+    let new = set (set l 0 (getD l 0 0 - value (getD l 0 0) + 1)) 1 (number (conn-kind d) 0) in
+    take 2 new ++ (drop (2 + (end - 2)) new ++ replicate (end - 2) 0) ≡ spell (node c (constant d) f) (z + (end - 2))
 unfolding number size _⊕_ value
 only-child {l} {c} {k} {f} {z} g n d =
     let x = getD l 0 0 - value (getD l 0 0) + 1 in
@@ -127,7 +131,8 @@ module _ {r : ℕ} {l out : List ℕ} (s : Stretch l) (h : Headed r l) (i j : �
       n
 
   -- Child i, one number, goes.
-  pub turns-omit : 4 ≤ r → r ≤ 6 → (v : ℕ) → v + 1 ≡ getD l 0 0 → out ≡ take (child-at i l) (set l 0 v) ++ (drop (child-at i l + 1) (set l 0 v) ++ replicate 1 0) → out ≡ rewritten-to r i j l
+  pub turns-omit : 4 ≤ r → r ≤ 6 → (v : ℕ) → v + 1 ≡ getD l 0 0 →
+      out ≡ take (child-at i l) (set l 0 v) ++ (drop (child-at i l + 1) (set l 0 v) ++ replicate 1 0) → out ≡ rewritten-to r i j l
   unfolding family-at pick change omit size _⊕_
   turns-omit a b v d e =
       let c = h .conn in
@@ -139,7 +144,9 @@ module _ {r : ℕ} {l out : List ℕ} (s : Stretch l) (h : Headed r l) (i j : �
       n
 
   -- Only the constant stays, after a head with one child.
-  pub turns-absorb : r ≤ 3 → let end = child-at (size (h .children)) l in let new = set (set l 0 (getD l 0 0 - value (getD l 0 0) + 1)) 1 (constantFor r) in out ≡ take 2 new ++ (drop (2 + (end - 2)) new ++ replicate (end - 2) 0) → out ≡ rewritten-to r i j l
+  pub turns-absorb : r ≤ 3 → let end = child-at (size (h .children)) l in
+      let new = set (set l 0 (getD l 0 0 - value (getD l 0 0) + 1)) 1 (constantFor r) in
+      out ≡ take 2 new ++ (drop (2 + (end - 2)) new ++ replicate (end - 2) 0) → out ≡ rewritten-to r i j l
   unfolding family-at pick change absorb wanted _⊕_
   turns-absorb b e =
       let d = deciding (h .conn) in

@@ -21,7 +21,7 @@ use Rattle.model.specs.Rules.{Row, table, row-of, neutral, deciding, assigned, 
 use Rattle.theory.specs.Logic.{some-inj, is-some-only, pick-true, pick-false, only-some, then-some}
 use Rattle.theory.specs.Lists.{any-append}
 use Rattle.theory.specs.Literals.{option-complement}
-use Rattle.theory.specs.Forests.{conn-of-kind, first-after, size-⊕, literal-here, size-assigned}
+use Rattle.theory.specs.Forests.{conn-of-kind, cut-at, size-⊕, literal-here, size-assigned}
 use Rattle.theory.specs.Numbers.{amount, fits}
 use Rattle.theory.specs.Leaves.{leaf-literal, leaf-value, leaf-test, head-inner, head-unlike}
 use Rattle.theory.specs.Spans.{child-at}
@@ -162,19 +162,13 @@ module _ {l : List ℕ} {c : Conn} {k f : Forest} {z : ℕ} (g : Group l c k f z
   abbrev behind : Forest
   behind = after (suc i) k
 
-  stands : after i k ≡ lit x behind
-  stands = literal-here i k e
-
-  parts : k ≡ before ⊕ lit x behind
-  parts = sym (first-after i k) ∙ ap (λ t. before ⊕ t) stands
-
   fit-before : Fits before
   fit-before = child-fits g i (omega (arith, literal-within g i e)) .0
 
   cut : l ≡ number-of (head c (size k)) ∷ (code before ++ number-of (leaf x) ∷ (code behind ++ spell f z))
   unfolding encode
   cut =
-      let there : spell (after i k ⊕ f) z ≡ number-of (leaf x) ∷ (code behind ++ spell f z) = ap (λ t. spell (t ⊕ f) z) stands ∙ spell-⊕ (lit x behind) f z in
+      let there : spell (after i k ⊕ f) z ≡ number-of (leaf x) ∷ (code behind ++ spell f z) = ap (λ t. spell (t ⊕ f) z) (literal-here i k e) ∙ spell-⊕ (lit x behind) f z in
       child-split g i (omega (arith, literal-within g i e)) ∙ ap (λ t. opening c k i ++ t) there
 
   cut-place : child-at i l ≡ 1 + length (code before)
@@ -182,7 +176,7 @@ module _ {l : List ℕ} {c : Conn} {k f : Forest} {z : ℕ} (g : Group l c k f z
 
   cut-end : child-at (size k) l ≡ child-at i l + 1 + length (code behind)
   unfolding encode
-  cut-end = omega (arith, group-end g i (omega (arith, literal-within g i e)), ap (λ t. length (encode t)) stands, length-map (encode behind) number-of)
+  cut-end = omega (arith, group-end g i (omega (arith, literal-within g i e)), ap (λ t. length (encode t)) (literal-here i k e), length-map (encode behind) number-of)
 
   -- What stands around it, and what a change around it gives.
   cut-mentions : spreads-from (child-at i l) (child-at (size k) l) l ≡ (mentions (option x) before || mentions (option x) behind)
@@ -199,7 +193,7 @@ module _ {l : List ℕ} {c : Conn} {k f : Forest} {z : ℕ} (g : Group l c k f z
       let p = assigned c x before in
       let q = assigned c x behind in
       let same-size : size k ≡ size (p ⊕ lit x q) =
-      omega (arith, size-⊕ p (lit x q), size-⊕ before (lit x behind), ap size parts, size-assigned c x before, size-assigned c x behind) in
+      omega (arith, size-⊕ p (lit x q), size-⊕ before (lit x behind), ap size (cut-at i k _ (literal-here i k e)), size-assigned c x before, size-assigned c x behind) in
       part-around (placed c x) (number-of (head c (size k))) n (code before) (code behind) (spell f z) cut cut-place cut-end
       ∙ rw (assigned-code c x (literal-fits g i e .0) before fit-before, assigned-code c x (literal-fits g i e .0) behind (literal-fits g i e .1), same-size) (ap (λ t. number-of (head c (size (p ⊕ lit x q))) ∷ (code p ++ t)) (sym (spell-⊕ (lit x q) f z)))
       ∙ sym (spell-parts c p (lit x q) f z)

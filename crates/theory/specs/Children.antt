@@ -29,13 +29,15 @@ use Rattle.theory.specs.Stretches.{Stretch, forest-in, spell-to}
 use Rattle.theory.specs.Heads.{Headed, headed-rewrite, rewritten-to, conn-kind-bounds, first-node, child-start}
 
 -- Numbers that go: those after them move up, and zeros follow. A number that moves to before others.
-pub removed-at : (p m q s : List ℕ) (start count : ℕ) → s ≡ p ++ (m ++ q) → length p ≡ start → length m ≡ count → take start s ++ (drop (start + count) s ++ replicate count 0) ≡ p ++ (q ++ replicate count 0)
+pub removed-at : (p m q s : List ℕ) (start count : ℕ) → s ≡ p ++ (m ++ q) → length p ≡ start → length m ≡ count →
+    take start s ++ (drop (start + count) s ++ replicate count 0) ≡ p ++ (q ++ replicate count 0)
 removed-at p m q s start count e a b =
     let rest : drop (start + count) s ≡ q =
     sym (drop-drop count start s) ∙ ap (λ t. drop count (drop start t)) e ∙ ap (drop count) (drop-at p (m ++ q) start a) ∙ drop-at m q count b in
     ap₂ (λ t u. t ++ (u ++ replicate count 0)) (ap (take start) e ∙ take-at p (m ++ q) start a) rest
 
-pub moved-at : (p m q s : List ℕ) (x to from : ℕ) → s ≡ p ++ (m ++ x ∷ q) → length p ≡ to → length m + to ≡ from → take to s ++ (getD s from 0 ∷ take (from - to) (drop to s) ++ drop (from + 1) s) ≡ p ++ (x ∷ m ++ q)
+pub moved-at : (p m q s : List ℕ) (x to from : ℕ) → s ≡ p ++ (m ++ x ∷ q) → length p ≡ to → length m + to ≡ from →
+    take to s ++ (getD s from 0 ∷ take (from - to) (drop to s) ++ drop (from + 1) s) ≡ p ++ (x ∷ m ++ q)
 moved-at p m q s x to from e a b =
     let whole : s ≡ (p ++ m) ++ x ∷ q = e ∙ sym (append-assoc p m (x ∷ q)) in
     let long : length (p ++ m) ≡ from = omega (arith, length-append p m) in
@@ -71,7 +73,8 @@ unfolding spell-to
 spell-fills f z n e = let left : z ≡ n - length (encode f) = omega (arith, spell-length f z) in ap (spell f) left
 
 -- A group with its children in two parts.
-pub spell-parts : (c : Conn) (p q f : Forest) (z : ℕ) → spell (node c (p ⊕ q) f) z ≡ number-of (head c (size (p ⊕ q))) ∷ (code p ++ spell (q ⊕ f) z)
+pub spell-parts : (c : Conn) (p q f : Forest) (z : ℕ) →
+    spell (node c (p ⊕ q) f) z ≡ number-of (head c (size (p ⊕ q))) ∷ (code p ++ spell (q ⊕ f) z)
 spell-parts c p q f z =
     spell-node c (p ⊕ q) f z
     ∙ ap (λ t. number-of (head c (size (p ⊕ q))) ∷ t) (ap (λ g. spell g z) (⊕-assoc p q f) ∙ spell-⊕ p (q ⊕ f) z)
@@ -82,7 +85,8 @@ module _ (z : ℕ) (f : Forest) where
   unfolding all
   fit-first x ns h = and-split (fits x) (all fits ns) h .0
 
-  first-constant : (d : Conn) (g : Forest) → 1 ≤ size g → Fits (g ⊕ f) → eqb (getD (spell (g ⊕ f) z) 0 0) (number (conn-kind d) 0) ≡ constant-at d g
+  first-constant : (d : Conn) (g : Forest) → 1 ≤ size g → Fits (g ⊕ f) →
+      eqb (getD (spell (g ⊕ f) z) 0 0) (number (conn-kind d) 0) ≡ constant-at d g
   unfolding constant-at spell encode _⊕_ size number-of number fits amount option conn-value
   first-constant d nil n h = absurd (omega arith)
   first-constant d (lit (pos v) g) n h =
@@ -99,7 +103,8 @@ module _ (z : ℕ) (f : Forest) where
       (λ e. let t = and-split (same-conn d c) (eqb (size k) 0) e in
       eq-eqb _ _ (ap₂ (λ b m. number (conn-kind b) m) (sym (same-conn-is d c (t .0))) (eqb-true (size k) 0 (t .1))))
 
-  first-kind : (g : Forest) → 1 ≤ size g → Fits (g ⊕ f) → let x = getD (spell (g ⊕ f) z) 0 0 in (is-literal x ≡ is-some (literal-at g)) × (eqb (kind x) 3 ≡ is-some (conjunction-at g))
+  first-kind : (g : Forest) → 1 ≤ size g → Fits (g ⊕ f) → let x = getD (spell (g ⊕ f) z) 0 0 in
+      (is-literal x ≡ is-some (literal-at g)) × (eqb (kind x) 3 ≡ is-some (conjunction-at g))
   unfolding literal-at conjunction-at is-some is-literal conn-kind spell encode _⊕_ size number-of fits amount option
   first-kind nil n h = absurd (omega arith)
   first-kind (lit (pos v) g) n h = rw (kind-number 1 v (fit-first _ _ h)) (refl, refl)
@@ -223,7 +228,8 @@ module _ {l : List ℕ} {c : Conn} {k f : Forest} {z : ℕ} (g : Group l c k f z
         }
 
     -- The number of its head goes, and its children take its place.
-    pub child-opened : (v : ℕ) → v + 1 ≡ getD l 0 0 + size m → let a = child-at i l in take a (set l 0 v) ++ (drop (a + 1) (set l 0 v) ++ replicate 1 0) ≡ spell (node c (first i k ⊕ m ⊕ q) f) (z + 1)
+    pub child-opened : (v : ℕ) → v + 1 ≡ getD l 0 0 + size m → let a = child-at i l in
+        take a (set l 0 v) ++ (drop (a + 1) (set l 0 v) ++ replicate 1 0) ≡ spell (node c (first i k ⊕ m ⊕ q) f) (z + 1)
     unfolding size number
     child-opened v n =
         let p = first i k in
@@ -280,12 +286,14 @@ module _ {r : ℕ} {l : List ℕ} (s : Stretch l) (h : Headed r l) {i : ℕ} whe
       let needed = child-needed r i j (forest-in l) (is-some-of (rewrite r i j (forest-in l)) t .1) in
       child-known (omega (arith, ap (λ f. size (kids f)) (h .forest))) refl
 
-  pub counted-child : {at : ℕ} → (i < children (getD l 0 0)) × (at ≡ child-at i l) → (i < size (h .children)) × (at < length l) × (length l ≤ sheet-room)
+  pub counted-child : {at : ℕ} → (i < children (getD l 0 0)) × (at ≡ child-at i l) →
+      (i < size (h .children)) × (at < length l) × (length l ≤ sheet-room)
   counted-child p = let c = asked-child p in (c .there, omega arith, c .short)
 
 -- A child that is a conjunction: its own group, from its place on.
 module _ {r : ℕ} {l : List ℕ} (s : Stretch l) (h : Headed r l) (i : ℕ) where
-  pub conjunction-group : {m : Forest} → conjunction-at (after i (h .children)) ≡ some m → Group (drop (child-at i l) l) and m (after (suc i) (h .children) ⊕ h .rest) (h .zeros)
+  pub conjunction-group : {m : Forest} → conjunction-at (after i (h .children)) ≡ some m →
+      Group (drop (child-at i l) l) and m (after (suc i) (h .children) ⊕ h .rest) (h .zeros)
   conjunction-group e = child-group (headed-group s h) i (conjunction-here i (h .children) e)
 
 -- What a rule does to a stretch, from what its family does to the group's children.
@@ -294,7 +302,8 @@ module _ {r : ℕ} {l : List ℕ} (h : Headed r l) (i j : ℕ) where
   headed-asks =
       ap is-some (headed-rewrite r h i j) ∙ is-some-then (change (h .row .family) (h .conn) i j (h .children)) (λ g. g ⊕ h .rest)
 
-  pub headed-turn : {g : Forest} {out : List ℕ} (z : ℕ) → change (h .row .family) (h .conn) i j (h .children) ≡ some g → out ≡ spell (g ⊕ h .rest) z → length out ≡ length l → out ≡ rewritten-to r i j l
+  pub headed-turn : {g : Forest} {out : List ℕ} (z : ℕ) → change (h .row .family) (h .conn) i j (h .children) ≡ some g →
+      out ≡ spell (g ⊕ h .rest) z → length out ≡ length l → out ≡ rewritten-to r i j l
   unfolding rewritten-to maybe then
   headed-turn {g} {out} z e shape n =
       rw (headed-rewrite r h i j, e) (shape ∙ spell-fills (g ⊕ h .rest) z (length l) (sym (ap length shape) ∙ n))

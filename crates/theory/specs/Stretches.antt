@@ -6,7 +6,7 @@ use Prim.Native.Nat.{ℕ, zero, suc, _+_, _-_, _≤_}
 use native.Mathlib.Omega.{arith}
 use borrow.Author.Tests.{ne-eqb}
 use lib.Dec.{eqb}
-use lib.ListN.{length, drop, replicate, length-map, length-drop, take-append-drop}
+use lib.ListN.{length, take, drop, replicate, length-map, length-drop, take-append-drop}
 use lib.Seq.{drop-drop, drop-append-le}
 use Rattle.model.specs.Base.{pick, all}
 use Rattle.model.specs.Limits.{sheet-room}
@@ -15,10 +15,10 @@ use Rattle.model.specs.Forest.{and, or, root, Forest}
 use Rattle.model.specs.Code.{Node, leaf, head, encode, decode, literals, weight, number, conn-kind, number-of, node-of}
 use Rattle.model.specs.Book.{characters}
 use Rattle.model.specs.Sheet.{used-in, numbers-in, nodes-in, rest-in}
-use Rattle.theory.specs.Logic.{and-split, and-join, pick-keeps}
+use Rattle.theory.specs.Logic.{and-split, pick-keeps}
 use Rattle.theory.specs.Codes.{decode-encode, encode-decode, trees-drop}
 use Rattle.theory.specs.Numbers.{fits, fits-node, node-number}
-use Rattle.theory.specs.Lists.{map-back, map-drop}
+use Rattle.theory.specs.Lists.{all-cut, all-from, all-map, map-back, map-drop}
 use Rattle.theory.specs.Shape.{shaped-trees}
 use Rattle.theory.specs.Sheets.{Formed}
 use Rattle.theory.specs.Flat.{spell, Fits}
@@ -91,15 +91,10 @@ drop-literals (suc p) (head c k ∷ ns) = drop-literals p ns
 
 -- Every number is that of a node that fits.
 pub all-fit : (xs : List ℕ) → all fits (map node-of xs) ≡ true
-unfolding all
-all-fit [] = refl
-all-fit (x ∷ xs) = and-join (fits-node x) (all-fit xs)
+all-fit xs = all-map node-of fits xs ∙ all-from (λ x. fits (node-of x)) xs (λ x m. fits-node x)
 
 all-drop : {A : Type 0} (q : A → Bool) (p : ℕ) (xs : List A) → all q xs ≡ true → all q (drop p xs) ≡ true
-unfolding all
-all-drop q zero xs h = h
-all-drop q (suc p) [] h = h
-all-drop q (suc p) (x ∷ xs) h = all-drop q p xs (and-split (q x) (all q xs) h .1)
+all-drop q p xs h = and-split (all q (take p xs)) (all q (drop p xs)) (sym (all-cut q p xs) ∙ h) .1
 
 -- The numbers of a sheet from its root on.
 pub stands : (s : List ℕ) → Formed s → drop 2 s ≡ map number-of (nodes-in s) ++ replicate (sheet-room - used-in s) 0

@@ -48,11 +48,8 @@ unfolding family-at pick
 family-11 r a b =
     rw (lt-leb r 3 (omega arith), lt-leb r 6 (omega arith), lt-leb r 8 (omega arith), lt-leb r 10 (omega arith), le-leb r 12 b)
 
-pub family-13 : family-at 13 ≡ merges
-unfolding family-at pick
-family-13 = refl
-
-in-order : (ws : List Row) (n : ℕ) → map (λ w. w .family) ws ≡ map family-at (count-from n (length ws)) → (r : ℕ) {w : Row} → getElem? ws r ≡ some w → w .family ≡ family-at (n + r)
+in-order : (ws : List Row) (n : ℕ) → map (λ w. w .family) ws ≡ map family-at (count-from n (length ws)) → (r : ℕ) {w : Row} →
+    getElem? ws r ≡ some w → w .family ≡ family-at (n + r)
 unfolding count-from
 in-order [] n h r e = none-some e
 in-order (v ∷ ws) n h zero e =
@@ -75,7 +72,9 @@ module _ {r : ℕ} {l : List ℕ} (h : Headed r l) (i j : ℕ) where
   pub family-asks : is-some (rewrite r i j (forest-in l)) ≡ is-some (change (family-at r) (h .conn) i j (h .children))
   family-asks = headed-asks h i j ∙ ap is-some family-change
 
-  pub family-turn : {out : List ℕ} (z : ℕ) → is-some (rewrite r i j (forest-in l)) ≡ true → ((g : Forest) → change (family-at r) (h .conn) i j (h .children) ≡ some g → out ≡ spell (g ⊕ h .rest) z) → length out ≡ length l → out ≡ rewritten-to r i j l
+  pub family-turn : {out : List ℕ} (z : ℕ) → is-some (rewrite r i j (forest-in l)) ≡ true →
+      ((g : Forest) → change (family-at r) (h .conn) i j (h .children) ≡ some g → out ≡ spell (g ⊕ h .rest) z) →
+      length out ≡ length l → out ≡ rewritten-to r i j l
   family-turn z t shape n =
       let w = is-some-of (change (family-at r) (h .conn) i j (h .children)) (sym family-asks ∙ t) in
       headed-turn h i j z (family-change ∙ w .1) (shape (w .0) (w .1)) n

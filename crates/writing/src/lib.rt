@@ -39,7 +39,7 @@ fn rules_in(sheet: &[u16]) -> usize
 // The length of what is written of a sheet.
 pub fn written_length(sheet: &[u16]) -> usize
     requires { ⌜ Formed (now sheet) ⌝ }
-    ensures { λ r. ⌜ r ≡ 8 + (13 * «options-in» (now (sheet .entry)) + (4 * children (getD (now (sheet .entry)) 2 0) + 2 * («used-in» (now (sheet .entry)) - 1))) ⌝ }
+    ensures { λ r. ⌜ (let l = now (sheet .entry) in r ≡ 8 + (13 * «options-in» l + (4 * children (getD l 2 0) + 2 * («used-in» l - 1)))) ⌝ }
 {
     HEAD_LENGTH + CODE_LENGTH * options_in(sheet) + 4 * rules_in(sheet) + 2 * nodes_below(sheet)
 }

@@ -70,12 +70,13 @@ loop-less c = search needs
 
 loop-again : tie.Need-loop-again Inv-loop μ-loop
 loop-again c =
-    let n = c .before .before .before .before .before .before .before .before .before .before .before in
+    let f = c .before .before .before .before .before .before in
+    let n = f .before .before .before .before .before in
     let s = n .before .before .before .args .s .now in
     let old = n .before .before .before .args .out .now in
     let k = n .loop .k in
-    let tree = c .before .before .before .before .before .before .before .before .span-of in
-    let first = c .before .before .before .before .before .before .put-word in
+    let tree = f .before .before .span-of in
+    let first = f .put-word in
     let second = c .before .before .put-word2 in
     let here = n .loop .inv .3 in
     let long = tree .ensures .0 ∙ ap (span 1) (lent-part (n .loop .at) s) in (

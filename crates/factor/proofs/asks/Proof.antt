@@ -1,11 +1,10 @@
 -- `factor::asks` meets its contract, test by test.
 use mathlib.Core.Path.{_≡_, sym, ap, _∙_}
-use Prim.Native.Nat.{_-_}
 use native.Mathlib.Omega.{arith}
 use borrow.Author.Needs.{needs}
 use lib.Dec.{leb}
-use lib.ListN.{length, getD, take, drop, length-drop}
-use Rattle.lists.proofs.Lent.{lent-part}
+use lib.ListN.{getD, drop, length-drop}
+use Rattle.lists.proofs.Lent.{lent-part, lent-at}
 use Rattle.model.specs.Code.{kind, children}
 use Rattle.theory.specs.Spans.{child-at}
 use Rattle.theory.specs.Children.{Child, asked-child}
@@ -14,12 +13,9 @@ use Rattle.factor.proofs.Asking.{conjunction-room, conjunction-there, a
 use Rattle.factor.proofs.asks.Statement.{statement}
 use Rattle.factor.proofs.asks.Tie as tie
 
--- Child i of the group that the stretch begins with, and what is left from its place on.
+-- Child i of the group that the stretch begins with.
 child : (c : tie.Start) → Child (c .args .part .now) (c .pre .1 .0 .children) (c .args .i) (c .args .at)
 child c = asked-child (c .pre .0) (c .pre .1 .0) (c .pre .1 .1)
-
-left : (c : tie.Start) → let l = c .args .part .now in take (length l - c .args .at) (drop (c .args .at) l) ≡ drop (child-at (c .args .i) l) l
-left c = let l = c .args .part .now in lent-part (c .args .at) l ∙ ap (λ n. drop n l) (c .pre .1 .1 .1)
 
 add-if1 : tie.Need-add-if1
 add-if1 c = let k = child (c .before) in omega arith
@@ -45,7 +41,8 @@ kind-of-requires c κs = search needs
 abbrev start : tie.After-kind-of → tie.Start
 start c = c .before .before .before .before .before
 
-kinded : (c : tie.After-kind-of) → let a = start c .args in c .kind-of .result ≡ kind (getD (a .part .now) (child-at (a .i) (a .part .now)) 0)
+kinded : (c : tie.After-kind-of) → let a = start c .args in
+    c .kind-of .result ≡ kind (getD (a .part .now) (child-at (a .i) (a .part .now)) 0)
 kinded c =
     let s = start c in
     c .kind-of .ensures ∙ ap kind (c .before .wide16 .ensures .0 ∙ ap (λ n. getD (s .args .part .now) n 0) (s .pre .1 .1 .1))
@@ -78,14 +75,15 @@ unit-of-requires c κs =
     let there = conjunction-there (s .pre .0) (s .pre .1 .0) (s .args .i) (s .args .j) (s .pre .1 .1 .0) (conjunction e) in
     let room = conjunction-room (s .pre .0) (s .pre .1 .0) (s .args .i) (s .args .j) (there .1) in
     let k = child s in
-    rw (left s) ((room .0, omega (arith, length-drop (child-at (s .args .i) l) l)), room .1)
+    rw (lent-at (s .args .at) l (s .pre .1 .1 .1)) ((room .0, omega (arith, length-drop (child-at (s .args .i) l) l)), room .1)
 
 -- The literal, and the number of children.
 abbrev begun : tie.After-unit-of → tie.Start
 begun c = start (c .before .before .before)
 
-found : (c : tie.After-unit-of) → let a = begun c .args in c .unit-of .result ≡ unit-of (a .j) (drop (child-at (a .i) (a .part .now)) (a .part .now))
-found c = rw (left (begun c)) at (c .unit-of .ensures)
+found : (c : tie.After-unit-of) → let a = begun c .args in
+    c .unit-of .result ≡ unit-of (a .j) (drop (child-at (a .i) (a .part .now)) (a .part .now))
+found c = let s = begun c in rw (lent-at (s .args .at) (s .args .part .now) (s .pre .1 .1 .1)) at (c .unit-of .ensures)
 
 returns-3 : tie.Need-returns-3
 returns-3 c =

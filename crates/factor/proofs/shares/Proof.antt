@@ -25,13 +25,13 @@ is-literal-requires c κs = search needs
 literal : (c : tie.After-is-literal) → c .is-literal .result ≡ is-literal (getD (c .before .before .before .before .args .part .now) 0 0)
 literal c = c .is-literal .ensures ∙ ap is-literal (c .before .wide16 .ensures .0)
 
-kinded : (c : tie.After-kind-of) → c .kind-of .result ≡ kind (getD (c .before .before .before .before .before .before .args .part .now) 0 0)
+abbrev start : tie.After-kind-of → tie.Start
+start c = c .before .before .before .before .before .before
+
+kinded : (c : tie.After-kind-of) → c .kind-of .result ≡ kind (getD (start c .args .part .now) 0 0)
 kinded c = c .kind-of .ensures ∙ ap kind (c .before .before .before .wide16 .ensures .0)
 
-abbrev start : tie.After-children-of → tie.Start
-start c = c .before .before .before .before .before .before .before .before
-
-counted : (c : tie.After-children-of) → c .children-of .result ≡ children (getD (start c .args .part .now) 0 0)
+counted : (c : tie.After-children-of) → c .children-of .result ≡ children (getD (start (c .before .before) .args .part .now) 0 0)
 counted c = c .children-of .ensures ∙ ap children (c .before .before .before .before .before .wide16 .ensures .0)
 
 returns : tie.Need-returns
@@ -69,13 +69,13 @@ part-span-of-end c = search needs
 
 span-of-requires : tie.Need-span-of-requires
 span-of-requires c κs =
-    let l = start (c .before .before .before) .args .part .now in
+    let l = start (c .before .before .before .before .before) .args .part .now in
     omega (arith, counted (c .before .before .before), children-small (getD l 0 0), ap length (lent-part 1 l), length-drop 1 l)
 
 returns-3 : tie.Need-returns-3
 returns-3 c =
     let n = c .before .before .before .before in
-    let l = start n .args .part .now in
+    let l = start (n .before .before) .args .part .now in
     rw (counted n, lent-part 1 l) at (ap₂ ltb (c .before .before .unit-place .ensures .0) (c .span-of .ensures .0))
     ∙ sym (shares-among _ l (sym (literal (n .before .before .before .before)) ∙ n .before .before .before .if1 .left) (sym (kinded (n .before .before)) ∙ n .before .if2 .left))
 

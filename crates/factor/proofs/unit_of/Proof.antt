@@ -71,13 +71,15 @@ wide16-requires-2 c κs = search needs
 is-literal-requires : tie.Need-is-literal-requires
 is-literal-requires c κs = search needs
 
-seen : (c : tie.After-is-literal) → let a = start (c .before .before .before) .args in c .is-literal .result ≡ is-literal (getD (a .part .now) (child-at (a .j) (a .part .now)) 0)
+seen : (c : tie.After-is-literal) → let a = start (c .before .before .before) .args in
+    c .is-literal .result ≡ is-literal (getD (a .part .now) (child-at (a .j) (a .part .now)) 0)
 seen c =
     let s = c .before .before .before in
     c .is-literal .ensures
     ∙ ap is-literal (c .before .wide162 .ensures .0 ∙ ap (λ n. getD (start s .args .part .now) (1 + n) 0) (before s))
 
-found : (c : tie.Else2) → let a = start (c .before .before .before .before) .args in is-literal (getD (a .part .now) (child-at (a .j) (a .part .now)) 0) ≡ true
+found : (c : tie.Else2) → let a = start (c .before .before .before .before) .args in
+    is-literal (getD (a .part .now) (child-at (a .j) (a .part .now)) 0) ≡ true
 found c = sym (seen (c .before)) ∙ not-false (c .before .is-literal .result) (c .if2 .left)
 
 returns-2 : tie.Need-returns-2
@@ -95,7 +97,8 @@ part-unit-place-end c = search needs
 unit-place-requires : tie.Need-unit-place-requires
 unit-place-requires c κs = search needs
 
-placed : (c : tie.After-unit-place) → let a = start (c .before .before .before .before .before .before) .args in c .unit-place .result ≡ unit-place (getD (a .part .now) (child-at (a .j) (a .part .now)) 0) (a .j) (drop 1 (a .part .now))
+placed : (c : tie.After-unit-place) → let a = start (c .before .before .before .before .before .before) .args in
+    c .unit-place .result ≡ unit-place (getD (a .part .now) (child-at (a .j) (a .part .now)) 0) (a .j) (drop 1 (a .part .now))
 placed c =
     let s = c .before .before .before .before .before .before in
     rw (before s, lent-part 1 (start s .args .part .now)) at (c .unit-place .ensures .0)

@@ -1,14 +1,14 @@
--- `lift::asks` meets its contract: the number of child i says whether it is a conjunction, and the other numbers what the rule asks besides.
+-- `lift::asks` meets its contract: the number of child i says whether it is a conjunction, and the others what the rule asks besides.
 use mathlib.Core.Logic.{⊎-elim}
 use mathlib.Core.Option.{some}
 use mathlib.Core.Path.{_≡_, sym, ap, _∙_}
-use Prim.Native.Nat.{_+_, _-_}
+use Prim.Native.Nat.{_+_}
 use native.Mathlib.Omega.{arith}
 use borrow.Author.Needs.{needs}
 use borrow.Author.Tests.{eq-eqb, ne-eqb}
 use lib.Dec.{eqb}
-use lib.ListN.{length, getD, take, drop, length-drop}
-use Rattle.lists.proofs.Lent.{lent-part}
+use lib.ListN.{getD, length-drop}
+use Rattle.lists.proofs.Lent.{lent-at}
 use Rattle.model.specs.Base.{is-some}
 use Rattle.model.specs.Code.{kind, children}
 use Rattle.model.specs.Forest.{Forest, size, after, conjunction-at}
@@ -19,15 +19,13 @@ use Rattle.lift.proofs.Lifting.{asks-nothing, asks-literal, asks-others
 use Rattle.lift.proofs.asks.Statement.{statement}
 use Rattle.lift.proofs.asks.Tie as tie
 
--- Child i of the group that the stretch begins with, and what is left from its place on.
+-- Child i of the group that the stretch begins with.
 child : (c : tie.Start) → Child (c .args .part .now) (c .pre .1 .1 .0 .children) (c .args .i) (c .args .at)
 child c = asked-child (c .pre .1 .0) (c .pre .1 .1 .0) (c .pre .1 .1 .1)
 
-left : (c : tie.Start) → let l = c .args .part .now in take (length l - c .args .at) (drop (c .args .at) l) ≡ drop (child-at (c .args .i) l) l
-left c = let l = c .args .part .now in lent-part (c .args .at) l ∙ ap (λ n. drop n l) (c .pre .1 .1 .1 .1)
-
 -- Whether it is a conjunction.
-is-conjunction : (c : tie.After-kind-of) → let a = c .before .before .before .before in eqb (c .kind-of .result) 3 ≡ is-some (conjunction-at (after (a .args .i) (a .pre .1 .1 .0 .children)))
+is-conjunction : (c : tie.After-kind-of) → let a = c .before .before .before .before in
+    eqb (c .kind-of .result) 3 ≡ is-some (conjunction-at (after (a .args .i) (a .pre .1 .1 .0 .children)))
 is-conjunction c =
     let a = c .before .before .before .before in
     let l = a .args .part .now in
@@ -84,8 +82,10 @@ is-literal-child-requires c κs =
     let l = a .args .part .now in
     let g = conjunction-group (a .pre .1 .0) (a .pre .1 .1 .0) (a .args .i) (conjunction e .1) in
     let short = a .pre .1 .0 .short in
-    rw (left a)
-    ((group-long g, omega (arith, length-drop (child-at (a .args .i) l) l)), λ n. omega (arith, group-children g, child-room g (a .args .j) (omega (arith, group-children g))))
+    rw (lent-at (a .args .at) l (a .pre .1 .1 .1 .1)) (
+      (group-long g, omega (arith, length-drop (child-at (a .args .i) l) l)),
+      λ n. omega (arith, group-children g, child-room g (a .args .j) (omega (arith, group-children g))),
+    )
 
 shared-slice-read-wide16-2 : tie.Need-shared-slice-read-wide16-2
 shared-slice-read-wide16-2 c = let k = child (start (c .before .before)) in omega arith
@@ -114,7 +114,8 @@ returns-2 c =
     let e = c .before .before .before .before in
     let a = start e in
     c .is-literal-child .ensures
-    ∙ rw (left a) (asks-literal (a .pre .1 .0) (a .pre .1 .1 .0) (a .args .i) (a .args .j) (conjunction e .1) (omega arith) (omega arith))
+    ∙ rw (lent-at (a .args .at) (a .args .part .now) (a .pre .1 .1 .1 .1))
+    (asks-literal (a .pre .1 .0) (a .pre .1 .1 .0) (a .args .i) (a .args .j) (conjunction e .1) (omega arith) (omega arith))
 
 returns-3 : tie.Need-returns-3
 returns-3 c =
@@ -123,7 +124,8 @@ returns-3 c =
     let a = start (d .before) in
     c .are-others-literals .ensures
     ∙ rw (counted v)
-    (asks-others (a .pre .1 .0) (a .pre .1 .1 .0) (a .args .i) (a .args .j) (conjunction (d .before) .1) (last d) (omega arith) (child a .there))
+    (asks-others (a .pre .1 .0) (a .pre .1 .1 .0) (a .args .i) (a .args .j) (conjunction (d .before) .1) (last d) (omega arith)
+    (child a .there))
 
 returns-4 : tie.Need-returns-4
 returns-4 c =

@@ -2,12 +2,12 @@
 use mathlib.Core.Logic.{⊎-elim}
 use mathlib.Core.Option.{some}
 use mathlib.Core.Path.{_≡_, ap, _∙_}
-use Prim.Native.Nat.{ℕ, suc, _+_, _-_, _<_}
+use Prim.Native.Nat.{ℕ, suc, _+_, _<_}
 use native.Mathlib.Omega.{arith}
 use borrow.Author.Needs.{needs}
-use lib.ListN.{length, getD, take, drop, set, length-set, length-drop}
+use lib.ListN.{length, getD, drop, set, length-set, length-drop}
 use lib.Seq.{getD-set-other}
-use Rattle.lists.proofs.Lent.{lent-part}
+use Rattle.lists.proofs.Lent.{lent-at}
 use Rattle.model.specs.Code.{children}
 use Rattle.model.specs.Forest.{and, Forest, _⊕_, size, after, conjunction-at}
 use Rattle.theory.specs.Numbers.{children-small}
@@ -25,20 +25,20 @@ conjunction : (c : tie.Start) → (m : Forest) × (conjunction-at (after (c .arg
 conjunction c =
     conjunction-there (c .pre .1 .0) (c .pre .1 .1 .0) (c .args .i) (c .args .j) (c .pre .1 .1 .1) (c .pre .0 .0) (c .pre .0 .1)
 
-inner : (c : tie.Start) → let h = c .pre .1 .1 .0 in Group (drop (child-at (c .args .i) (c .args .part .now)) (c .args .part .now)) and (conjunction c .0) (after (suc (c .args .i)) (h .children) ⊕ h .rest) (h .zeros)
+inner : (c : tie.Start) → let h = c .pre .1 .1 .0 in
+    Group (drop (child-at (c .args .i) (c .args .part .now)) (c .args .part .now)) and (conjunction c .0)
+    (after (suc (c .args .i)) (h .children) ⊕ h .rest) (h .zeros)
 inner c = conjunction-group (c .pre .1 .0) (c .pre .1 .1 .0) (c .args .i) (conjunction c .1)
 
--- Where it begins, what is left from there on, and the number that stands there.
+-- Where it begins, and the number that stands there.
 abbrev start : tie.After-child-at → tie.Start
 start c = c .before .before .before
 
 inside : (c : tie.After-child-at) → c .child-at .result < length (start c .args .part .now)
 inside c = let k = child (start c) in omega arith
 
-left : (c : tie.After-child-at) → let l = start c .args .part .now in take (length l - c .child-at .result) (drop (c .child-at .result) l) ≡ drop (child-at (start c .args .i) l) l
-left c = let l = start c .args .part .now in lent-part (c .child-at .result) l ∙ ap (λ n. drop n l) (c .child-at .ensures .0)
-
-read : (c : tie.After-child-at) (v : ℕ) → let l = start c .args .part .now in getD (set l 0 v) (c .child-at .result) 0 ≡ getD l (child-at (start c .args .i) l) 0
+read : (c : tie.After-child-at) (v : ℕ) → let l = start c .args .part .now in
+    getD (set l 0 v) (c .child-at .result) 0 ≡ getD l (child-at (start c .args .i) l) 0
 read c v =
     let l = start c .args .part .now in
     getD-set-other l 0 (c .child-at .result) v 0 (λ e. omega arith) ∙ ap (λ n. getD l n 0) (c .child-at .ensures .0)
@@ -47,13 +47,17 @@ read c v =
 literal : (c : tie.Then2) → let a = start (c .before .before) in a .args .j < size (conjunction a .0)
 literal c =
     let a = start (c .before .before) in
-    inner-within (a .pre .1 .0) (a .pre .1 .1 .0) (a .args .i) (a .args .j) (a .pre .1 .1 .1) (a .pre .0 .0) (omega arith) (conjunction a .1)
+    inner-within (a .pre .1 .0) (a .pre .1 .1 .0) (a .args .i) (a .args .j) (a .pre .1 .1 .1) (a .pre .0 .0) (omega arith)
+    (conjunction a .1)
 
 abbrev begun : tie.After-child-at2 → tie.After-child-at
 begun c = c .before .before .before .before .before
 
-found : (c : tie.After-child-at2) → let a = start (begun c) in let l = a .args .part .now in c .child-at2 .result ≡ child-at (a .args .j) (drop (child-at (a .args .i) l) l)
-found c = rw (left (begun c)) at (c .child-at2 .ensures .0)
+found : (c : tie.After-child-at2) → let a = start (begun c) in let l = a .args .part .now in
+    c .child-at2 .result ≡ child-at (a .args .j) (drop (child-at (a .args .i) l) l)
+found c =
+    let e = begun c in
+    rw (lent-at (e .child-at .result) (start e .args .part .now) (e .child-at .ensures .0)) at (c .child-at2 .ensures .0)
 
 ended : (c : tie.After-child-at2) → begun c .child-at .result + c .child-at2 .result < length (start (begun c) .args .part .now)
 ended c =
@@ -80,11 +84,14 @@ part-child-at-end c = search needs
 child-at-requires-2 : tie.Need-child-at-requires-2
 child-at-requires-2 c κs =
     let e = c .before .before in
-    let a = start (e .before .before) in
+    let d = e .before .before in
+    let a = start d in
     let l = a .args .part .now in
     let g = inner a in
     let short = a .pre .1 .0 .short in
-    rw (left (e .before .before)) (group-long g, omega (arith, length-drop (child-at (a .args .i) l) l), omega (arith, literal e, group-few g))
+    let long = group-long g in
+    rw (lent-at (d .child-at .result) l (d .child-at .ensures .0))
+    (omega (arith, length-drop (child-at (a .args .i) l) l, literal e, group-few g))
 
 add-from : tie.Need-add-from
 add-from c = omega (arith, ended c)
@@ -142,7 +149,8 @@ children-of-requires c κs = search needs
 abbrev joined : tie.After-children-of → tie.Joined1
 joined c = c .before .before .before .before .before
 
-counted : (c : tie.After-children-of) → let a = start (joined c .before) in let l = a .args .part .now in c .children-of .result ≡ children (getD l (child-at (a .args .i) l) 0)
+counted : (c : tie.After-children-of) → let a = start (joined c .before) in let l = a .args .part .now in
+    c .children-of .result ≡ children (getD l (child-at (a .args .i) l) 0)
 counted c =
     let e = joined c .before in
     let l = start e .args .part .now in

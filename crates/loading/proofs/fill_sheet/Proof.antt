@@ -44,10 +44,10 @@ put-three-requires : tie.Need-put-three-requires
 put-three-requires c κs = omega (arith, known (c .before .before .before .before .before .before))
 
 sub-fill-numbers : tie.Need-sub-fill-numbers
-sub-fill-numbers c = omega (arith, known (c .before .before .before .before .before .before .before .before .before))
+sub-fill-numbers c = let n = c .before .before .before .before in omega (arith, known (n .before .before .before .before .before))
 
 part-fill-numbers-start : tie.Need-part-fill-numbers-start
-part-fill-numbers-start c = omega (arith, known (c .before .before .before .before .before .before .before .before .before))
+part-fill-numbers-start c = let n = c .before .before .before .before in omega (arith, known (n .before .before .before .before .before))
 
 part-fill-numbers-end : tie.Need-part-fill-numbers-end
 part-fill-numbers-end c = search needs
@@ -62,18 +62,21 @@ part-fill-numbers-end-2 : tie.Need-part-fill-numbers-end-2
 part-fill-numbers-end-2 c = search needs
 
 fill-numbers-requires : tie.Need-fill-numbers-requires
-fill-numbers-requires c κs = simp (length-take, length-drop) (omega (arith, known (c .before .before .before .before .before .before .before .before .before .before .before)))
+fill-numbers-requires c κs =
+    let n = c .before .before .before .before .before .before in
+    simp (length-take, length-drop) (omega (arith, known (n .before .before .before .before .before)))
 
 same-length : tie.Need-same-length
 same-length c = search needs
 
 returns : tie.Need-returns
 returns c =
-    let n = c .before .before .before .before .before .before .before .before .before in
+    let p = c .before .before .before .before .before .before .before in
+    let n = p .before .before in
     let start = n .before .before .before .before .before in
     let b = start .args .book .now in
     let old = start .args .target .now in
-    let three = c .before .before .before .before .before .before .before .put-three in
+    let three = p .put-three in
     let fill = c .before .before .fill-numbers in
     let t = n .word-at3 in
     let m = n .before .word-at2 in

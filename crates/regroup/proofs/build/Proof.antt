@@ -13,7 +13,8 @@ use Rattle.regroup.proofs.build.Statement.{statement}
 use Rattle.regroup.proofs.build.Tie as tie
 
 -- There is room for all of it, and the list that is written keeps its length.
-room : (c : tie.Start) → let l = drop 1 (c .args .part .now) in 4 + length (gathered false (c .args .literal) (c .args .trees) l) + length (gathered true (c .args .literal) (c .args .trees) l) ≤ length (c .args .out .now)
+room : (c : tie.Start) → let l = drop 1 (c .args .part .now) in
+    4 + length (gathered false (c .args .literal) (c .args .trees) l) + length (gathered true (c .args .literal) (c .args .trees) l) ≤ length (c .args .out .now)
 unfolding factored
 room c =
     let a = c .args in
@@ -47,11 +48,13 @@ copy-trees-requires c κs =
     let l = s .args .part .now in
     rw (lent-part 1 l) (omega (arith, length-drop 1 l, s .pre .0), (s .pre .1 .1 .0, simp length-set (omega (arith, room s))))
 
-written : (c : tie.After-copy-trees) → length (c .copy-trees .last .0) ≡ length (c .before .before .before .before .before .before .args .out .now)
+written : (c : tie.After-copy-trees) →
+    length (c .copy-trees .last .0) ≡ length (c .before .before .before .before .before .before .args .out .now)
 written c = c .copy-trees .kept .0 ∙ simp length-set
 
 -- The room that is left after the literals.
-left : (c : tie.After-copy-trees) → let a = c .before .before .before .before .before .before .args in c .copy-trees .result + 3 + length (gathered true (a .literal) (a .trees) (drop 1 (a .part .now))) ≤ length (c .copy-trees .last .0)
+left : (c : tie.After-copy-trees) → let a = c .before .before .before .before .before .before .args in
+    c .copy-trees .result + 3 + length (gathered true (a .literal) (a .trees) (drop 1 (a .part .now))) ≤ length (c .copy-trees .last .0)
 left c =
     let s = c .before .before .before .before .before .before in
     let end = rw (lent-part 1 (s .args .part .now)) at (c .copy-trees .ensures .end) in
@@ -98,9 +101,10 @@ part-copy-trees-end-2 c = search needs
 
 copy-trees-requires-2 : tie.Need-copy-trees-requires-2
 copy-trees-requires-2 c κs =
-    let s = c .before .before .before .before .before .before .before .before .before .before in
+    let d = c .before .before .before .before in
+    let s = d .before .before .before .before .before .before in
     let l = s .args .part .now in
-    rw (lent-part 1 l) (omega (arith, length-drop 1 l, s .pre .0), (s .pre .1 .1 .0, simp length-set (omega (arith, left (c .before .before .before .before), written (c .before .before .before .before)))))
+    rw (lent-part 1 l) (omega (arith, length-drop 1 l, s .pre .0), (s .pre .1 .1 .0, simp length-set (omega (arith, left d, written d))))
 
 same-length : tie.Need-same-length
 same-length c = c .before .before .copy-trees2 .kept .0 ∙ simp length-set (written (c .before .before .before .before .before .before .before))
@@ -108,9 +112,9 @@ same-length c = c .before .before .copy-trees2 .kept .0 ∙ simp length-set (wri
 returns : tie.Need-returns
 unfolding factored
 returns c =
-    let s = c .before .before .before .before .before .before .before .before .before .before .before .before .before in
-    let l = s .args .part .now in
     let d = c .before .before .before .before .before .before .before in
+    let s = d .before .before .before .before .before .before in
+    let l = s .args .part .now in
     let first = appended-one (getD l 0 0 + 1 - s .args .groups) 0 (s .args .out .now) (omega (arith, room s)) in
     let units = rw (lent-part 1 l) at (d .copy-trees .ensures) in
     let three = appended-three 12290 (s .args .literal) (16384 + s .args .groups) (d .copy-trees .result) (d .copy-trees .last .0) (omega (arith, left d)) in

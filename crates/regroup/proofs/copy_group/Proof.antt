@@ -27,7 +27,8 @@ children-of-requires : tie.Need-children-of-requires
 children-of-requires c κs = search needs
 
 -- The number of children.
-counted : (c : tie.After-children-of) → c .children-of .result ≡ children (getD (c .before .before .before .before .before .args .part .now) 0 0)
+counted : (c : tie.After-children-of) →
+    c .children-of .result ≡ children (getD (c .before .before .before .before .before .args .part .now) 0 0)
 counted c = c .children-of .ensures ∙ ap children (c .before .wide16 .ensures .0)
 
 sub-unit-place : tie.Need-sub-unit-place
@@ -51,8 +52,11 @@ child-at-requires c κs =
     (a .pre .0 .0, a .pre .0 .1, omega (arith, counted (c .before .before), children-small (getD (a .args .part .now) 0 0)))
 
 -- The numbers before the literal, and after it.
+abbrev read : tie.After-child-at → tie.After-children-of
+read c = c .before .before .before
+
 abbrev start : tie.After-child-at → tie.Start
-start c = c .before .before .before .before .before .before .before .before
+start c = read c .before .before .before .before .before
 
 abbrev before-it : tie.After-child-at → List ℕ
 before-it c = take (1 + c .before .unit-place .result - 1) (drop 1 (start c .args .part .now))
@@ -62,10 +66,12 @@ after-it c =
     let p = 1 + c .before .unit-place .result + 1 in
     take (c .child-at .result - p) (drop p (start c .args .part .now))
 
-found : (c : tie.After-unit-place) → let a = c .before .before .before .before .before .before .before .args in c .unit-place .result ≡ unit-place (a .literal) (c .before .before .children-of .result) (drop 1 (a .part .now))
+found : (c : tie.After-unit-place) → let a = c .before .before .before .before .before .before .before .args in
+    c .unit-place .result ≡ unit-place (a .literal) (c .before .before .children-of .result) (drop 1 (a .part .now))
 found c = rw (lent-part 1 (c .before .before .before .before .before .before .before .args .part .now)) at (c .unit-place .ensures .0)
 
-parts : (c : tie.After-child-at) → let a = start c .args in less-unit (a .literal) (a .part .now) ≡ (getD (a .part .now) 0 0 - 1) ∷ (before-it c ++ after-it c)
+parts : (c : tie.After-child-at) → let a = start c .args in
+    less-unit (a .literal) (a .part .now) ≡ (getD (a .part .now) 0 0 - 1) ∷ (before-it c ++ after-it c)
 parts c =
     let a = start c .args in
     less-unit-parts (a .literal) (a .part .now) (counted (c .before .before .before)) (found (c .before)) (c .child-at .ensures .0)
@@ -130,18 +136,20 @@ part-copy-end-2 c = search needs
 
 copy-requires-2 : tie.Need-copy-requires-2
 copy-requires-2 c κs =
-    let d = c .before .before .before .before .before .before .before .before in
+    let e = c .before .before .before .before in
+    let d = e .before .before .before .before in
     let a = start d .args in
-    omega (arith, room d, c .before .before .before .before .copy .ensures .end, c .before .before .before .before .copy .kept .0, length-set (a .out .now) (a .at) (getD (a .part .now) 0 0 - 1))
+    omega (arith, room d, e .copy .ensures .end, e .copy .kept .0, length-set (a .out .now) (a .at) (getD (a .part .now) 0 0 - 1))
 
 same-length : tie.Need-same-length
 same-length c = c .before .before .copy2 .kept .0 ∙ c .before .before .before .before .before .before .before .copy .kept .0 ∙ simp length-set
 
 returns : tie.Need-returns
 returns c =
-    let d = c .before .before .before .before .before .before .before .before .before .before .before in
+    let e = c .before .before .before .before .before .before .before in
+    let d = e .before .before .before .before in
     let a = start d .args in
-    appended-as (sym (parts d)) (appended-both (appended-one _ (a .at) (a .out .now) (omega (arith, room d))) (appended-both (c .before .before .before .before .before .before .before .copy .ensures) (c .before .before .copy2 .ensures)))
+    appended-as (sym (parts d)) (appended-both (appended-one _ (a .at) (a .out .now) (omega (arith, room d))) (appended-both (e .copy .ensures) (c .before .before .copy2 .ensures)))
 
 pub copy-group-spec : {M : Type 1} → statement M
 copy-group-spec =

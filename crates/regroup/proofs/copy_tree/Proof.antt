@@ -23,7 +23,8 @@ is-literal-requires : tie.Need-is-literal-requires
 is-literal-requires c κs = search needs
 
 -- What is read of the first number.
-literal : (c : tie.After-is-literal) → c .is-literal .result ≡ is-literal (getD (c .before .before .before .before .before .args .part .now) 0 0)
+literal : (c : tie.After-is-literal) →
+    c .is-literal .result ≡ is-literal (getD (c .before .before .before .before .before .args .part .now) 0 0)
 literal c = c .is-literal .ensures ∙ ap is-literal (c .before .wide16 .ensures .0)
 
 returns : tie.Need-returns
@@ -33,13 +34,15 @@ returns c =
     appended-as (sym (kept-is (a .groups) (a .literal) (a .part .now) (sym (literal (c .before .before)) ∙ c .before .if1 .taken) (c .if2 .taken))) (appended-none _ _)
 
 -- What is kept, in the two cases where there is something.
-unit : (c : tie.Else2) → let a = c .before .before .before .before .before .before .before .args in kept (a .groups) (a .literal) (a .part .now) ≡ getD (a .part .now) 0 0 ∷ []
+unit : (c : tie.Else2) → let a = c .before .before .before .before .before .before .before .args in
+    kept (a .groups) (a .literal) (a .part .now) ≡ getD (a .part .now) 0 0 ∷ []
 unfolding pick
 unit c =
     let a = c .before .before .before .before .before .before .before .args in
     kept-is (a .groups) (a .literal) (a .part .now) (sym (literal (c .before .before)) ∙ c .before .if1 .taken) (c .if2 .left)
 
-group : (c : tie.Then3) → let a = c .before .before .before .before .before .before .before .args in kept (a .groups) (a .literal) (a .part .now) ≡ less-unit (a .literal) (a .part .now)
+group : (c : tie.Then3) → let a = c .before .before .before .before .before .before .before .args in
+    kept (a .groups) (a .literal) (a .part .now) ≡ less-unit (a .literal) (a .part .now)
 unfolding pick
 group c =
     let a = c .before .before .before .before .before .before .before .args in
@@ -64,8 +67,9 @@ returns-2 c =
 
 copy-group-requires : tie.Need-copy-group-requires
 copy-group-requires c κs =
-    let s = c .before .before .before .before .before .before .before .before in
-    let w = shares-group (s .args .literal) (s .args .part .now) (s .pre .1 .0) (sym (literal (c .before .before .before)) ∙ c .before .before .if1 .left) in
+    let e = c .before .before .before in
+    let s = e .before .before .before .before .before in
+    let w = shares-group (s .args .literal) (s .args .part .now) (s .pre .1 .0) (sym (literal e) ∙ c .before .before .if1 .left) in
     (s .pre .0, (w .0, (w .1, rw (group (c .before)) at (s .pre .1 .1))))
 
 same-length-2 : tie.Need-same-length-2

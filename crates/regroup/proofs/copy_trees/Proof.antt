@@ -69,10 +69,11 @@ loop-less c = search needs
 
 loop-again : tie.Need-loop-again Inv-loop μ-loop
 loop-again c =
-    let n = c .before .before .before .before .before .before .before .before .before in
+    let e = c .before .before .before .before in
+    let n = e .before .before .before .before .before in
     let l = n .before .before .before .args .part .now in
     let from = n .loop .from in
-    let call = c .before .before .before .before .copy-tree in
+    let call = e .copy-tree in
     let inside : from < length l = omega (arith, ltb-true) in
     let some : 0 < n .loop .left = omega arith in
     let far : c .span-of .result ≡ span 1 (drop from l) = rw (lent-part from l) at (c .span-of .ensures .0) in

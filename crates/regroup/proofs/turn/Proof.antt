@@ -24,7 +24,8 @@ write-step-requires c κs =
 applies : (c : tie.Start) → Applied (c .args .i) (c .args .j) (c .pre .1 .0 .children)
 applies c = rule-found (c .pre .0) (c .pre .1 .0) (c .args .i) (c .args .j) (c .pre .1 .1)
 
-room : (c : tie.After-write-step) → let l = c .before .before .before .before .args .part .now in (c .write-step .result ≤ length l) × (length l ≤ sheet-room)
+room : (c : tie.After-write-step) → let l = c .before .before .before .before .args .part .now in
+    (c .write-step .result ≤ length l) × (length l ≤ sheet-room)
 room c =
     let s = c .before .before .before .before in
     (omega (arith, c .write-step .ensures .end, step-room (s .pre .0) (s .pre .1 .0) (applies s)), s .pre .0 .short)
@@ -52,13 +53,15 @@ same-length c = search needs
 
 returns : tie.Need-returns
 returns c =
-    let d = c .before .before .before .before .before .before .before .before .before .before in
+    let e = c .before .before .before .before .before .before in
+    let d = e .before .before .before .before in
     let s = d .before .before .before .before in
-    let copied = c .before .before .before .before .before .before .copy in
+    let copied = e .copy in
     let total : copied .result ≡ d .write-step .result = omega (arith, copied .ensures .end, taken d) in
     let front : take (d .write-step .result) (copied .last .0) ≡ step-after (s .args .i) (s .args .j) (s .args .part .now) =
     rw total at (copied .ensures .front) ∙ d .write-step .ensures .front in
-    turned (s .pre .0) (s .pre .1 .0) (applies s) (length (copied .last .0) - d .write-step .result) (s .pre .1 .1) front (c .before .before .clear-from .ensures) (same-length c)
+    turned (s .pre .0) (s .pre .1 .0) (applies s) (length (copied .last .0) - d .write-step .result) (s .pre .1 .1) front
+    (c .before .before .clear-from .ensures) (same-length c)
 
 pub turn-spec : {M : Type 1} → statement M
 turn-spec =

@@ -28,8 +28,11 @@ children-of-requires : tie.Need-children-of-requires
 children-of-requires c κs = search needs
 
 -- The number of children, and where the last one ends.
+abbrev written : tie.After-children-of → tie.After-write-tree
+written c = c .before .before .before .before .before
+
 abbrev start : tie.After-children-of → tie.Start
-start c = c .before .before .before .before .before .before .before .before .before
+start c = written c .before .before .before .before
 
 counted : (c : tie.After-children-of) → c .children-of .result ≡ children (getD (start c .args .part .now) 0 0)
 counted c = c .children-of .ensures ∙ ap children (c .before .wide16 .ensures .0)
@@ -61,7 +64,14 @@ part-copy-start c =
 part-copy-end : tie.Need-part-copy-end
 part-copy-end c =
     let s = start (c .before .before .before) in
-    omega (arith, ended (c .before .before), c .before .live-count .ensures, ends-live (s .pre .0) (s .pre .1 .0), live-short (s .args .part .now))
+    omega (
+      arith,
+      ended (c .before .before),
+      c .before .live-count .ensures,
+      ends-live (s .pre .0) (s .pre .1 .0),
+      live-short
+          (s .args .part .now),
+    )
 
 copy-requires : tie.Need-copy-requires
 unfolding step-after
@@ -71,7 +81,7 @@ copy-requires c κs =
     let a = s .args in
     let l = a .part .now in
     let e = child-at (children (getD l 0 0)) l in
-    let w = d .before .before .before .before .before .before .write-tree in
+    let w = written (d .before) .write-tree in
     let room = step-room (s .pre .0) (s .pre .1 .0) (rule-found (s .pre .0) (s .pre .1 .0) (a .i) (a .j) (s .pre .1 .1 .0)) in
     rw (ended d, c .before .before .live-count .ensures)
     (omega (arith, room, length-append (tree-after (a .i) (a .j) l) (take (length (live l) - e) (drop e l)), w .ensures .end, w .kept .0, s .pre .1 .1 .1))
@@ -84,7 +94,7 @@ unfolding step-after
 returns c =
     let d = c .before .before .before .before .before .before in
     rw (ended d, c .before .before .before .before .before .live-count .ensures)
-    at (appended-both (d .before .before .before .before .before .before .write-tree .ensures) (c .before .before .copy .ensures))
+    at (appended-both (written (d .before) .write-tree .ensures) (c .before .before .copy .ensures))
 
 pub write-step-spec : {M : Type 1} → statement M
 write-step-spec =

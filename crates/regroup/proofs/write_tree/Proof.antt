@@ -1,10 +1,9 @@
 -- `regroup::write_tree` meets its contract: the literal and the number of groups are found, and the tree is built of them.
 use mathlib.Core.Path.{_≡_, ap, _∙_}
-use Prim.Native.Nat.{_-_}
 use native.Mathlib.Omega.{arith}
 use borrow.Author.Needs.{needs}
-use lib.ListN.{length, getD, take, drop, length-drop}
-use Rattle.lists.proofs.Lent.{lent-part}
+use lib.ListN.{getD, drop, length-drop}
+use Rattle.lists.proofs.Lent.{lent-part, lent-at}
 use Rattle.model.specs.Code.{children}
 use Rattle.theory.specs.Spans.{child-at}
 use Rattle.theory.specs.Children.{Child, applied-child}
@@ -31,17 +30,13 @@ wide16-requires c κs = search needs
 children-of-requires : tie.Need-children-of-requires
 children-of-requires c κs = search needs
 
--- The number of children, what is left from child i on, the literal, and the number of groups.
-counted : (c : tie.After-children-of) → c .children-of .result ≡ children (getD (c .before .before .before .before .before .args .part .now) 0 0)
+-- The number of children, the literal, and the number of groups.
+counted : (c : tie.After-children-of) →
+    c .children-of .result ≡ children (getD (c .before .before .before .before .before .args .part .now) 0 0)
 counted c = c .children-of .ensures ∙ ap children (c .before .wide16 .ensures .0)
 
 child-at-requires : tie.Need-child-at-requires
 child-at-requires c κs = let k = child (c .before .before .before .before .before) in omega arith
-
-left : (c : tie.After-child-at) → let a = c .before .before .before .before .before .before .args in take (length (a .part .now) - c .child-at .result) (drop (c .child-at .result) (a .part .now)) ≡ drop (child-at (a .i) (a .part .now)) (a .part .now)
-left c =
-    let l = c .before .before .before .before .before .before .args .part .now in
-    lent-part (c .child-at .result) l ∙ ap (λ n. drop n l) (c .child-at .ensures .0)
 
 mul-unit-of : tie.Need-mul-unit-of
 mul-unit-of c = search needs
@@ -60,10 +55,16 @@ unit-of-requires c κs =
     let s = c .before .before .before .before .before .before .before in
     let l = s .args .part .now in
     let room = conjunction-room (s .pre .0) (s .pre .1 .0) (s .args .i) (s .args .j) (applies s .conjunction) in
-    rw (left (c .before)) ((room .0, omega (arith, length-drop (child-at (s .args .i) l) l, s .pre .0 .short)), room .1)
+    let child-there = c .before .child-at in
+    rw (lent-at (child-there .result) l (child-there .ensures .0)) ((room .0, omega (arith, length-drop (child-at (s .args .i) l) l, s .pre .0 .short)), room .1)
 
-found : (c : tie.After-unit-of) → let n = c .before .before .before in let a = n .before .before .before .before .before .args in c .unit-of .result ≡ unit-of (a .j) (drop (child-at (a .i) (a .part .now)) (a .part .now))
-found c = rw (left (c .before .before)) at (c .unit-of .ensures)
+found : (c : tie.After-unit-of) → let n = c .before .before .before in
+    let a = n .before .before .before .before .before .args in
+    c .unit-of .result ≡ unit-of (a .j) (drop (child-at (a .i) (a .part .now)) (a .part .now))
+found c =
+    let d = c .before .before in
+    let l = d .before .before .before .before .before .before .args .part .now in
+    rw (lent-at (d .child-at .result) l (d .child-at .ensures .0)) at (c .unit-of .ensures)
 
 sub-sharing-groups : tie.Need-sub-sharing-groups
 sub-sharing-groups c = search needs
@@ -82,7 +83,9 @@ sharing-groups-requires c κs =
     let k = child s in
     rw (lent-part 1 l) (omega (arith, length-drop 1 l), omega (arith, counted n))
 
-grouped : (c : tie.After-sharing-groups) → let u = c .before .before in let n = u .before .before .before in let a = n .before .before .before .before .before .args in c .sharing-groups .result ≡ sharing (u .unit-of .result) (n .children-of .result) (drop 1 (a .part .now))
+grouped : (c : tie.After-sharing-groups) → let u = c .before .before in let n = u .before .before .before in
+    let a = n .before .before .before .before .before .args in
+    c .sharing-groups .result ≡ sharing (u .unit-of .result) (n .children-of .result) (drop 1 (a .part .now))
 grouped c =
     let n = c .before .before .before .before .before in
     rw (lent-part 1 (n .before .before .before .before .before .args .part .now)) at (c .sharing-groups .ensures)
@@ -96,8 +99,11 @@ build-requires c κs =
     let s = n .before .before .before .before .before in
     let p = applies s in
     let k = child s in
+    let h = s .pre .1 .0 in
+    let tree = tree-room (s .pre .0) h p in
+    let whole = step-room (s .pre .0) h p in
     rw (grouped d, found u, counted n)
-    ((omega arith, omega arith), (groups-few (s .pre .0) (s .pre .1 .0) p, (all-shared (s .pre .0) (s .pre .1 .0) p, omega (arith, tree-room (s .pre .0) (s .pre .1 .0) p, step-room (s .pre .0) (s .pre .1 .0) p, s .pre .1 .1 .1))))
+    ((omega arith, omega arith), (groups-few (s .pre .0) h p, (all-shared (s .pre .0) h p, omega (arith, s .pre .1 .1 .1))))
 
 same-length : tie.Need-same-length
 same-length c = search needs

@@ -50,8 +50,9 @@ child-at-requires c κs =
 
 asks-requires : tie.Need-asks-requires
 asks-requires c κs =
-    let a = c .before .before .before .before .before .before .before .before in
-    ((a .pre .0 .0, a .pre .0 .1), (a .pre .1, (right (c .before .before .before .before .before), (omega (arith, counted (c .before .before)), c .child-at .ensures .0))))
+    let e = c .before .before .before .before .before in
+    let a = e .before .before .before in
+    ((a .pre .0 .0, a .pre .0 .1), (a .pre .1, (right e, (omega (arith, counted (c .before .before)), c .child-at .ensures .0))))
 
 returns-3 : tie.Need-returns-3
 returns-3 c = search needs

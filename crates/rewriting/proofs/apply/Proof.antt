@@ -1,4 +1,4 @@
--- `rewriting::apply` meets its contract: the stretch from the place on is lent and rewritten, then the live numbers are counted where their number may change.
+-- `rewriting::apply` meets its contract: the stretch from the place on is rewritten, and the live numbers are counted where it is due.
 use mathlib.Core.Path.{_≡_, sym, ap, _∙_}
 use Prim.Native.Nat.{_+_, _-_}
 use native.Mathlib.Omega.{arith}
@@ -16,7 +16,8 @@ known : (c : tie.Start) → let a = c .args in Ready (a .sheet .now) (a .rule) (
 known c = let a = c .args in ready (a .sheet .now) (c .pre .0) (a .rule) (a .place) (a .i) (a .j) (c .pre .1)
 
 -- The sheet with the rewritten stretch is as long as before.
-long : (c : tie.After-turn) → let a = c .before .before .before .args in length (putMid (2 + a .place) (length (a .sheet .now) - (2 + a .place)) (a .sheet .now) (c .turn .last .0)) ≡ sheet-length
+long : (c : tie.After-turn) → let a = c .before .before .before .args in
+    length (putMid (2 + a .place) (length (a .sheet .now) - (2 + a .place)) (a .sheet .now) (c .turn .last .0)) ≡ sheet-length
 long c =
     let b = c .before .before .before in
     let a = b .args in
@@ -39,8 +40,9 @@ part-turn-end c = search needs
 
 turn-requires : tie.Need-turn-requires
 turn-requires c κs =
+    let a = c .before .before .args in
     let k = known (c .before .before) in
-    rw (k .lent) ((k .low, k .high), (k .stretch, (k .head, k .applied)))
+    rw (lent-part (2 + a .place) (a .sheet .now)) ((k .low, k .high), (k .stretch, (k .head, k .applied)))
 
 sub-live-count : tie.Need-sub-live-count
 sub-live-count c = omega (arith, long (c .before .before .before))

@@ -1,4 +1,4 @@
--- `simplify::asks` meets its contract: the number at the place of child i is the constant that the rule looks for, or the head says how many children there are.
+-- `simplify::asks` meets its contract: the number of child i is the constant that the rule looks for, or the head counts one child.
 use mathlib.Core.Logic.{⊎-elim}
 use mathlib.Core.Path.{ap, _∙_}
 use Prim.Native.Nat.{_≤_}

@@ -17,20 +17,21 @@ child : (c : tie.Start) → let l = c .args .part .now in Child l (c .pre .1 .1 
 child c = applied-child (c .pre .1 .0) (c .pre .1 .1 .0) (c .args .j) (c .pre .1 .1 .1)
 
 -- The number of the children, where the last one ends, and that it ends past the place of the constant.
-counted : (c : tie.After-children-of) → c .children-of .result ≡ size (c .before .before .before .before .before .before .pre .1 .1 .0 .children)
-counted c =
-    c .children-of .ensures
-    ∙ ap children (c .before .wide16 .ensures .0)
-    ∙ child (c .before .before .before .before .before .before) .counted
+abbrev start : tie.After-children-of → tie.Start
+start c = c .before .before .before .before .before .before
 
-ended : (c : tie.After-child-at) → let a = c .before .before .before .before .before .before .before .before in c .child-at .result ≡ child-at (size (a .pre .1 .1 .0 .children)) (a .args .part .now)
+counted : (c : tie.After-children-of) → c .children-of .result ≡ size (start c .pre .1 .1 .0 .children)
+counted c = c .children-of .ensures ∙ ap children (c .before .wide16 .ensures .0) ∙ child (start c) .counted
+
+ended : (c : tie.After-child-at) → let a = start (c .before .before) in
+    c .child-at .result ≡ child-at (size (a .pre .1 .1 .0 .children)) (a .args .part .now)
 ended c =
     let n = c .before .before in
-    let l = n .before .before .before .before .before .before .args .part .now in
+    let l = start n .args .part .now in
     c .child-at .ensures .0 ∙ ap (λ m. child-at m l) (counted n)
 
 late : (c : tie.After-child-at) → 2 ≤ c .child-at .result
-late c = let k = child (c .before .before .before .before .before .before .before .before) in omega (arith, ended c)
+late c = let k = child (start (c .before .before)) in omega (arith, ended c)
 
 slice-read-head : tie.Need-slice-read-head
 slice-read-head c = let k = child (c .before .before .before .before) in omega arith
@@ -43,7 +44,7 @@ children-of-requires c κs = search needs
 
 child-at-requires : tie.Need-child-at-requires
 child-at-requires c κs =
-    let k = child (c .before .before .before .before .before .before .before) in omega (arith, counted (c .before))
+    let k = child (start (c .before)) in omega (arith, counted (c .before))
 
 sub-part : tie.Need-sub-part
 sub-part c = search needs
@@ -97,7 +98,7 @@ returns c =
     let d = c .before .before in
     let f = d .before .before in
     let e = f .before in
-    let a = e .before .before .before .before .before .before .before .before in
+    let a = start (e .before .before) in
     turns-absorb (a .pre .1 .0) (a .pre .1 .1 .0) (a .args .i) (a .args .j) (a .pre .1 .1 .1) (same-length c) (omega arith)
     (rw (ended e, f .constant-for .ensures) at (d .remove .ensures))
 
@@ -110,7 +111,8 @@ returns-2 c =
     let e = d .before .before .before in
     let a = e .before .before .before .before .before .before in
     let k = child a in
-    turns-omit (a .pre .1 .0) (a .pre .1 .1 .0) (a .args .i) (a .args .j) (a .pre .1 .1 .1) (same-length-2 c) (omega arith) (omega arith) _ (omega arith)
+    turns-omit (a .pre .1 .0) (a .pre .1 .1 .0) (a .args .i) (a .args .j) (a .pre .1 .1 .1) (same-length-2 c) (omega arith)
+    (omega arith) _ (omega arith)
     (rw (e .child-at2 .ensures .0) at (d .remove2 .ensures))
 
 same-length-3 : tie.Need-same-length-3
@@ -121,7 +123,8 @@ returns-3 c =
     let d = c .before .before in
     let a = d .before .before .before .before in
     let late : 7 ≤ a .args .rule = ⊎-elim (λ w. omega arith) (λ w. omega arith) (d .before .before .if1 .came) in
-    turns-single (a .pre .1 .0) (a .pre .1 .1 .0) (a .args .i) (a .args .j) (a .pre .1 .1 .1) (same-length-3 c) late (omega arith) (d .remove3 .ensures)
+    turns-single (a .pre .1 .0) (a .pre .1 .1 .0) (a .args .i) (a .args .j) (a .pre .1 .1 .1) (same-length-3 c) late (omega arith)
+    (d .remove3 .ensures)
 
 pub turn-spec : {M : Type 1} → statement M
 turn-spec =

@@ -21,7 +21,8 @@ start c = c .before .before .before .before .before
 counted : (c : tie.After-children-of) → c .children-of .result ≡ size (start c .pre .1 .1 .0 .children)
 counted c = c .children-of .ensures ∙ ap children (c .before .wide16 .ensures .0) ∙ child (start c) .counted
 
-ended : (c : tie.After-child-at) → let a = start (c .before) in c .child-at .result ≡ child-at (size (a .pre .1 .1 .0 .children)) (a .args .part .now)
+ended : (c : tie.After-child-at) → let a = start (c .before) in
+    c .child-at .result ≡ child-at (size (a .pre .1 .1 .0 .children)) (a .args .part .now)
 ended c = c .child-at .ensures .0 ∙ ap (λ n. child-at n (start (c .before) .args .part .now)) (counted (c .before))
 
 returns : tie.Need-returns

@@ -35,12 +35,13 @@ same-length c = search needs
 returns : tie.Need-returns
 unfolding assign
 returns c =
-    let e = c .before .before .before .before .before .before .before .before in
+    let f = c .before .before .before .before .before .before in
+    let e = f .before .before in
     let o = e .before .before in
     let b = o .before .before .before in
     let a = b .args in
     rw (← o .opposite-of .ensures, ← e .before .empty-group .ensures, ← e .empty-group2 .ensures)
-    (twice-replaced _ (a .at) (a .end) (a .part .now) (b .pre .0) (b .pre .1) (b .pre .2) (c .before .before .before .before .before .before .assign .ensures) (c .before .before .assign2 .ensures))
+    (twice-replaced _ (a .at) (a .end) (a .part .now) (b .pre .0) (b .pre .1) (b .pre .2) (f .assign .ensures) (c .before .before .assign2 .ensures))
 
 pub assign-around-spec : {M : Type 1} → statement M
 assign-around-spec =

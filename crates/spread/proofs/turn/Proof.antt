@@ -26,7 +26,8 @@ counted c = c .children-of .ensures ∙ ap children (c .before .wide16 .ensures 
 abbrev begun : tie.After-child-at2 → tie.After-children-of
 begun c = c .before .before .before .before
 
-ended : (c : tie.After-child-at2) → let a = start (begun c) in c .child-at2 .result ≡ child-at (size (a .pre .1 .1 .0 .children)) (a .args .part .now)
+ended : (c : tie.After-child-at2) → let a = start (begun c) in
+    c .child-at2 .result ≡ child-at (size (a .pre .1 .1 .0 .children)) (a .args .part .now)
 ended c = c .child-at2 .ensures .0 ∙ ap (λ n. child-at n (start (begun c) .args .part .now)) (counted (begun c))
 
 slice-read-wide16 : tie.Need-slice-read-wide16
@@ -63,7 +64,8 @@ returns c =
     let l = a .part .now in
     turns-spread (b .pre .1 .0) (b .pre .1 .1 .0) (a .i) (a .j) (b .pre .0 .0) (b .pre .0 .1) (b .pre .1 .1 .1)
     (r .assign-around .kept .0)
-    (r .assign-around .ensures ∙ ap₂ (λ p q. around (assign (eqb (a .rule) 9) (getD l p 0)) p q l) (e .before .before .child-at .ensures .0) (ended e))
+    (r .assign-around .ensures ∙ ap₂ (λ p q. around (assign (eqb (a .rule) 9) (getD l p 0)) p q l)
+    (e .before .before .child-at .ensures .0) (ended e))
 
 pub turn-spec : {M : Type 1} → statement M
 turn-spec =

@@ -95,7 +95,8 @@ same-length c = search needs
 returns : tie.Need-returns
 unfolding bytes-of
 returns c =
-    let v = c .before .before .before .before .before .before .before .before .before .before in
+    let h = c .before .before .before .before .before in
+    let v = h .before .before .before .before .before in
     let start = v .before .before .before .before .before .before in
     let s = start .args .sheet .now in
     let b = start .args .book .now in
@@ -105,7 +106,7 @@ returns c =
     let t = v .before .nodes-below .result in
     let codes : List ℕ = take (8 + 13 * n - 8) (drop 8 b) in
     let xs : List ℕ = take (3 + t - 3) (drop 3 s) in
-    let head = c .before .before .before .before .before .before .before .before .put-head in
+    let head = h .before .before .before .put-head in
     let wide : 8 + 13 * n - 8 ≡ 13 * n = omega arith in
     let count : 3 + t - 3 ≡ t = omega arith in
     lent-start (bytes-of (n ∷ m ∷ t ∷ 0 ∷ [])) old refl (head .ensures) (codes ++ (bytes-of (lined-up 0 (spans m xs)) ++ bytes-of xs)) (length codes + (4 * m + 2 * length xs)) (omega (arith, known v, head .kept .0))
