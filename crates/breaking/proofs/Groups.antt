@@ -14,7 +14,7 @@ use Rattle.model.specs.Forest.{or, root}
 use Rattle.theory.specs.Evaluation.{fails-all}
 use Rattle.theory.specs.Values.{or-none, or-more, root-none, root-more}
 use Rattle.theory.specs.Logic.{either, or-right, and-split, and-join, same-test, true-false}
-use Rattle.breaking.specs.Stacks.{among, Places, begin, failing, broken, Stacked, bottom, standing, Counted, Made}
+use Rattle.breaking.specs.Stacks.{among, In-table, begin, failing, broken, Stacked, bottom, standing, Counted, Made}
 use Rattle.breaking.proofs.Among.{among-take, among-cut}
 use Rattle.breaking.proofs.Entries.{even-entry, odd-entry, standing-more, standing-same, standing-most, bottom-low, bottom-none}
 
@@ -88,7 +88,7 @@ module _ (d : Bool) (q : ℕ) (ls fs : List ℕ) where
       h
 
 -- The tree that is made of them.
-module _ (v : ℕ → Bool) (ls fs : List ℕ) (s : Stacked (length ls) fs) (inside : Places ls) {base : ℕ} (e : base ≡ bottom (length ls) fs) where
+module _ (v : ℕ → Bool) (ls fs : List ℕ) (s : Stacked (length ls) fs) (inside : In-table ls) {base : ℕ} (e : base ≡ bottom (length ls) fs) where
   pub makes-failing : ((q : ℕ) → v q ≡ true) → Made v ls fs (take base ls) (2 * base + 1)
   makes-failing h =
       let o = odd-entry base in
@@ -102,7 +102,7 @@ module _ (v : ℕ → Bool) (ls fs : List ℕ) (s : Stacked (length ls) fs) (ins
         none = λ z. omega arith;
       }
 
-  pub makes-standing : (new : List ℕ) → base ≤ length new → take base new ≡ take base ls → Places new → ((q : ℕ) → among q (drop base new) ≡ v q) → Made v ls fs new (2 * base)
+  pub makes-standing : (new : List ℕ) → base ≤ length new → take base new ≡ take base ls → In-table new → ((q : ℕ) → among q (drop base new) ≡ v q) → Made v ls fs new (2 * base)
   makes-standing new long same inside-new h =
       let o = even-entry base in
       record {

@@ -3,4 +3,4 @@ pub mod Entries
 pub mod Groups
 pub mod Holding
 pub mod Pushing
-pub mod Tables
+pub mod Tried

@@ -25,22 +25,22 @@ module _ {v : ℕ → Bool} (ls fs new : List ℕ) (k f : ℕ) (s : Stacked (len
       (ap (λ l. broken q l (drop k fs)) (m .same ∙ ap (λ n. take n ls) (m .first)) ∙ broken-drop q k (length ls) ls fs refl s)
 
 -- In arrays: the entry is put at the last place of those that it stands for.
-module _ {v : ℕ → Bool} {places firsts : List ℕ} {top end : ℕ} (h : Stack places firsts top end) (k i f : ℕ) (new : List ℕ) (to : ℕ) (at : suc i ≡ top + k) (low : i < length firsts) (room : to ≤ length new) (m : Made v (take end places) (take k (drop top firsts)) (take to new) f) where
+module _ {v : ℕ → Bool} {places stack : List ℕ} {top end : ℕ} (h : Stack places stack top end) (k i f : ℕ) (new : List ℕ) (to : ℕ) (at : suc i ≡ top + k) (low : i < length stack) (room : to ≤ length new) (m : Made v (take end places) (take k (drop top stack)) (take to new) f) where
   fs : List ℕ
-  fs = drop top firsts
+  fs = drop top stack
 
-  put : drop i (set firsts i f) ≡ f ∷ drop k fs
+  put : drop i (set stack i f) ≡ f ∷ drop k fs
   unfolding fs
   put =
-      ap (drop i) (set-split firsts i f low)
-      ∙ drop-at (take i firsts) (f ∷ drop (suc i) firsts) i (length-take-le i firsts (omega arith))
-      ∙ ap (λ l. f ∷ l) (ap (λ n. drop n firsts) at ∙ sym (drop-drop k top firsts))
+      ap (drop i) (set-split stack i f low)
+      ∙ drop-at (take i stack) (f ∷ drop (suc i) stack) i (length-take-le i stack (omega arith))
+      ∙ ap (λ l. f ∷ l) (ap (λ n. drop n stack) at ∙ sym (drop-drop k top stack))
 
   before : Stacked (length (take end places)) fs
   unfolding fs
-  before = subst (λ n. Stacked n (drop top firsts)) (sym (length-take-le end places (h .room))) (h .stacked)
+  before = subst (λ n. Stacked n (drop top stack)) (sym (length-take-le end places (h .room))) (h .stacked)
 
-  new-stack : Stack new (set firsts i f) i to
+  new-stack : Stack new (set stack i f) i to
   unfolding fs
   new-stack =
       record {
@@ -51,9 +51,9 @@ module _ {v : ℕ → Bool} {places firsts : List ℕ} {top end : ℕ} (h : Stac
         inside = m .inside;
       }
 
-  new-values : (q : ℕ) → broken q (take to new) (drop i (set firsts i f)) ≡ v q ∷ drop k (broken q (take end places) (drop top firsts))
+  new-values : (q : ℕ) → broken q (take to new) (drop i (set stack i f)) ≡ v q ∷ drop k (broken q (take end places) (drop top stack))
   unfolding fs
   new-values q = rw put (pushed-broken (take end places) fs (take to new) k f before m q)
 
-  pub pushed : Stack new (set firsts i f) i to × ((q : ℕ) → broken q (take to new) (drop i (set firsts i f)) ≡ v q ∷ drop k (broken q (take end places) (drop top firsts)))
+  pub pushed : Stack new (set stack i f) i to × ((q : ℕ) → broken q (take to new) (drop i (set stack i f)) ≡ v q ∷ drop k (broken q (take end places) (drop top stack)))
   pushed = (new-stack, new-values)

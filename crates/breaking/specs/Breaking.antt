@@ -21,7 +21,8 @@ pub record Broken-by (t tree places : List ℕ) (n : ℕ) : Type 0 where
   pub few : n ≤ sheet-room
   pub stands : tree-fails t tree ≡ false
   pub each : (k : ℕ) → k < n → (getD places k 0 < most-literals) × (tree-fails (set t (getD places k 0) 1) tree ≡ true)
-  pub all : (q : ℕ) → q < most-literals → (getD t (opposite q) 0 ≡ 1 → ⊥) → tree-fails (set t q 1) tree ≡ true → (k : ℕ) × (k < n) × (getD places k 0 ≡ q)
+  pub all : (q : ℕ) → q < most-literals → (getD t (opposite q) 0 ≡ 1 → ⊥) → tree-fails (set t q 1) tree ≡ true →
+      (k : ℕ) × (k < n) × (getD places k 0 ≡ q)
 
 -- What a pass over a tree tells: which literals break it, or that it fails as it is.
 abbrev pub Breaking : List ℕ → List ℕ → List ℕ → Verdict → Type 0

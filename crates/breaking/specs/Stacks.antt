@@ -19,8 +19,8 @@ among q [] = false
 among q (x ∷ xs) = eqb q x || among q xs
 
 -- All numbers of a list are places of a table.
-abbrev pub Places : List ℕ → Type 0
-Places ls = (x : ℕ) → among x ls ≡ true → x < most-literals
+abbrev pub In-table : List ℕ → Type 0
+In-table ls = (x : ℕ) → among x ls ≡ true → x < most-literals
 
 -- What an entry says: half of it is where the tree's literals begin, and it is odd where the tree fails as it is.
 unfoldable pub begin : ℕ → ℕ
@@ -69,7 +69,7 @@ Blank-but ls held = (x : ℕ) → (getD held x 0 ≡ 0) ⊎ (among x ls ≡ true
 pub record Children (places fs : List ℕ) (base end : ℕ) : Type 0 where
   pub few : length fs ≤ sheet-room
   pub room : end ≤ length places
-  pub inside : Places (take end places)
+  pub inside : In-table (take end places)
   pub stacked : Stacked end fs
   pub first : base ≡ bottom end fs
 
@@ -85,14 +85,14 @@ pub record Made (v : ℕ → Bool) (ls fs new : List ℕ) (f : ℕ) : Type 0 whe
   pub first : begin f ≡ bottom (length ls) fs
   pub long : begin f ≤ length new
   pub same : take (begin f) new ≡ take (begin f) ls
-  pub inside : Places new
+  pub inside : In-table new
   pub each : (q : ℕ) → (failing f || among q (drop (begin f) new)) ≡ v q
   pub none : failing f ≡ true → begin f ≡ length new
 
 -- The stack from a place on, and the literals before another.
-pub record Stack (places firsts : List ℕ) (top end : ℕ) : Type 0 where
+pub record Stack (places stack : List ℕ) (top end : ℕ) : Type 0 where
   pub room : end ≤ length places
-  pub low : top ≤ length firsts
-  pub stacked : Stacked end (drop top firsts)
-  pub whole : bottom end (drop top firsts) ≡ 0
-  pub inside : Places (take end places)
+  pub low : top ≤ length stack
+  pub stacked : Stacked end (drop top stack)
+  pub whole : bottom end (drop top stack) ≡ 0
+  pub inside : In-table (take end places)

@@ -14,7 +14,8 @@ ghost use Rattle.theory.specs.Scan.{«is-literal»};
 ghost use Rattle.theory.specs.Leaves.{«place-at»};
 ghost use Rattle.evaluation.specs.Reading.{«with-node», «Spells-tree»};
 ghost use Rattle.breaking.specs.Breaking.{opposite, Breaking};
-ghost use Rattle.breaking.specs.Stacks.{among, Places, broken, Stacked, bottom, standing, tried, raised, Blank, «Blank-but», Children, Counted, Made, Stack};
+ghost use Rattle.breaking.specs.Stacks.{among, «In-table», broken, Stacked, bottom, standing, tried, raised};
+ghost use Rattle.breaking.specs.Stacks.{Blank, «Blank-but», Children, Counted, Made, Stack};
 use limits::MOST_LITERALS;
 
 // A tree that is made: its entry, and where its literals end.
@@ -48,7 +49,7 @@ pub fn opposite_of(place: usize) -> usize
 
 // Raises the count of each literal of a list that is at a number.
 fn hold(list: &[u16], held: &mut [u16], count: u16)
-    requires { ⌜ Places (now list) × (length (now held) ≡ «most-literals») × (count < 65535) ⌝ }
+    requires { ⌜ «In-table» (now list) × (length (now held) ≡ «most-literals») × (count < 65535) ⌝ }
     ensures { λ r. ⌜ ((x : ℕ) → getD (now (held .exit)) x 0 ≡ raised count (now (list .entry)) (now (held .entry)) x) ⌝ }
 {
     let mut i = 0;
@@ -63,7 +64,7 @@ fn hold(list: &[u16], held: &mut [u16], count: u16)
 
 // Counts, for each literal, how many trees have it, as long as each has it that does not fail as it is. How many those are.
 fn hold_all(children: &[u16], places: &[u16], end: usize, held: &mut [u16]) -> u16
-    requires { ⌜ (end ≤ length (now places)) × Places (take end (now places)) × Blank (now held) ⌝ }
+    requires { ⌜ (end ≤ length (now places)) × «In-table» (take end (now places)) × Blank (now held) ⌝ }
     requires { ⌜ (length (now children) ≤ «sheet-room») × Stacked end (now children) ⌝ }
     ensures { λ r. ⌜ Counted (take end (now (places .entry))) (now (children .entry)) (now (held .exit)) r ⌝ }
 {
@@ -85,8 +86,11 @@ fn hold_all(children: &[u16], places: &[u16], end: usize, held: &mut [u16]) -> u
 
 // Keeps of a list, from its start on, each literal once whose count is at a number, and sets the counts back. How many.
 fn keep(list: &mut [u16], count: u16, held: &mut [u16]) -> usize
-    requires { ⌜ Places (now list) × (length (now held) ≡ «most-literals») × (1 ≤ count) × «Blank-but» (now list) (now held) ⌝ }
-    ensures { λ r. ⌜ (r ≤ length (now (list .entry))) × ((x : ℕ) → among x (take r (now (list .exit))) ≡ (among x (now (list .entry)) && eqb (getD (now (held .entry)) x 0) count)) ⌝ }
+    requires { ⌜ «In-table» (now list) × (length (now held) ≡ «most-literals»)
+        × (1 ≤ count) × «Blank-but» (now list) (now held) ⌝ }
+    ensures { λ r. ⌜ (r ≤ length (now (list .entry)))
+        × ((x : ℕ) → among x (take r (now (list .exit))) ≡
+        (among x (now (list .entry)) && eqb (getD (now (held .entry)) x 0) count)) ⌝ }
     ensures { λ r. ⌜ ((x : ℕ) → getD (now (held .exit)) x 0 ≡ 0) ⌝ }
 {
     let mut kept = 0;
@@ -129,8 +133,9 @@ fn intersect(
 ) -> usize
     requires { ⌜ Children (now places) (now children) base end × (1 ≤ standing (now children)) × Blank (now held) ⌝ }
     ensures { λ r. ⌜ (base ≤ r) × (r ≤ end) × (take base (now (places .exit)) ≡ take base (now (places .entry))) ⌝ }
-    ensures { λ r. ⌜ ((q : ℕ) → among q (drop base (take r (now (places .exit)))) ≡ «fails-all» or (broken q (take end (now (places .entry))) (now (children .entry)))) ⌝ }
-    ensures { λ r. ⌜ Places (take r (now (places .exit))) × Blank (now (held .exit)) ⌝ }
+    ensures { λ r. ⌜ ((q : ℕ) → among q (drop base (take r (now (places .exit)))) ≡
+        «fails-all» or (broken q (take end (now (places .entry))) (now (children .entry)))) ⌝ }
+    ensures { λ r. ⌜ «In-table» (take r (now (places .exit))) × Blank (now (held .exit)) ⌝ }
 {
     let count = hold_all(children, places, end, held);
     base + keep(&mut places[base..end], count, held)
@@ -147,7 +152,12 @@ fn join(
     held: &mut [u16],
 ) -> Tree
     requires { ⌜ Children (now places) (now children) base end × (length (now places) ≡ «sheet-room») × Blank (now held) ⌝ }
-    ensures { λ r. ⌜ Made (λ q. «fails-all» (pick disjunction or root) (broken q (take end (now (places .entry))) (now (children .entry)))) (take end (now (places .entry))) (now (children .entry)) (take (r .end) (now (places .exit))) (r .first) ⌝ }
+    ensures { λ r. ⌜ Made
+        (λ q. «fails-all» (pick disjunction or root) (broken q (take end (now (places .entry))) (now (children .entry))))
+        (take end (now (places .entry)))
+        (now (children .entry))
+        (take (r .end) (now (places .exit)))
+        (r .first) ⌝ }
     ensures { λ r. ⌜ (r .end ≤ end) × Blank (now (held .exit)) ⌝ }
 {
     let standing = count_standing(children);
@@ -188,8 +198,13 @@ fn base_of(children: &[u16], end: usize) -> usize
 // A literal fails as it is, or is broken by itself; not where its complement fails, since then nobody asks.
 fn read_literal(place: usize, failed: &[u8], end: usize, places: &mut [u16]) -> Tree
     requires { ⌜ (place < «most-literals») × (length (now failed) ≡ «most-literals») ⌝ }
-    requires { ⌜ (end < length (now places)) × (length (now places) ≡ «sheet-room») × Places (take end (now places)) ⌝ }
-    ensures { λ r. ⌜ Made (λ q. eqb (getD (tried (now (failed .entry)) q) place 0) 1) (take end (now (places .entry))) [] (take (r .end) (now (places .exit))) (r .first) ⌝ }
+    requires { ⌜ (end < length (now places)) × (length (now places) ≡ «sheet-room») × «In-table» (take end (now places)) ⌝ }
+    ensures { λ r. ⌜ Made
+        (λ q. eqb (getD (tried (now (failed .entry)) q) place 0) 1)
+        (take end (now (places .entry)))
+        []
+        (take (r .end) (now (places .exit)))
+        (r .first) ⌝ }
     ensures { λ r. ⌜ r .end ≤ end + 1 ⌝ }
 {
     if failed[place] == 1 {
@@ -218,18 +233,26 @@ fn read_group(
     top: usize,
     end: usize,
     places: &mut [u16],
-    firsts: &[u16],
+    stack: &[u16],
     held: &mut [u16],
 ) -> Tree
-    requires { ⌜ (top + children x ≤ length (now firsts)) × (length (now firsts) ≡ «sheet-room») × Stack (now places) (now firsts) top end ⌝ }
+    requires { ⌜ (top + children x ≤ length (now stack))
+        × (length (now stack) ≡ «sheet-room»)
+        × Stack (now places) (now stack) top end ⌝ }
     requires { ⌜ (length (now places) ≡ «sheet-room») × Blank (now held) ⌝ }
-    ensures { λ r. ⌜ Made (λ q. «fails-all» (pick (eqb (kind x) 4) or root) (broken q (take end (now (places .entry))) (take (children x) (drop top (now (firsts .entry)))))) (take end (now (places .entry))) (take (children x) (drop top (now (firsts .entry)))) (take (r .end) (now (places .exit))) (r .first) ⌝ }
+    ensures { λ r. ⌜ Made
+        (λ q. «fails-all» (pick (eqb (kind x) 4) or root)
+        (broken q (take end (now (places .entry))) (take (children x) (drop top (now (stack .entry))))))
+        (take end (now (places .entry)))
+        (take (children x) (drop top (now (stack .entry))))
+        (take (r .end) (now (places .exit)))
+        (r .first) ⌝ }
     ensures { λ r. ⌜ (r .end ≤ end) × Blank (now (held .exit)) ⌝ }
 {
     let to = top + nodes::children_of(x);
-    let base = base_of(&firsts[top..to], end);
+    let base = base_of(&stack[top..to], end);
     join(
-        &firsts[top..to],
+        &stack[top..to],
         nodes::kind_of(x) == 4,
         base,
         end,
@@ -245,27 +268,35 @@ fn read_node(
     top: usize,
     end: usize,
     places: &mut [u16],
-    firsts: &mut [u16],
+    stack: &mut [u16],
     held: &mut [u16],
 ) -> Top
-    requires { ⌜ (1 ≤ top) × («is-literal» x ≡ true → «place-at» x < «most-literals») × («is-literal» x ≡ false → top + children x ≤ length (now firsts)) ⌝ }
-    requires { ⌜ (end < «sheet-room») × (length (now places) ≡ «sheet-room») × (length (now firsts) ≡ «sheet-room») × Stack (now places) (now firsts) top end ⌝ }
+    requires { ⌜ (1 ≤ top)
+        × («is-literal» x ≡ true → «place-at» x < «most-literals»)
+        × («is-literal» x ≡ false → top + children x ≤ length (now stack)) ⌝ }
+    requires { ⌜ (end < «sheet-room»)
+        × (length (now places) ≡ «sheet-room»)
+        × (length (now stack) ≡ «sheet-room»)
+        × Stack (now places) (now stack) top end ⌝ }
     requires { ⌜ (length (now failed) ≡ «most-literals») × Blank (now held) ⌝ }
-    ensures { λ r. ⌜ (r .end ≤ end + 1) × Stack (now (places .exit)) (now (firsts .exit)) (r .top) (r .end) × Blank (now (held .exit)) ⌝ }
-    ensures { λ r. ⌜ ((q : ℕ) → broken q (take (r .end) (now (places .exit))) (drop (r .top) (now (firsts .exit))) ≡ «with-node» (tried (now (failed .entry)) q) x (broken q (take end (now (places .entry))) (drop top (now (firsts .entry))))) ⌝ }
+    ensures { λ r. ⌜ (r .end ≤ end + 1)
+        × Stack (now (places .exit)) (now (stack .exit)) (r .top) (r .end)
+        × Blank (now (held .exit)) ⌝ }
+    ensures { λ r. ⌜ ((q : ℕ) → broken q (take (r .end) (now (places .exit))) (drop (r .top) (now (stack .exit))) ≡
+        «with-node» (tried (now (failed .entry)) q) x (broken q (take end (now (places .entry))) (drop top (now (stack .entry))))) ⌝ }
 {
     if nodes::is_literal(x) {
         let new = top - 1;
         let tree = read_literal(evaluation::place_of(x), failed, end, places);
-        firsts[new] = tree.first;
+        stack[new] = tree.first;
         return Top {
             top: new,
             end: tree.end,
         };
     }
     let new = top + nodes::children_of(x) - 1;
-    let tree = read_group(x, top, end, places, firsts, held);
-    firsts[new] = tree.first;
+    let tree = read_group(x, top, end, places, stack, held);
+    stack[new] = tree.first;
     Top {
         top: new,
         end: tree.end,
@@ -274,12 +305,16 @@ fn read_node(
 
 // The literals that break a tree, unless it fails as it is: their places, at the start of a list, and how many. The stack is lent;
 // what the list and the stack hold before does not matter.
-pub fn breaking(tree: &[u16], failed: &[u8], places: &mut [u16], firsts: &mut [u16]) -> Verdict
-    requires { ⌜ «Spells-tree» (now tree) × (length (now tree) ≤ «sheet-room») × (length (now failed) ≡ «most-literals») × (length (now places) ≡ «sheet-room») × (length (now firsts) ≡ «sheet-room») ⌝ }
+pub fn breaking(tree: &[u16], failed: &[u8], places: &mut [u16], stack: &mut [u16]) -> Verdict
+    requires { ⌜ «Spells-tree» (now tree)
+        × (length (now tree) ≤ «sheet-room»)
+        × (length (now failed) ≡ «most-literals»)
+        × (length (now places) ≡ «sheet-room»)
+        × (length (now stack) ≡ «sheet-room») ⌝ }
     ensures { λ r. ⌜ Breaking (now (failed .entry)) (now (tree .entry)) (now (places .exit)) r ⌝ }
 {
     let mut held = [0u16; MOST_LITERALS];
-    let mut top = firsts.len();
+    let mut top = stack.len();
     let mut end = 0;
     let mut i = tree.len();
     while 0 < i {
@@ -290,13 +325,13 @@ pub fn breaking(tree: &[u16], failed: &[u8], places: &mut [u16], firsts: &mut [u
             top,
             end,
             places,
-            firsts,
+            stack,
             &mut held,
         );
         top = next.top;
         end = next.end;
     }
-    if firsts[top] % 2 == 1 {
+    if stack[top] % 2 == 1 {
         return Verdict::Fails;
     }
     Verdict::BrokenBy(end)

@@ -21,8 +21,8 @@ use Rattle.theory.specs.Shape.{shaped-trees}
 use Rattle.theory.specs.Sheets.{Formed}
 use Rattle.evaluation.specs.Reading.{tree-fails}
 use Rattle.parts.specs.Parts.{stretch, Claimed, Part, Part-fails, Parted}
-use Rattle.parts.proofs.Trees.{drop-take, conjunction-fails, none-fails, first-one, first-or-later, first-some}
-use Rattle.parts.proofs.Tables.{same-or-not, literal-place, zeros}
+use Rattle.parts.proofs.Parting.{drop-take, conjunction-fails, none-fails, first-one, first-or-later, first-some}
+use Rattle.parts.proofs.Linking.{same-or-not, literal-place, zeros}
 
 -- Stretches of a list: the first number, and a stretch cut in two.
 pub stretch-first : (i e : ℕ) (s : List ℕ) → i < e → i < length s → stretch i e s ≡ getD s i 0 ∷ stretch (i + 1) e s
@@ -81,8 +81,6 @@ pub parted : {s ends homes : List ℕ} {i : ℕ} → Finding s ends homes i → 
 parted {s} {ends} {homes} {i} w h =
     let none : 2 + used-in s - i ≡ 0 = omega arith in
     record {
-      wide = w .wide;
-      broad = w .broad;
       near = w .near;
       part = w .part;
       home = w .home;

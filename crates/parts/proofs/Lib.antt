@@ -1,3 +1,3 @@
-pub mod Trees
-pub mod Tables
+pub mod Parting
+pub mod Linking
 pub mod Finding

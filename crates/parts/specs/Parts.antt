@@ -36,8 +36,6 @@ Part-fails s ends t = (i : ℕ) × (getD ends i 0 ≡ 0 → ⊥) × (tree-fails 
 -- The tables of the parts: the end of each part where it begins and 0 elsewhere, and the beginning of its part for each number.
 -- Where the sheet fails, one of them does.
 pub record Parted (s ends homes : List ℕ) : Type 0 where
-  pub wide : length ends ≡ sheet-length
-  pub broad : length homes ≡ sheet-length
   pub near : (n : ℕ) → getD homes n 0 < sheet-length
   pub part : (i : ℕ) → (getD ends i 0 ≡ 0 → ⊥) → Part s i (getD ends i 0)
   pub home : (i n : ℕ) → (getD ends i 0 ≡ 0 → ⊥) → i ≤ n → n < getD ends i 0 → getD homes n 0 ≡ i
@@ -55,9 +53,19 @@ pub record Latest (s : List ℕ) (q n m : ℕ) : Type 0 where
   pub there : (m ≡ 0) ⊎ ((m < n) × Occurs s q m)
   pub last : (k : ℕ) → k < n → Occurs s q k → k ≤ m
 
--- The places of the literals: the last of each, and at each place the one before it.
-pub record Linked (s last earlier : List ℕ) : Type 0 where
-  pub wide : length last ≡ most-literals
-  pub broad : length earlier ≡ sheet-length
-  pub lasts : (q : ℕ) → q < most-literals → Latest s q (2 + used-in s) (getD last q 0)
-  pub before : (q n : ℕ) → Occurs s q n → Latest s q n (getD earlier n 0)
+-- A table of links has an entry for each place, and behind them one for each literal.
+abbrev pub links-length : ℕ
+links-length = sheet-length + most-literals
+
+-- The links of a literal lead from its own entry to its last place, and from each of its places to the one before.
+abbrev pub On-chain : List ℕ → ℕ → ℕ → Type 0
+On-chain s q n = (n ≡ sheet-length + q) ⊎ Occurs s q n
+
+-- Each link leads to an earlier entry, which is that of a place.
+pub record Descends (links : List ℕ) : Type 0 where
+  pub place : (n : ℕ) → getD links n 0 < sheet-length
+  pub down : (n : ℕ) → getD links n 0 ≤ n - 1
+
+pub record Linked (s links : List ℕ) : Type 0 where
+  pub descends : Descends links
+  pub before : (q n : ℕ) → q < most-literals → On-chain s q n → Latest s q n (getD links n 0)

@@ -3,13 +3,18 @@
 ghost use mathlib.Core.Path.{_≡_};
 ghost use Prim.Native.Nat.{_≤_};
 ghost use lib.ListN.{length, replicate};
-ghost use Rattle.model.specs.Limits.{«sheet-length», «most-literals»};
+ghost use Rattle.model.specs.Limits.{«sheet-length»};
 ghost use Rattle.theory.specs.Sheets.{Formed};
-ghost use Rattle.parts.specs.Parts.{Claimed, Parted, Linked};
+ghost use Rattle.parts.specs.Parts.{«links-length», Claimed, Parted, Linked};
+use limits::MOST_LITERALS;
+use limits::SHEET_LENGTH;
+
+// The entries of a table of links: one for each place of a sheet, and behind them one for each literal.
+pub const LINKS_LENGTH: usize = SHEET_LENGTH + MOST_LITERALS;
 
 // The numbers from one place to another belong to the part that begins at the first.
-fn claim(homes: &mut [u16], from: usize, to: usize)
-    requires { ⌜ (from ≤ to) × (to ≤ length (now homes)) × (to ≤ «sheet-length») ⌝ }
+fn claim(homes: &mut [u16; SHEET_LENGTH], from: usize, to: usize)
+    requires { ⌜ (from ≤ to) × (to ≤ «sheet-length») × (length (now homes) ≡ «sheet-length») ⌝ }
     ensures { λ r. ⌜ Claimed from to (now (homes .entry)) (now (homes .exit)) ⌝ }
 {
     let mut n = from;
@@ -20,8 +25,10 @@ fn claim(homes: &mut [u16], from: usize, to: usize)
 }
 
 // Finds the parts: at the place where a part begins its end is noted, and at the place of each of its numbers where it begins.
-pub fn find(sheet: &[u16], ends: &mut [u16], homes: &mut [u16])
-    requires { ⌜ Formed (now sheet) × (now ends ≡ replicate «sheet-length» 0) × (now homes ≡ replicate «sheet-length» 0) ⌝ }
+pub fn find(sheet: &[u16], ends: &mut [u16; SHEET_LENGTH], homes: &mut [u16; SHEET_LENGTH])
+    requires { ⌜ Formed (now sheet) ⌝ }
+    requires { ⌜ now ends ≡ replicate «sheet-length» 0 ⌝ }
+    requires { ⌜ now homes ≡ replicate «sheet-length» 0 ⌝ }
     ensures { λ r. ⌜ Parted (now (sheet .entry)) (now (ends .exit)) (now (homes .exit)) ⌝ }
 {
     let end = 2 + numbers::wide16(sheet[1]);
@@ -39,19 +46,21 @@ pub fn find(sheet: &[u16], ends: &mut [u16], homes: &mut [u16])
     }
 }
 
-// Links the places of each literal: the last of them is noted for the literal, and at each of them the one before it.
-pub fn link(sheet: &[u16], last: &mut [u16], earlier: &mut [u16])
-    requires { ⌜ Formed (now sheet) × (now last ≡ replicate «most-literals» 0) × (length (now earlier) ≡ «sheet-length») ⌝ }
-    ensures { λ r. ⌜ Linked (now (sheet .entry)) (now (last .exit)) (now (earlier .exit)) ⌝ }
+// Links the places of each literal: the last of them is noted behind the places, in the literal's own entry, and at each of them
+// the one before it.
+pub fn link(sheet: &[u16], links: &mut [u16; LINKS_LENGTH])
+    requires { ⌜ Formed (now sheet) ⌝ }
+    requires { ⌜ now links ≡ replicate «links-length» 0 ⌝ }
+    ensures { λ r. ⌜ Linked (now (sheet .entry)) (now (links .exit)) ⌝ }
 {
     let end = 2 + numbers::wide16(sheet[1]);
     let mut i = 2;
     while i < end {
         let x = numbers::wide16(sheet[i]);
         if nodes::is_literal(x) {
-            let place = evaluation::place_of(x);
-            earlier[i] = last[place];
-            last[place] = i as u16;
+            let own = SHEET_LENGTH + evaluation::place_of(x);
+            links[i] = links[own];
+            links[own] = i as u16;
         }
         i += 1;
     }

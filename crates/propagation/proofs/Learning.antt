@@ -1,4 +1,4 @@
--- Laws of tables and trails: nothing learned, one literal learned, one growth after another; and what a part's calm depends on.
+-- Laws of tables and trails: nothing learned, one literal learned, one growth after another; and what what a part that is exhausted depends on.
 use mathlib.Core.Bool.{Bool, true, false, not}
 use mathlib.Core.List.{List, [], _∷_}
 use mathlib.Core.Logic.{_⊎_, inl, inr, ⊎-elim}
@@ -22,12 +22,12 @@ use Rattle.theory.specs.Tables.{place-of, forced-derived, fact-right}
 use Rattle.theory.specs.Leaves.{place-at}
 use Rattle.evaluation.specs.Reading.{tree-fails}
 use Rattle.parts.specs.Parts.{stretch, Part, Occurs}
-use Rattle.parts.proofs.Trees.{same-fails}
-use Rattle.parts.proofs.Tables.{same-or-not}
+use Rattle.parts.proofs.Parting.{same-fails}
+use Rattle.parts.proofs.Linking.{same-or-not}
 use Rattle.parts.proofs.Finding.{stretch-number, stretch-long}
-use Rattle.breaking.proofs.Tables.{opposite-below}
+use Rattle.breaking.proofs.Tried.{opposite-below}
 use Rattle.breaking.specs.Breaking.{opposite}
-use Rattle.propagation.specs.Trails.{unset, fresh, Facts, Grown, Untouched, Quiet, Calm, Settled}
+use Rattle.propagation.specs.Trails.{unset, fresh, Facts, Grown, Untouched, Exhausted, Exhausted-at}
 
 pub opposite-place : (l : Literal) → opposite (place-of l) ≡ place-of (complement l)
 unfolding opposite place-of complement pick
@@ -135,6 +135,11 @@ module _ {s t₀ trail₀ : List ℕ} {n₀ : ℕ} {t trail : List ℕ} {n : ℕ
       go true e p q r = rw (p, q, r) (w, grown-none t trail n, eqb-true (getD t (opposite k) 0) 1 e)
       go false e p q r = rw (p, q, r) (learned-new e)
 
+-- A part does not fail under one table, and what it forces there is known in another.
+pub record Answered (s : List ℕ) (i e : ℕ) (t t′ : List ℕ) : Type 0 where
+  pub stands : tree-fails t (stretch i e s) ≡ false
+  pub known : (q : ℕ) → q < most-literals → tree-fails (set t q 1) (stretch i e s) ≡ true → getD t′ (opposite q) 0 ≡ 1
+
 -- A table has no place 1,024.
 pub as-it-is : (t : List ℕ) → length t ≡ most-literals → set t most-literals 1 ≡ t
 as-it-is t long = set-out t most-literals 1 (omega arith)
@@ -142,7 +147,7 @@ as-it-is t long = set-out t most-literals 1 (omega arith)
 -- A part that was not touched has its values on the grown table.
 module _ {s t trail : List ℕ} {n : ℕ} {t′ trail′ : List ℕ} {n′ : ℕ} (g : Grown t trail n t′ trail′ n′) (long : length t ≡ most-literals) (long′ : length t′ ≡ most-literals) {i e : ℕ} (part : Part s i e) (within : e ≤ length s) where
   pub untouched-same : Untouched s i e n trail′ n′ → (q : ℕ) → tree-fails (set t′ q 1) (stretch i e s) ≡ tree-fails (set t q 1) (stretch i e s)
-  untouched-same calm q = same-fails (set t′ q 1) (set t q 1) (stretch i e s) agree
+  untouched-same free q = same-fails (set t′ q 1) (set t q 1) (stretch i e s) agree
     where
       agree : (j : ℕ) → j < length (stretch i e s) → is-literal (getD (stretch i e s) j 0) ≡ true → eqb (getD (set t′ q 1) (place-at (getD (stretch i e s) j 0)) 0) 1 ≡ eqb (getD (set t q 1) (place-at (getD (stretch i e s) j 0)) 0) 1
       agree j l lit =
@@ -162,30 +167,30 @@ module _ {s t trail : List ℕ} {n : ℕ} {t′ trail′ : List ℕ} {n′ : ℕ
           ∙ same-test (eqb (getD t′ p 0) 1) (eqb (getD t p 0) 1)
           (λ one. ⊎-elim
           (λ r. eq-eqb (getD t p 0) 1 r)
-          (λ (r : (h : ℕ) × (n ≤ h) × (h < n′) × (getD trail′ h 0 ≡ p)). absurd (calm (r .0) (i + j) (r .1) (r .2) (omega arith) (omega arith) (rw (r .3) occurs)))
+          (λ (r : (h : ℕ) × (n ≤ h) × (h < n′) × (getD trail′ h 0 ≡ p)). absurd (free (r .0) (i + j) (r .1) (r .2) (omega arith) (omega arith) (rw (r .3) occurs)))
           (g .new p (eqb-true (getD t′ p 0) 1 one)))
           (λ one. eq-eqb (getD t′ p 0) 1 (g .keeps p (eqb-true (getD t p 0) 1 one)))
           ∙ sym (ap (λ b. eqb b 1) (getD-set-other t q p 1 0 other)))
           (same-or-not p q)
 
   untouched-as-it-is : Untouched s i e n trail′ n′ → tree-fails t′ (stretch i e s) ≡ tree-fails t (stretch i e s)
-  untouched-as-it-is calm =
-      sym (ap (λ u. tree-fails u (stretch i e s)) (as-it-is t′ long′)) ∙ untouched-same calm most-literals ∙ ap (λ u. tree-fails u (stretch i e s)) (as-it-is t long)
+  untouched-as-it-is free =
+      sym (ap (λ u. tree-fails u (stretch i e s)) (as-it-is t′ long′)) ∙ untouched-same free most-literals ∙ ap (λ u. tree-fails u (stretch i e s)) (as-it-is t long)
 
-  -- So a part that was quiet is, and one that was calm.
-  pub settled-quiet : Untouched s i e n trail′ n′ → Settled s i e t t′ → Quiet s i e t′
-  settled-quiet calm v =
+  -- So a part that was exhausted is, and one that has answered.
+  pub answered-exhausted : Untouched s i e n trail′ n′ → Answered s i e t t′ → Exhausted s i e t′
+  answered-exhausted free v =
       record {
-        stands = untouched-as-it-is calm ∙ v .stands;
-        known = λ q m small from to occurs fall. v .known q small (sym (untouched-same calm q) ∙ fall);
+        stands = untouched-as-it-is free ∙ v .stands;
+        known = λ q m small from to occurs fall. v .known q small (sym (untouched-same free q) ∙ fall);
       }
 
-  pub calm-on : {c : ℕ} → c ≤ n → Calm s i e c t trail n → Calm s i e c t′ trail′ n′
-  calm-on {c} below calm free =
+  pub exhausted-on : {c : ℕ} → c ≤ n → Exhausted-at s i e c t trail n → Exhausted-at s i e c t′ trail′ n′
+  exhausted-on {c} below was-so free =
       let more = g .more in
       let before : Untouched s i e c trail n = λ h m′ a b d f o. free h m′ a (omega arith) d f (rw (g .old h b) o) in
       let after : Untouched s i e n trail′ n′ = λ h m′ a b d f o. free h m′ (omega arith) b d f o in
-      let was = calm before in
+      let was = was-so before in
       record {
         stands = untouched-as-it-is after ∙ was .stands;
         known = λ q m small from to occurs fall. g .keeps (opposite q) (was .known q m small from to occurs (sym (untouched-same after q) ∙ fall));

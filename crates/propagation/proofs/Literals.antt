@@ -23,7 +23,7 @@ use Rattle.evaluation.specs.Reading.{tree-fails, Spells-tree}
 use Rattle.evaluation.proofs.Nodes.{values-of, values-none, values-more, with-literal, with-inner, tree-value}
 use Rattle.breaking.specs.Breaking.{opposite}
 use Rattle.parts.specs.Parts.{stretch, Part}
-use Rattle.parts.proofs.Tables.{same-or-not, below-next, literal-place}
+use Rattle.parts.proofs.Linking.{same-or-not, below-next, literal-place}
 use Rattle.parts.proofs.Finding.{stretch-first, stretch-number, stretch-long}
 use Rattle.propagation.specs.Trails.{fresh, Facts, Forces, Lone, Unforced, Looked}
 use Rattle.propagation.specs.declared.Forced.{Forced}
@@ -259,7 +259,7 @@ module _ {s t : List ℕ} {i e : ℕ} (sheet : Formed s) (part : Part s i e) (lo
           let w : Scanned s t i e j (Only other) k = subst (λ f. Scanned s t i e j f k) found v in
           two-stand sheet part (plain-more (w .plain) l lit) (later (w .found .0)) (free-here (w .plain .past)) unlike
 
--- A part that forces nothing is calm.
+-- A part that forces nothing is exhausted.
 pub unforced-looked : {s : List ℕ} {i e : ℕ} {t trail : List ℕ} {n : ℕ} → Formed s → Part s i e → Facts s t trail n → Unforced s i e t → Looked s i e t trail n t trail n
 unforced-looked {s} {i} {e} {t} {trail} {n} sheet part facts h =
     looked sheet part facts facts (grown-none t trail n)
@@ -268,7 +268,7 @@ unforced-looked {s} {i} {e} {t} {trail} {n} sheet part facts h =
       known = λ q m fall. true-false (sym fall ∙ h q);
     })
 
--- A part that forces one literal alone is calm once that is learned.
+-- A part that forces one literal alone is exhausted once that is learned.
 pub lone-looked : {s : List ℕ} {i e : ℕ} {t trail : List ℕ} {n r : ℕ} → Formed s → Part s i e → Facts s t trail n → Forces s i e t r → {t′ trail′ : List ℕ} {n′ : ℕ} → n′ ≡ pick (fresh t r) (n + 1) n → t′ ≡ pick (fresh t r) (set t (opposite r) 1) t → trail′ ≡ pick (fresh t r) (set trail n (opposite r)) trail → Looked s i e t trail n t′ trail′ n′
 lone-looked {s} {i} {e} {t} {r = r} sheet part facts lone {t′} a b c =
     let near = lone .near in

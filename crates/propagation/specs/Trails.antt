@@ -1,10 +1,10 @@
 -- A table of failed literals with the trail of what was added to it, and parts that force nothing more.
-use mathlib.Core.Bool.{Bool, true, false, not}
+use mathlib.Core.Bool.{Bool, true, false, not, _&&_}
 use mathlib.Core.List.{List, [], _∷_}
 use mathlib.Core.Logic.{_⊎_}
 use mathlib.Core.Path.{_≡_}
-use Prim.Native.Nat.{ℕ, zero, suc, _+_, _≤_, _<_}
-use lib.Dec.{eqb}
+use Prim.Native.Nat.{ℕ, zero, suc, _+_, _-_, _≤_, _<_}
+use lib.Dec.{eqb, ltb, leb}
 use lib.ListN.{length, getD, set}
 use Rattle.model.specs.Base.{pick}
 use Rattle.model.specs.Limits.{sheet-length, most-literals}
@@ -15,11 +15,13 @@ use Rattle.model.specs.Sheet.{nodes-in, numbers-in}
 use Rattle.theory.specs.Tables.{Right}
 use Rattle.evaluation.specs.Reading.{tree-fails}
 use Rattle.breaking.specs.Breaking.{opposite}
-use Rattle.parts.specs.Parts.{stretch, Part, Occurs}
+use Rattle.parts.specs.Parts.{stretch, Part, Parted, Occurs, On-chain, Linked}
 use Rattle.propagation.specs.declared.Forced.{Forced}
 use Rattle.propagation.specs.declared.Forced.the-variants.{Only, Nothing, Fails, Untold}
 use Rattle.propagation.specs.declared.Outcome.{Outcome}
 use Rattle.propagation.specs.declared.Outcome.the-variants as O
+use Rattle.propagation.specs.declared.Stretch.{Stretch}
+use Rattle.propagation.specs.declared.Turn.{Turn}
 
 -- The places that hold no 1.
 unfoldable pub unset : List ℕ → ℕ
@@ -50,13 +52,14 @@ abbrev pub Untouched : List ℕ → ℕ → ℕ → ℕ → List ℕ → ℕ →
 Untouched s i e c trail n = (h m : ℕ) → c ≤ h → h < n → i ≤ m → m < e → Occurs s (getD trail h 0) m → ⊥
 
 -- The part between them does not fail, and what it forces, of the literals that stand in it, is known.
-pub record Quiet (s : List ℕ) (i e : ℕ) (t : List ℕ) : Type 0 where
+pub record Exhausted (s : List ℕ) (i e : ℕ) (t : List ℕ) : Type 0 where
   pub stands : tree-fails t (stretch i e s) ≡ false
-  pub known : (q m : ℕ) → q < most-literals → i ≤ m → m < e → Occurs s q m → tree-fails (set t q 1) (stretch i e s) ≡ true → getD t (opposite q) 0 ≡ 1
+  pub known : (q m : ℕ) → q < most-literals → i ≤ m → m < e → Occurs s q m →
+      tree-fails (set t q 1) (stretch i e s) ≡ true → getD t (opposite q) 0 ≡ 1
 
--- It is quiet, unless the trail touched it since it had c literals.
-abbrev pub Calm : List ℕ → ℕ → ℕ → ℕ → List ℕ → List ℕ → ℕ → Type 0
-Calm s i e c t trail n = Untouched s i e c trail n → Quiet s i e t
+-- It is exhausted, unless the trail touched it since it had c literals.
+abbrev pub Exhausted-at : List ℕ → ℕ → ℕ → ℕ → List ℕ → List ℕ → ℕ → Type 0
+Exhausted-at s i e c t trail n = Untouched s i e c trail n → Exhausted s i e t
 
 -- The sheet fails under a table of facts, so that it is contradictory.
 pub record Fallen (s t : List ℕ) : Type 0 where
@@ -85,44 +88,40 @@ Lone s i e t Nothing = Unforced s i e t
 Lone s i e t Fails = tree-fails t (stretch i e s) ≡ true
 Lone s i e t Untold = Unit
 
--- A part does not fail under one table, and what it forces there is known in another.
-pub record Settled (s : List ℕ) (i e : ℕ) (t t′ : List ℕ) : Type 0 where
-  pub stands : tree-fails t (stretch i e s) ≡ false
-  pub known : (q : ℕ) → q < most-literals → tree-fails (set t q 1) (stretch i e s) ≡ true → getD t′ (opposite q) 0 ≡ 1
-
 -- A part was looked at.
 pub record Looked (s : List ℕ) (i e : ℕ) (t trail : List ℕ) (n : ℕ) (t′ trail′ : List ℕ) (n′ : ℕ) : Type 0 where
   pub facts : Facts s t′ trail′ n′
   pub grown : Grown t trail n t′ trail′ n′
-  pub calm : Calm s i e n t′ trail′ n′
+  pub exhausted : Exhausted-at s i e n t′ trail′ n′
 
--- The ends in a table are those of parts.
-pub record Ends (s ends : List ℕ) : Type 0 where
-  pub wide : length ends ≡ sheet-length
-  pub part : (i : ℕ) → (getD ends i 0 ≡ 0 → ⊥) → Part s i (getD ends i 0)
+-- The entries of a table that are not 0 are the ends of parts.
+abbrev pub Part-ends : List ℕ → List ℕ → Type 0
+Part-ends s ends = (i : ℕ) → (getD ends i 0 ≡ 0 → ⊥) → Part s i (getD ends i 0)
 
--- Every part that begins before a place is calm since the trail was as long as is noted for it.
+-- Every part that begins before a place is exhausted since the trail was as long as is noted for it.
 pub record Watching (s ends : List ℕ) (to : ℕ) (seen t trail : List ℕ) (n : ℕ) : Type 0 where
   pub facts : Facts s t trail n
   pub long : length seen ≡ sheet-length
   pub most : (i : ℕ) → getD seen i 0 ≤ n
-  pub calm : (i : ℕ) → i < to → (getD ends i 0 ≡ 0 → ⊥) → Calm s i (getD ends i 0) (getD seen i 0) t trail n
+  pub exhausted : (i : ℕ) → i < to → (getD ends i 0 ≡ 0 → ⊥) → Exhausted-at s i (getD ends i 0) (getD seen i 0) t trail n
 
--- The sizes from one on and below another.
-abbrev pub Sized : ℕ → ℕ → ℕ → ℕ → Type 0
-Sized least limit i e = (i + least ≤ e) × (e < i + limit)
+-- Whether a turn has a part looked at: there is one, it is below the turn's limit, and when it was last looked at the trail did not
+-- have the turn's literal.
+unfoldable pub due : Stretch → ℕ → Turn → Bool
+due part seen turn =
+    ltb (part .from) (part .to) && (ltb (part .to - part .from) (turn .limit) && leb seen (turn .index))
 
--- The part was looked at since the trail had so many literals, if its size is in the range.
-abbrev pub Since : ℕ → ℕ → ℕ → List ℕ → ℕ → List ℕ → Type 0
-Since h least limit ends i seen = (getD ends i 0 ≡ 0 → ⊥) → Sized least limit i (getD ends i 0) → h < getD seen i 0
+-- Between two places of a literal's chain, the parts smaller than the turn's limit that hold it were looked at since the trail had
+-- the literal.
+pub record Passed (s ends seen : List ℕ) (q : ℕ) (turn : Turn) (m : ℕ) : Type 0 where
+  pub there : (m ≡ 0) ⊎ Occurs s q m
+  pub looked : (i k : ℕ) → m < k → k < turn .place → i ≤ k → k < getD ends i 0 → getD ends i 0 < i + turn .limit → Occurs s q k →
+      turn .index < getD seen i 0
 
--- All parts were calm, and are; and whatever was noted for one was noted no earlier.
-pub record Watched (s ends seen t trail : List ℕ) (n : ℕ) (seen′ t′ trail′ : List ℕ) (n′ : ℕ) : Type 0 where
-  pub watching : Watching s ends sheet-length seen′ t′ trail′ n′
-  pub grown : Grown t trail n t′ trail′ n′
-  pub later : (i : ℕ) → getD seen i 0 ≤ getD seen′ i 0
-
--- The parts of a range of sizes that hold a literal were looked at since the trail had so many literals.
-abbrev pub Reached : List ℕ → List ℕ → ℕ → ℕ → ℕ → ℕ → List ℕ → Type 0
-Reached s ends q h least limit seen =
-    (i m : ℕ) → i ≤ m → m < getD ends i 0 → Occurs s q m → Since h least limit ends i seen
+-- The next place of the chain that a turn is at whose part is to be looked at; 0 where there is none.
+pub record Next-due (ends homes links seen : List ℕ) (turn : Turn) (m : ℕ) : Type 0 where
+  pub near : m < sheet-length
+  pub down : m ≤ turn .place - 1
+  pub begins : 0 < m → getD homes m 0 < getD ends (getD homes m 0) 0
+  pub passed : (s : List ℕ) (q : ℕ) → Parted s ends homes → Linked s links → q < most-literals → On-chain s q (turn .place) →
+      Passed s ends seen q turn m

@@ -1,19 +1,39 @@
 // Propagation: what the parts of a sheet force becomes known, and each part that may force more is looked at again. A trail lists
 // the literals that failed, in order; for each part it is noted how long the trail was when the part was last looked at.
 ghost use mathlib.Core.Path.{_≡_};
-ghost use mathlib.Core.Bool.{true};
-ghost use Prim.Native.Nat.{_+_, _≤_, _<_};
+ghost use Prim.Native.Nat.{ℕ, _+_, _<_};
 ghost use lib.ListN.{length, getD, set, replicate};
 ghost use Rattle.model.specs.Base.{pick};
-ghost use Rattle.model.specs.Limits.{«sheet-room», «sheet-length», «most-literals»};
+ghost use Rattle.model.specs.Limits.{«sheet-length», «most-literals»};
 ghost use Rattle.model.specs.Sheet.{«report-in»};
 ghost use Rattle.theory.specs.Tables.{«Has-report»};
 ghost use Rattle.theory.specs.Sheets.{Formed};
 ghost use Rattle.breaking.specs.Breaking.{opposite};
-ghost use Rattle.parts.specs.Parts.{Part, Parted, Linked};
-ghost use Rattle.propagation.specs.Trails.{unset, fresh, Facts, «Unless-fallen», Lone, Looked, Ends, Watching, Since, Watched, Reached};
+ghost use Rattle.parts.specs.Parts.{Part, Parted, «links-length», Descends, Linked};
+ghost use Rattle.propagation.specs.Trails.{unset, fresh, Facts, «Unless-fallen», Lone, Looked};
+ghost use Rattle.propagation.specs.Trails.{«Part-ends», Watching, due, «Next-due»};
 use breaking::Verdict;
+use limits::MOST_LITERALS;
 use limits::SHEET_LENGTH;
+use limits::SHEET_ROOM;
+use parts::LINKS_LENGTH;
+
+// Parts of fewer numbers than this are looked at before all others.
+const SMALL_PART: usize = 16;
+
+// A part of a sheet: the numbers from one place to another.
+pub struct Stretch {
+    pub from: usize,
+    pub to: usize,
+}
+
+// Which literal of the trail is followed, where its chain is followed from, and how many numbers a part must not have to be looked
+// at for it.
+pub struct Turn {
+    pub index: usize,
+    pub place: usize,
+    pub limit: usize,
+}
 
 // What the literals of a part tell of what it forces.
 pub enum Forced {
@@ -31,11 +51,19 @@ pub enum Outcome {
 
 // The literal at a place is forced, so it becomes a fact: its complement fails, and joins the trail where it did not fail before.
 // The trail's new length.
-fn learn(k: usize, failed: &mut [u8], trail: &mut [u16], known: usize) -> usize
-    requires { ⌜ (k < «most-literals») × (length (now failed) ≡ «most-literals») × (length (now trail) ≡ «most-literals») × (known + unset (now failed) ≡ «most-literals») ⌝ }
+fn learn(
+    k: usize,
+    failed: &mut [u8; MOST_LITERALS],
+    trail: &mut [u16; MOST_LITERALS],
+    known: usize,
+) -> usize
+    requires { ⌜ k < «most-literals» ⌝ }
+    requires { ⌜ (length (now failed) ≡ «most-literals») × (known + unset (now failed) ≡ «most-literals») ⌝ }
     ensures { λ r. ⌜ r ≡ pick (fresh (now (failed .entry)) k) (known + 1) known ⌝ }
-    ensures { λ r. ⌜ now (failed .exit) ≡ pick (fresh (now (failed .entry)) k) (set (now (failed .entry)) (opposite k) 1) (now (failed .entry)) ⌝ }
-    ensures { λ r. ⌜ now (trail .exit) ≡ pick (fresh (now (failed .entry)) k) (set (now (trail .entry)) known (opposite k)) (now (trail .entry)) ⌝ }
+    ensures { λ r. ⌜ now (failed .exit) ≡
+        pick (fresh (now (failed .entry)) k) (set (now (failed .entry)) (opposite k) 1) (now (failed .entry)) ⌝ }
+    ensures { λ r. ⌜ now (trail .exit) ≡
+        pick (fresh (now (failed .entry)) k) (set (now (trail .entry)) known (opposite k)) (now (trail .entry)) ⌝ }
 {
     let other = breaking::opposite_of(k);
     if failed[other] == 1 {
@@ -49,10 +77,14 @@ fn learn(k: usize, failed: &mut [u8], trail: &mut [u16], known: usize) -> usize
 // What a part forces that is a literal, or a disjunction that begins with literals: nothing where two of them, unlike one another,
 // do not fail. Of literals alone: the only one that does not fail, which may stand there more than once, or that all fail. Of any
 // other part its literals do not tell.
-fn lone(sheet: &[u16], from: usize, to: usize, failed: &[u8]) -> Forced
-    requires { ⌜ Formed (now sheet) × Part (now sheet) from to × (length (now failed) ≡ «most-literals») ⌝ }
-    ensures { λ r. ⌜ Lone (now (sheet .entry)) from to (now (failed .entry)) r ⌝ }
+fn lone(sheet: &[u16], part: Stretch, failed: &[u8; MOST_LITERALS]) -> Forced
+    requires { ⌜ Formed (now sheet) ⌝ }
+    requires { ⌜ Part (now sheet) (part .from) (part .to) ⌝ }
+    requires { ⌜ length (now failed) ≡ «most-literals» ⌝ }
+    ensures { λ r. ⌜ Lone (now (sheet .entry)) (part .from) (part .to) (now (failed .entry)) r ⌝ }
 {
+    let from = part.from;
+    let to = part.to;
     let mut forced = Forced::Fails;
     let mut i = from;
     if nodes::kind_of(numbers::wide16(sheet[from])) == 4 {
@@ -82,18 +114,22 @@ fn lone(sheet: &[u16], from: usize, to: usize, failed: &[u8]) -> Forced
 // the sheet fall.
 fn look_inside(
     sheet: &[u16],
-    from: usize,
-    to: usize,
-    failed: &mut [u8],
-    trail: &mut [u16],
+    part: Stretch,
+    failed: &mut [u8; MOST_LITERALS],
+    trail: &mut [u16; MOST_LITERALS],
     known: usize,
-    places: &mut [u16],
-    firsts: &mut [u16],
+    places: &mut [u16; SHEET_ROOM],
+    stack: &mut [u16; SHEET_ROOM],
 ) -> Outcome
-    requires { ⌜ Formed (now sheet) × Part (now sheet) from to × Facts (now sheet) (now failed) (now trail) known × (length (now places) ≡ «sheet-room») × (length (now firsts) ≡ «sheet-room») ⌝ }
-    ensures { λ r. ⌜ «Unless-fallen» (now (sheet .entry)) (now (failed .exit)) (Looked (now (sheet .entry)) from to (now (failed .entry)) (now (trail .entry)) known (now (failed .exit)) (now (trail .exit))) r ⌝ }
+    requires { ⌜ Formed (now sheet) ⌝ }
+    requires { ⌜ Part (now sheet) (part .from) (part .to) ⌝ }
+    requires { ⌜ Facts (now sheet) (now failed) (now trail) known ⌝ }
+    ensures { λ r. ⌜ «Unless-fallen» (now (sheet .entry)) (now (failed .exit)) (Looked (now (sheet .entry)) (part .from) (part .to)
+        (now (failed .entry)) (now (trail .entry)) known (now (failed .exit)) (now (trail .exit))) r ⌝ }
 {
-    let verdict = breaking::breaking(&sheet[from..to], failed, places, firsts);
+    let from = part.from;
+    let to = part.to;
+    let verdict = breaking::breaking(&sheet[from..to], failed, places, stack);
     let Verdict::BrokenBy(n) = verdict else {
         return Outcome::Fallen;
     };
@@ -109,127 +145,52 @@ fn look_inside(
 // The same, without that pass where the part's literals tell enough.
 fn look(
     sheet: &[u16],
-    from: usize,
-    to: usize,
-    failed: &mut [u8],
-    trail: &mut [u16],
+    part: Stretch,
+    failed: &mut [u8; MOST_LITERALS],
+    trail: &mut [u16; MOST_LITERALS],
     known: usize,
-    places: &mut [u16],
-    firsts: &mut [u16],
+    places: &mut [u16; SHEET_ROOM],
+    stack: &mut [u16; SHEET_ROOM],
 ) -> Outcome
-    requires { ⌜ Formed (now sheet) × Part (now sheet) from to × Facts (now sheet) (now failed) (now trail) known × (length (now places) ≡ «sheet-room») × (length (now firsts) ≡ «sheet-room») ⌝ }
-    ensures { λ r. ⌜ «Unless-fallen» (now (sheet .entry)) (now (failed .exit)) (Looked (now (sheet .entry)) from to (now (failed .entry)) (now (trail .entry)) known (now (failed .exit)) (now (trail .exit))) r ⌝ }
+    requires { ⌜ Formed (now sheet) ⌝ }
+    requires { ⌜ Part (now sheet) (part .from) (part .to) ⌝ }
+    requires { ⌜ Facts (now sheet) (now failed) (now trail) known ⌝ }
+    ensures { λ r. ⌜ «Unless-fallen» (now (sheet .entry)) (now (failed .exit)) (Looked (now (sheet .entry)) (part .from) (part .to)
+        (now (failed .entry)) (now (trail .entry)) known (now (failed .exit)) (now (trail .exit))) r ⌝ }
 {
-    let forced = lone(sheet, from, to, failed);
+    let forced = lone(sheet, part, failed);
     match forced {
         Forced::Only(place) => Outcome::Known(learn(place, failed, trail, known)),
         Forced::Nothing => Outcome::Known(known),
         Forced::Fails => Outcome::Fallen,
-        Forced::Untold => look_inside(sheet, from, to, failed, trail, known, places, firsts),
+        Forced::Untold => look_inside(sheet, part, failed, trail, known, places, stack),
     }
 }
 
-// Looks at a part again, if its size is in the range and it was not looked at since the trail was longer than so much.
-fn look_again(
+// Looks at each part once.
+fn look_at_all(
     sheet: &[u16],
-    ends: &[u16],
-    from: usize,
-    least: usize,
-    limit: usize,
-    since: usize,
-    seen: &mut [u16],
-    failed: &mut [u8],
-    trail: &mut [u16],
-    known: usize,
-    places: &mut [u16],
-    firsts: &mut [u16],
+    ends: &[u16; SHEET_LENGTH],
+    seen: &mut [u16; SHEET_LENGTH],
+    failed: &mut [u8; MOST_LITERALS],
+    trail: &mut [u16; MOST_LITERALS],
+    places: &mut [u16; SHEET_ROOM],
+    stack: &mut [u16; SHEET_ROOM],
 ) -> Outcome
-    requires { ⌜ Formed (now sheet) × Ends (now sheet) (now ends) × Watching (now sheet) (now ends) «sheet-length» (now seen) (now failed) (now trail) known × (length (now places) ≡ «sheet-room») × (length (now firsts) ≡ «sheet-room») ⌝ }
-    requires { ⌜ (from < «sheet-length») × (1 ≤ least) × (least ≤ «sheet-length») × (limit ≤ «sheet-length») × (since < known) ⌝ }
-    ensures { λ r. ⌜ «Unless-fallen» (now (sheet .entry)) (now (failed .exit)) (Watched (now (sheet .entry)) (now (ends .entry)) (now (seen .entry)) (now (failed .entry)) (now (trail .entry)) known (now (seen .exit)) (now (failed .exit)) (now (trail .exit))) r ⌝ }
-    ensures { λ r. ⌜ Since since least limit (now (ends .entry)) from (now (seen .exit)) ⌝ }
-{
-    let to = numbers::wide16(ends[from]);
-    if to < from + least || from + limit <= to {
-        return Outcome::Known(known);
-    }
-    if since < numbers::wide16(seen[from]) {
-        return Outcome::Known(known);
-    }
-    seen[from] = known as u16;
-    look(sheet, from, to, failed, trail, known, places, firsts)
-}
-
-// Looks again at the parts of a range of sizes that hold one literal of the trail.
-fn visit(
-    sheet: &[u16],
-    ends: &[u16],
-    homes: &[u16],
-    last: &[u16],
-    earlier: &[u16],
-    index: usize,
-    least: usize,
-    limit: usize,
-    seen: &mut [u16],
-    failed: &mut [u8],
-    trail: &mut [u16],
-    known: usize,
-    places: &mut [u16],
-    firsts: &mut [u16],
-) -> Outcome
-    requires { ⌜ Formed (now sheet) × Parted (now sheet) (now ends) (now homes) × Linked (now sheet) (now last) (now earlier) × Watching (now sheet) (now ends) «sheet-length» (now seen) (now failed) (now trail) known × (length (now places) ≡ «sheet-room») × (length (now firsts) ≡ «sheet-room») ⌝ }
-    requires { ⌜ (1 ≤ least) × (least ≤ «sheet-length») × (limit ≤ «sheet-length») × (index < known) ⌝ }
-    ensures { λ r. ⌜ «Unless-fallen» (now (sheet .entry)) (now (failed .exit)) (λ n. Watched (now (sheet .entry)) (now (ends .entry)) (now (seen .entry)) (now (failed .entry)) (now (trail .entry)) known (now (seen .exit)) (now (failed .exit)) (now (trail .exit)) n × Reached (now (sheet .entry)) (now (ends .entry)) (getD (now (trail .entry)) index 0) index least limit (now (seen .exit))) r ⌝ }
-{
-    let mut grown = known;
-    let mut n = numbers::wide16(last[numbers::wide16(trail[index])]);
-    while 0 < n {
-        let from = numbers::wide16(homes[n]);
-        let outcome = look_again(
-            sheet,
-            ends,
-            from,
-            least,
-            limit,
-            index,
-            seen,
-            failed,
-            trail,
-            grown,
-            places,
-            firsts,
-        );
-        let Outcome::Known(more) = outcome else {
-            return Outcome::Fallen;
-        };
-        grown = more;
-        n = numbers::wide16(earlier[n]);
-    }
-    Outcome::Known(grown)
-}
-
-// Looks at each part that begins before a place.
-pub fn look_at(
-    sheet: &[u16],
-    ends: &[u16],
-    to: usize,
-    seen: &mut [u16],
-    failed: &mut [u8],
-    trail: &mut [u16],
-    places: &mut [u16],
-    firsts: &mut [u16],
-) -> Outcome
-    requires { ⌜ Formed (now sheet) × Ends (now sheet) (now ends) × (to ≤ «sheet-length») × (length (now places) ≡ «sheet-room») × (length (now firsts) ≡ «sheet-room») ⌝ }
-    requires { ⌜ (now seen ≡ replicate «sheet-length» 0) × (now failed ≡ replicate «most-literals» 0) × (length (now trail) ≡ «most-literals») ⌝ }
-    ensures { λ r. ⌜ «Unless-fallen» (now (sheet .entry)) (now (failed .exit)) (Watching (now (sheet .entry)) (now (ends .entry)) to (now (seen .exit)) (now (failed .exit)) (now (trail .exit))) r ⌝ }
+    requires { ⌜ Formed (now sheet) ⌝ }
+    requires { ⌜ «Part-ends» (now sheet) (now ends) ⌝ }
+    requires { ⌜ Watching (now sheet) (now ends) 0 (now seen) (now failed) (now trail) 0 ⌝ }
+    ensures { λ r. ⌜ «Unless-fallen» (now (sheet .entry)) (now (failed .exit)) (Watching (now (sheet .entry)) (now (ends .entry))
+        «sheet-length» (now (seen .exit)) (now (failed .exit)) (now (trail .exit))) r ⌝ }
 {
     let mut known = 0;
     let mut i = 0;
-    while i < to {
+    while i < SHEET_LENGTH {
         let end = numbers::wide16(ends[i]);
         if 0 < end {
             seen[i] = known as u16;
-            let outcome = look(sheet, i, end, failed, trail, known, places, firsts);
+            let part = Stretch { from: i, to: end };
+            let outcome = look(sheet, part, failed, trail, known, places, stack);
             let Outcome::Known(more) = outcome else {
                 return Outcome::Fallen;
             };
@@ -240,76 +201,126 @@ pub fn look_at(
     Outcome::Known(known)
 }
 
-// Follows the trail to its end: small parts first, and larger ones where no small one is left. Whether the sheet is contradictory.
+// Whether a turn has a part looked at that was last looked at when the trail was so long: there is one, it is below the turn's
+// limit, and the trail did not have the turn's literal.
+fn is_due(part: Stretch, seen: usize, turn: Turn) -> bool
+    ensures { λ r. ⌜ r ≡ due part seen turn ⌝ }
+{
+    if part.to <= part.from {
+        return false;
+    }
+    if turn.limit <= part.to - part.from {
+        return false;
+    }
+    seen <= turn.index
+}
+
+// The turn of a literal of the trail: its chain is followed from its own entry on.
+fn turn_of(trail: &[u16; MOST_LITERALS], index: usize, limit: usize) -> Turn
+    requires { ⌜ index < «most-literals» ⌝ }
+    ensures { λ r. ⌜ (r .index ≡ index) × (r .place ≡ «sheet-length» + getD (now (trail .entry)) index 0) × (r .limit ≡ limit) ⌝ }
+{
+    Turn {
+        index: index,
+        place: SHEET_LENGTH + numbers::wide16(trail[index]),
+        limit: limit,
+    }
+}
+
+// The part that holds the number at a place.
+fn part_at(ends: &[u16; SHEET_LENGTH], homes: &[u16; SHEET_LENGTH], n: usize) -> Stretch
+    requires { ⌜ n < «sheet-length» ⌝ }
+    requires { ⌜ getD (now homes) n 0 < «sheet-length» ⌝ }
+    ensures { λ r. ⌜ (r .from ≡ getD (now (homes .entry)) n 0) × (r .to ≡ getD (now (ends .entry)) (r .from) 0) ⌝ }
+{
+    let from = numbers::wide16(homes[n]);
+    Stretch {
+        from: from,
+        to: numbers::wide16(ends[from]),
+    }
+}
+
+// The next place of a literal whose part is below the turn's limit and was not looked at since the trail has the literal; 0 where
+// there is none.
+fn next_due(
+    ends: &[u16; SHEET_LENGTH],
+    homes: &[u16; SHEET_LENGTH],
+    links: &[u16; LINKS_LENGTH],
+    seen: &[u16; SHEET_LENGTH],
+    turn: Turn,
+) -> usize
+    requires { ⌜ turn .place < «links-length» ⌝ }
+    requires { ⌜ Descends (now links) ⌝ }
+    requires { ⌜ ((n : ℕ) → getD (now homes) n 0 < «sheet-length») ⌝ }
+    ensures { λ r. ⌜ «Next-due» (now (ends .entry)) (now (homes .entry)) (now (links .entry)) (now (seen .entry)) turn r ⌝ }
+{
+    let place = turn.place;
+    let mut n = numbers::wide16(links[place]);
+    while 0 < n {
+        let part = part_at(ends, homes, n);
+        let from = part.from;
+        if is_due(part, numbers::wide16(seen[from]), turn) {
+            return n;
+        }
+        n = numbers::wide16(links[n]);
+    }
+    0
+}
+
+// Looks at each part, and then again at the parts that hold a literal of the trail, until its end: at small parts first, and at all
+// where no small one is left. Whether the sheet is contradictory.
 pub fn follow(
     sheet: &[u16],
-    ends: &[u16],
-    homes: &[u16],
-    last: &[u16],
-    earlier: &[u16],
-    seen: &mut [u16],
-    failed: &mut [u8],
-    trail: &mut [u16],
-    start: Outcome,
-    places: &mut [u16],
-    firsts: &mut [u16],
+    ends: &[u16; SHEET_LENGTH],
+    homes: &[u16; SHEET_LENGTH],
+    links: &[u16; LINKS_LENGTH],
+    seen: &mut [u16; SHEET_LENGTH],
+    failed: &mut [u8; MOST_LITERALS],
+    trail: &mut [u16; MOST_LITERALS],
 ) -> bool
-    requires { ⌜ Formed (now sheet) × Parted (now sheet) (now ends) (now homes) × Linked (now sheet) (now last) (now earlier) × (length (now seen) ≡ «sheet-length») × (length (now failed) ≡ «most-literals») × (length (now trail) ≡ «most-literals») × (length (now places) ≡ «sheet-room») × (length (now firsts) ≡ «sheet-room») ⌝ }
-    requires { ⌜ «Unless-fallen» (now sheet) (now failed) (Watching (now sheet) (now ends) «sheet-length» (now seen) (now failed) (now trail)) start ⌝ }
-    ensures { λ r. ⌜ «Has-report» (now (sheet .entry)) (now (failed .exit)) × (r ≡ «report-in» (now (sheet .entry)) .contradictory) ⌝ }
+    requires { ⌜ Formed (now sheet) ⌝ }
+    requires { ⌜ Parted (now sheet) (now ends) (now homes) ⌝ }
+    requires { ⌜ Linked (now sheet) (now links) ⌝ }
+    requires { ⌜ now seen ≡ replicate «sheet-length» 0 ⌝ }
+    requires { ⌜ now failed ≡ replicate «most-literals» 0 ⌝ }
+    requires { ⌜ length (now trail) ≡ «most-literals» ⌝ }
+    ensures { λ r. ⌜ «Has-report» (now (sheet .entry)) (now (failed .exit)) ⌝ }
+    ensures { λ r. ⌜ r ≡ «report-in» (now (sheet .entry)) .contradictory ⌝ }
 {
+    let mut places = [0u16; SHEET_ROOM];
+    let mut stack = [0u16; SHEET_ROOM];
+    let start = look_at_all(sheet, ends, seen, failed, trail, &mut places, &mut stack);
     let Outcome::Known(begun) = start else {
         return true;
     };
     let mut known = begun;
     let mut small = 0;
     let mut large = 0;
-    while large < known {
-        if small < known {
-            let outcome = visit(
-                sheet,
-                ends,
-                homes,
-                last,
-                earlier,
-                small,
-                1,
-                16,
-                seen,
-                failed,
-                trail,
-                known,
-                places,
-                firsts,
-            );
+    let mut turn = Turn {
+        index: 0,
+        place: 0,
+        limit: 0,
+    };
+    loop {
+        let n = next_due(ends, homes, links, seen, turn);
+        if 0 < n {
+            let part = part_at(ends, homes, n);
+            let from = part.from;
+            seen[from] = known as u16;
+            let outcome = look(sheet, part, failed, trail, known, &mut places, &mut stack);
             let Outcome::Known(more) = outcome else {
                 return true;
             };
             known = more;
+            turn.place = n;
+        } else if small < known {
+            turn = turn_of(trail, small, SMALL_PART);
             small += 1;
-        } else {
-            let outcome = visit(
-                sheet,
-                ends,
-                homes,
-                last,
-                earlier,
-                large,
-                16,
-                SHEET_LENGTH,
-                seen,
-                failed,
-                trail,
-                known,
-                places,
-                firsts,
-            );
-            let Outcome::Known(more) = outcome else {
-                return true;
-            };
-            known = more;
+        } else if large < known {
+            turn = turn_of(trail, large, SHEET_LENGTH);
             large += 1;
+        } else {
+            return false;
         }
     }
-    false
 }

@@ -1,62 +1,39 @@
 // The core of the report and of the "complete" question: what is derived from a sheet, and what is written and said of it.
 ghost use mathlib.Core.Path.{_≡_};
 ghost use mathlib.Core.Bool.{true};
-ghost use Prim.Native.Nat.{_+_, _*_, _≤_, _<_};
+ghost use Prim.Native.Nat.{_≤_, _<_};
 ghost use lib.ListN.{length, replicate};
 ghost use Rattle.model.specs.Base.{all};
-ghost use Rattle.model.specs.Limits.{«most-literals»};
+ghost use Rattle.model.specs.Limits.{«most-options», «most-literals»};
 ghost use Rattle.model.specs.Propagation.{«count-from», complete};
 ghost use Rattle.model.specs.Sheet.{«options-in», «report-in»};
 ghost use Rattle.theory.specs.Tables.{«Has-report», «mark-in», «marks-in», «is-marked»};
 ghost use Rattle.theory.specs.Sheets.{Formed};
 use limits::MOST_LITERALS;
 use limits::SHEET_LENGTH;
-use limits::SHEET_ROOM;
+use parts::LINKS_LENGTH;
 
 // All that is forced becomes known: each part is looked at, and again where the trail of what became known touches it. Whether the
 // sheet is contradictory.
-fn propagate(sheet: &[u16], failed: &mut [u8]) -> bool
-    requires { ⌜ Formed (now sheet) × (now failed ≡ replicate «most-literals» 0) ⌝ }
-    ensures { λ r. ⌜ «Has-report» (now (sheet .entry)) (now (failed .exit)) × (r ≡ «report-in» (now (sheet .entry)) .contradictory) ⌝ }
+fn propagate(sheet: &[u16], failed: &mut [u8; MOST_LITERALS]) -> bool
+    requires { ⌜ Formed (now sheet) ⌝ }
+    requires { ⌜ now failed ≡ replicate «most-literals» 0 ⌝ }
+    ensures { λ r. ⌜ «Has-report» (now (sheet .entry)) (now (failed .exit)) ⌝ }
+    ensures { λ r. ⌜ r ≡ «report-in» (now (sheet .entry)) .contradictory ⌝ }
 {
     let mut ends = [0u16; SHEET_LENGTH];
     let mut homes = [0u16; SHEET_LENGTH];
-    let mut last = [0u16; MOST_LITERALS];
-    let mut earlier = [0u16; SHEET_LENGTH];
+    let mut links = [0u16; LINKS_LENGTH];
     let mut seen = [0u16; SHEET_LENGTH];
     let mut trail = [0u16; MOST_LITERALS];
-    let mut places = [0u16; SHEET_ROOM];
-    let mut firsts = [0u16; SHEET_ROOM];
     parts::find(sheet, &mut ends, &mut homes);
-    parts::link(sheet, &mut last, &mut earlier);
-    let known = propagation::look_at(
-        sheet,
-        &ends,
-        SHEET_LENGTH,
-        &mut seen,
-        failed,
-        &mut trail,
-        &mut places,
-        &mut firsts,
-    );
-    propagation::follow(
-        sheet,
-        &ends,
-        &homes,
-        &last,
-        &earlier,
-        &mut seen,
-        failed,
-        &mut trail,
-        known,
-        &mut places,
-        &mut firsts,
-    )
+    parts::link(sheet, &mut links);
+    propagation::follow(sheet, &ends, &homes, &links, &mut seen, failed, &mut trail)
 }
 
 // The mark of an option.
-fn mark_of(failed: &[u8], v: usize) -> u8
-    requires { ⌜ 2 * v + 1 < length (now failed) ⌝ }
+fn mark_of(failed: &[u8; MOST_LITERALS], v: usize) -> u8
+    requires { ⌜ v < «most-options» ⌝ }
     ensures { λ r. ⌜ r ≡ «mark-in» (now (failed .entry)) v ⌝ }
 {
     if failed[2 * v + 1] == 1 {
@@ -69,8 +46,8 @@ fn mark_of(failed: &[u8], v: usize) -> u8
 }
 
 // The mark of each option, or all 3.
-fn put_marks(failed: &[u8], contradictory: bool, out: &mut [u8])
-    requires { ⌜ 2 * length (now out) ≤ length (now failed) ⌝ }
+fn put_marks(failed: &[u8; MOST_LITERALS], contradictory: bool, out: &mut [u8])
+    requires { ⌜ length (now out) ≤ «most-options» ⌝ }
     ensures { λ r. ⌜ now (out .exit) ≡ «marks-in» contradictory (now (failed .entry)) (length (now (out .entry))) ⌝ }
 {
     let mut v = 0;
@@ -81,8 +58,8 @@ fn put_marks(failed: &[u8], contradictory: bool, out: &mut [u8])
 }
 
 // Each of the first n options is in or out.
-fn all_marked(failed: &[u8], n: usize) -> bool
-    requires { ⌜ 2 * n ≤ length (now failed) ⌝ }
+fn all_marked(failed: &[u8; MOST_LITERALS], n: usize) -> bool
+    requires { ⌜ n ≤ «most-options» ⌝ }
     ensures { λ r. ⌜ r ≡ all («is-marked» (now (failed .entry))) («count-from» 0 n) ⌝ }
 {
     let mut v = 0;

@@ -22,54 +22,54 @@ use Rattle.breaking.specs.Breaking.{opposite, Broken-by}
 use Rattle.breaking.specs.Stacks.{among, begin, failing, broken, bottom, tried, Blank, Stack}
 use Rattle.breaking.proofs.Among.{among-at, among-index}
 use Rattle.breaking.proofs.Entries.{bottom-empty, broken-length}
-use Rattle.breaking.proofs.Tables.{tried-asked, tried-not, tried-none}
+use Rattle.breaking.proofs.Tried.{tried-asked, tried-not, tried-none}
 use Rattle.breaking.proofs.breaking.Statement.{statement}
 use Rattle.breaking.proofs.breaking.Tie as tie
 
 -- The numbers from i on have been read.
-record Read (tree t places firsts held : List ℕ) (top end i : ℕ) : Type 0 where
+record Read (tree t places stack held : List ℕ) (top end i : ℕ) : Type 0 where
   left : end + i ≤ length tree
   wide : length places ≡ sheet-room
-  deep : length firsts ≡ sheet-room
+  deep : length stack ≡ sheet-room
   blank : Blank held
-  stack : Stack places firsts top end
-  told : (q : ℕ) → broken q (take end places) (drop top firsts) ≡ values-of (tried t q) (drop i tree)
+  sound : Stack places stack top end
+  told : (q : ℕ) → broken q (take end places) (drop top stack) ≡ values-of (tried t q) (drop i tree)
 
-begun : (tree t places firsts held : List ℕ) → length places ≡ sheet-room → length firsts ≡ sheet-room → Blank held → Read tree t places firsts held (length firsts) 0 (length tree)
+begun : (tree t places stack held : List ℕ) → length places ≡ sheet-room → length stack ≡ sheet-room → Blank held → Read tree t places stack held (length stack) 0 (length tree)
 unfolding broken bottom among
-begun tree t places firsts held w d b =
+begun tree t places stack held w d b =
     record {
       left = omega arith;
       wide = w;
       deep = d;
       blank = b;
-      stack = record { room = omega arith; low = omega arith; stacked = rw (drop-length firsts) tt; whole = rw (drop-length firsts); inside = λ x h. true-false (sym h) };
-      told = λ q. rw (drop-length firsts, drop-length tree) (sym (values-none (tried t q)));
+      sound = record { room = omega arith; low = omega arith; stacked = rw (drop-length stack) tt; whole = rw (drop-length stack); inside = λ x h. true-false (sym h) };
+      told = λ q. rw (drop-length stack, drop-length tree) (sym (values-none (tried t q)));
     }
 
-module _ {tree t places firsts held : List ℕ} {top end i : ℕ} (h : Spells-tree tree) (few : length tree ≤ sheet-room) (r : Read tree t places firsts held top end i) where
+module _ {tree t places stack held : List ℕ} {top end i : ℕ} (h : Spells-tree tree) (few : length tree ≤ sheet-room) (r : Read tree t places stack held top end i) where
   -- As many entries stand on the stack as there are trees.
-  count : length (drop top firsts) ≡ trees-of (drop i tree)
-  count = sym (broken-length 0 (take end places) (drop top firsts)) ∙ ap length (r .told 0) ∙ values-length (tried t 0) (drop i tree)
+  count : length (drop top stack) ≡ trees-of (drop i tree)
+  count = sym (broken-length 0 (take end places) (drop top stack)) ∙ ap length (r .told 0) ∙ values-length (tried t 0) (drop i tree)
 
   here : 0 < i → Node-here tree (i - 1)
   here l = let k = r .left in node-here tree h (i - 1) (omega arith)
 
   -- The number before them finds its room on the stack, and its children.
-  asked : 0 < i → {x : ℕ} → x ≡ getD tree (i - 1) 0 → (1 ≤ top) × (is-literal x ≡ true → place-at x < most-literals) × (is-literal x ≡ false → top + children x ≤ length firsts)
+  asked : 0 < i → {x : ℕ} → x ≡ getD tree (i - 1) 0 → (1 ≤ top) × (is-literal x ≡ true → place-at x < most-literals) × (is-literal x ≡ false → top + children x ≤ length stack)
   asked l e =
       let n = here l in
       let p : suc (i - 1) ≡ i = omega arith in
-      let low = r .stack .low in
+      let low = r .sound .low in
       let deep = r .deep in
       let wide = count in
-      let left = length-drop top firsts in
+      let left = length-drop top stack in
       let few-trees = rw p at (n .few) in
       let enough = rw (p, ← e) at (n .enough) in
       (omega arith, λ q. rw e (n .inside (rw e at q)), λ q. omega (arith, enough q))
 
   -- What is read with it.
-  more : 0 < i → {x : ℕ} → x ≡ getD tree (i - 1) 0 → {places′ firsts′ held′ : List ℕ} {top′ end′ : ℕ} → length places′ ≡ length places → length firsts′ ≡ length firsts → end′ ≤ end + 1 → Stack places′ firsts′ top′ end′ → Blank held′ → ((q : ℕ) → broken q (take end′ places′) (drop top′ firsts′) ≡ with-node (tried t q) x (broken q (take end places) (drop top firsts))) → Read tree t places′ firsts′ held′ top′ end′ (i - 1)
+  more : 0 < i → {x : ℕ} → x ≡ getD tree (i - 1) 0 → {places′ stack′ held′ : List ℕ} {top′ end′ : ℕ} → length places′ ≡ length places → length stack′ ≡ length stack → end′ ≤ end + 1 → Stack places′ stack′ top′ end′ → Blank held′ → ((q : ℕ) → broken q (take end′ places′) (drop top′ stack′) ≡ with-node (tried t q) x (broken q (take end places) (drop top stack))) → Read tree t places′ stack′ held′ top′ end′ (i - 1)
   more l {x} e w d below s b f =
       let p : suc (i - 1) ≡ i = omega arith in
       record {
@@ -77,50 +77,50 @@ module _ {tree t places firsts held : List ℕ} {top end i : ℕ} (h : Spells-tr
         wide = w ∙ r .wide;
         deep = d ∙ r .deep;
         blank = b;
-        stack = s;
+        sound = s;
         told = λ q. f q ∙ ap (with-node (tried t q) x) (r .told q) ∙ rw (here l .numbers, values-more, p, e);
       }
 
 -- Where all are read, one entry stands on the stack, and the literals are the tree's own.
-module _ {tree t places firsts held : List ℕ} {top end i : ℕ} (h : Spells-tree tree) (r : Read tree t places firsts held top end i) (z : i ≡ 0) where
-  one : (q : ℕ) → broken q (take end places) (drop top firsts) ≡ tree-fails (tried t q) tree ∷ []
+module _ {tree t places stack held : List ℕ} {top end i : ℕ} (h : Spells-tree tree) (r : Read tree t places stack held top end i) (z : i ≡ 0) where
+  one : (q : ℕ) → broken q (take end places) (drop top stack) ≡ tree-fails (tried t q) tree ∷ []
   one q = r .told q ∙ rw z (tree-value tree h (tried t q))
 
-  single : length (drop top firsts) ≡ 1
-  single = sym (broken-length 0 (take end places) (drop top firsts)) ∙ ap length (one 0)
+  single : length (drop top stack) ≡ 1
+  single = sym (broken-length 0 (take end places) (drop top stack)) ∙ ap length (one 0)
 
-  top-left : top < length firsts
-  top-left = omega (arith, length-drop top firsts, single)
+  top-left : top < length stack
+  top-left = omega (arith, length-drop top stack, single)
 
   entry : ℕ
-  entry = getD firsts top 0
+  entry = getD stack top 0
 
-  next : drop top firsts ≡ entry ∷ drop (suc top) firsts
+  next : drop top stack ≡ entry ∷ drop (suc top) stack
   unfolding entry
-  next = drop-cons firsts top 0 top-left
+  next = drop-cons stack top 0 top-left
 
   -- They begin at the start.
   start : begin entry ≡ 0
   unfolding bottom
   start =
-      let rest : length (drop (suc top) firsts) ≡ 0 = omega (arith, single, length-drop top firsts, length-drop (suc top) firsts) in
-      sym (bottom-empty (begin entry) (drop (suc top) firsts) rest) ∙ rw next at (r .stack .whole)
+      let rest : length (drop (suc top) stack) ≡ 0 = omega (arith, single, length-drop top stack, length-drop (suc top) stack) in
+      sym (bottom-empty (begin entry) (drop (suc top) stack) rest) ∙ rw next at (r .sound .whole)
 
   verdict : (q : ℕ) → (failing entry || among q (take end places)) ≡ tree-fails (tried t q) tree
   unfolding broken
   verdict q =
-      let e : (failing entry || among q (drop (begin entry) (take end places))) ∷ broken q (take (begin entry) (take end places)) (drop (suc top) firsts) ≡ tree-fails (tried t q) tree ∷ [] = rw next at (one q) in
+      let e : (failing entry || among q (drop (begin entry) (take end places))) ∷ broken q (take (begin entry) (take end places)) (drop (suc top) stack) ≡ tree-fails (tried t q) tree ∷ [] = rw next at (one q) in
       let f : (failing entry || among q (drop (begin entry) (take end places))) ≡ tree-fails (tried t q) tree = cc in
       ap (λ n. failing entry || among q (drop n (take end places))) (sym start) ∙ f
 
   module _ (wide : length t ≡ most-literals) where
-    falls : getD firsts top 0 % 2 ≡ 1 → tree-fails t tree ≡ true
+    falls : getD stack top 0 % 2 ≡ 1 → tree-fails t tree ≡ true
     unfolding failing entry
     falls e =
         let b : failing entry ≡ true = eq-eqb (entry % 2) 1 e in
         sym (ap (λ u. tree-fails u tree) (tried-none t wide)) ∙ sym (verdict most-literals) ∙ rw b
 
-    module _ (odd : getD firsts top 0 % 2 ≡ 1 → ⊥) where
+    module _ (odd : getD stack top 0 % 2 ≡ 1 → ⊥) where
       exact : (q : ℕ) → among q (take end places) ≡ tree-fails (tried t q) tree
       unfolding failing entry
       exact q = let b : failing entry ≡ false = ne-eqb (entry % 2) 1 odd in rw b at (verdict q)
@@ -128,7 +128,7 @@ module _ {tree t places firsts held : List ℕ} {top end i : ℕ} (h : Spells-tr
       stood : tree-fails t tree ≡ false
       stood =
           sym (ap (λ u. tree-fails u tree) (tried-none t wide)) ∙ sym (exact most-literals)
-          ∙ fails-if (among most-literals (take end places)) (λ e. omega (arith, r .stack .inside most-literals e))
+          ∙ fails-if (among most-literals (take end places)) (λ e. omega (arith, r .sound .inside most-literals e))
 
       -- A literal of the list breaks the tree; its complement does not fail, or nothing would be tried.
       breaks : (x : ℕ) → among x (take end places) ≡ true → tree-fails (set t x 1) tree ≡ true
@@ -138,7 +138,7 @@ module _ {tree t places firsts held : List ℕ} {top end i : ℕ} (h : Spells-tr
           (either (eqb (getD t (opposite x) 0) 1))
 
       long : length (take end places) ≡ end
-      long = length-take-le end places (r .stack .room)
+      long = length-take-le end places (r .sound .room)
 
       listed : (k : ℕ) → k < end → among (getD places k 0) (take end places) ≡ true
       listed k l = rw (← getD-take end places k 0 l) (among-at (take end places) k (omega (arith, long)))
@@ -152,9 +152,9 @@ module _ {tree t places firsts held : List ℕ} {top end i : ℕ} (h : Spells-tr
       stands : Broken-by t tree places end
       stands =
           record {
-            few = omega (arith, r .stack .room, r .wide);
+            few = omega (arith, r .sound .room, r .wide);
             stands = stood;
-            each = λ k l. (r .stack .inside (getD places k 0) (listed k l), breaks (getD places k 0) (listed k l));
+            each = λ k l. (r .sound .inside (getD places k 0) (listed k l), breaks (getD places k 0) (listed k l));
             all = λ q l d e. found q (exact q ∙ ap (λ u. tree-fails u tree) (tried-asked t q d) ∙ e);
           }
 
@@ -166,10 +166,10 @@ blank-zeros = (
 )
 
 abbrev Inv-loop : tie.InvT-loop
-Inv-loop tree failed places₀ firsts₀ held₀ top₀ end₀ i₀ places firsts held top end i = Read tree failed places firsts held top end i
+Inv-loop tree failed places₀ stack₀ held₀ top₀ end₀ i₀ places stack held top end i = Read tree failed places stack held top end i
 
 abbrev μ-loop : tie.MeasureT-loop
-μ-loop tree failed places₀ firsts₀ held₀ top₀ end₀ i₀ places firsts held top end i = i
+μ-loop tree failed places₀ stack₀ held₀ top₀ end₀ i₀ places stack held top end i = i
 
 loop-holds : tie.Need-loop-holds Inv-loop μ-loop
 loop-holds c =
@@ -198,7 +198,7 @@ read-node-requires c κs =
     let r = n .loop .inv in
     let l = c .before .before .before .before .before .loop-test .taken in (
       asked (p .0) (p .1) r l (c .before .before .before .wide16 .ensures .0),
-      ((omega (arith, r .left, p .1), r .wide, r .deep, r .stack), (p .2, r .blank)),
+      ((omega (arith, r .left, p .1), r .wide, r .deep, r .sound), (p .2, r .blank)),
     )
 
 loop-less : tie.Need-loop-less Inv-loop μ-loop
@@ -213,6 +213,13 @@ loop-again c =
     let e = call .ensures .0 in
     more (p .0) (p .1) (n .loop .inv) (w .before .before .loop-test .taken) (w .wide16 .ensures .0) (call .kept .1 .1 .1 .1 .0) (call .kept .1 .1 .1 .1 .1 .0) (e .0) (e .1) (e .2) (call .ensures .1)
 
+-- The list and the stack keep their lengths.
+kept : (c : tie.At-loop Inv-loop μ-loop) → let a = c .before .before .before .before .before .args in
+    (length (c .loop .places) ≡ length (a .places .now)) × (length (c .loop .stack) ≡ length (a .stack .now))
+kept c =
+    let p = c .before .before .before .before .before .pre in
+    (c .loop .inv .wide ∙ sym (p .3), c .loop .inv .deep ∙ sym (p .4))
+
 mul-if1 : tie.Need-mul-if1 Inv-loop μ-loop
 mul-if1 c = search needs
 
@@ -222,14 +229,10 @@ slice-read-if1 c =
     top-left (n .before .before .before .before .before .pre .0) (n .loop .inv) (omega arith)
 
 same-length : tie.Need-same-length Inv-loop μ-loop
-same-length c =
-    let n = c .before .before .before in
-    n .loop .inv .wide ∙ sym (n .before .before .before .before .before .pre .3)
+same-length c = kept (c .before .before .before) .0
 
 same-length-2 : tie.Need-same-length-2 Inv-loop μ-loop
-same-length-2 c =
-    let n = c .before .before .before in
-    n .loop .inv .deep ∙ sym (n .before .before .before .before .before .pre .4)
+same-length-2 c = kept (c .before .before .before) .1
 
 returns : tie.Need-returns Inv-loop μ-loop
 returns c =
@@ -238,14 +241,10 @@ returns c =
     falls (p .0) (n .loop .inv) (omega arith) (p .2) (c .if1 .taken)
 
 same-length-3 : tie.Need-same-length-3 Inv-loop μ-loop
-same-length-3 c =
-    let n = c .before .before .before in
-    n .loop .inv .wide ∙ sym (n .before .before .before .before .before .pre .3)
+same-length-3 c = kept (c .before .before .before) .0
 
 same-length-4 : tie.Need-same-length-4 Inv-loop μ-loop
-same-length-4 c =
-    let n = c .before .before .before in
-    n .loop .inv .deep ∙ sym (n .before .before .before .before .before .pre .4)
+same-length-4 c = kept (c .before .before .before) .1
 
 returns-2 : tie.Need-returns-2 Inv-loop μ-loop
 returns-2 c =

@@ -10,7 +10,7 @@ use borrow.Author.Needs.{needs}
 use lib.ListN.{length, getD, drop, set, length-set}
 use lib.Seq.{drop-cons, drop-length}
 use Rattle.model.specs.Limits.{most-literals}
-use Rattle.breaking.specs.Stacks.{Places, raised}
+use Rattle.breaking.specs.Stacks.{In-table, raised}
 use Rattle.breaking.proofs.Among.{among-at}
 use Rattle.breaking.proofs.Holding.{raised-here, raised-none, raised-end}
 use Rattle.breaking.proofs.hold.Statement.{statement}
@@ -23,7 +23,7 @@ record Raising (list first : List ℕ) (n : ℕ) (held : List ℕ) (i : ℕ) : T
   same : (x : ℕ) → raised n list first x ≡ raised n (drop i list) held x
 
 module _ {list first : List ℕ} {n : ℕ} {held : List ℕ} {i : ℕ} (r : Raising list first n held i) (l : i < length list) where
-  inside : Places list → length first ≡ most-literals → {y : ℕ} → y ≡ getD list i 0 → y < length held
+  inside : In-table list → length first ≡ most-literals → {y : ℕ} → y ≡ getD list i 0 → y < length held
   inside h w e = omega (arith, r .wide, h (getD list i 0) (among-at list i l))
 
   module _ {y : ℕ} (e : y ≡ getD list i 0) (in-table : y < length held) where

@@ -16,7 +16,7 @@ use Rattle.model.specs.Forest.{or}
 use Rattle.theory.specs.Evaluation.{fails-all}
 use Rattle.theory.specs.Values.{or-none, or-more}
 use Rattle.theory.specs.Logic.{either, or-left, or-right}
-use Rattle.breaking.specs.Stacks.{among, Places, begin, failing, broken, Stacked, bottom, standing, raised, Blank, Blank-but, Counted}
+use Rattle.breaking.specs.Stacks.{among, In-table, begin, failing, broken, Stacked, bottom, standing, raised, Blank, Blank-but, Counted}
 use Rattle.breaking.proofs.Among.{among-take, among-drop, among-cut, lent}
 use Rattle.breaking.proofs.Holding.{raised-at, raised-most, raised-other}
 use Rattle.breaking.proofs.Entries.{failing-odd, failing-even, standing-more, standing-same}
@@ -76,7 +76,7 @@ module _ {ls fs held : List ℕ} {n to i : ℕ} (r : Reached ls fs held n to i) 
   unfolding broken own
   after x = rw (next, take-take (begin f) to ls (cut .0))
 
-  own-inside : Places ls → Places own
+  own-inside : In-table ls → In-table own
   unfolding own
   own-inside h x g = h x (among-take x to ls (among-drop x (begin f) (take to ls) g))
 

@@ -13,7 +13,7 @@ use lib.Seq.{length-take-le, take-take, drop-at, take-append-add, take-append-le
 use Rattle.model.specs.Forest.{or}
 use Rattle.theory.specs.Evaluation.{fails-all}
 use Rattle.theory.specs.Logic.{and-split, or-split}
-use Rattle.breaking.specs.Stacks.{among, Places, broken, bottom, Children, Counted}
+use Rattle.breaking.specs.Stacks.{among, In-table, broken, bottom, Children, Counted}
 use Rattle.breaking.proofs.Among.{among-append, among-take, among-drop, lent}
 use Rattle.breaking.proofs.Entries.{bottom-low}
 use Rattle.breaking.proofs.Groups.{common-breaks}
@@ -32,7 +32,7 @@ module _ {places fs : List ℕ} {base end : ℕ} (g : Children places fs base en
   unfolding own
   own-part = rw (length-take-le end places (g .room), ← g .first) (lent base end places low (g .room))
 
-  own-inside : Places (own places base end)
+  own-inside : In-table (own places base end)
   unfolding own
   own-inside x m = g .inside x (among-drop x base (take end places) (rw (lent base end places low (g .room)) at m))
 
@@ -64,7 +64,7 @@ module _ {places fs : List ℕ} {base end : ℕ} (g : Children places fs base en
     unfolding new
     breaks q = rw (back ys r (omega arith), found q, own-part) (common-breaks counts some q)
 
-    kept-inside : Places (take (base + r) new)
+    kept-inside : In-table (take (base + r) new)
     unfolding new
     kept-inside x m = ⊎-elim
         (λ e. g .inside x (among-take x base (take end places) (rw (take-take base end places low) e)))

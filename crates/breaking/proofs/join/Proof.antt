@@ -15,7 +15,7 @@ use Rattle.model.specs.Limits.{sheet-room}
 use Rattle.model.specs.Forest.{or, root}
 use Rattle.theory.specs.Logic.{true-false}
 use Rattle.theory.specs.Evaluation.{fails-all}
-use Rattle.breaking.specs.Stacks.{among, Places, broken, Stacked, bottom, standing, Children, Made}
+use Rattle.breaking.specs.Stacks.{among, In-table, broken, Stacked, bottom, standing, Children, Made}
 use Rattle.breaking.proofs.Entries.{bottom-low}
 use Rattle.breaking.proofs.Groups.{falls-by, stands-by, makes-failing, makes-standing}
 use Rattle.breaking.proofs.join.Statement.{statement}
@@ -49,7 +49,7 @@ module _ {places fs : List ℕ} {base end : ℕ} (g : Children places fs base en
       (λ q. ap (λ n. among q (drop n (take end places))) base-is ∙ stands-by d q (take end places) fs stacked h)
 
   -- With the literals that all have.
-  meets : d ≡ true → (new : List ℕ) (r : ℕ) → base ≤ r → r ≤ length new → take base new ≡ take base places → Places (take r new) → ((q : ℕ) → among q (drop base (take r new)) ≡ fails-all or (broken q (take end places) fs)) → Made value (take end places) fs (take r new) (2 * base)
+  meets : d ≡ true → (new : List ℕ) (r : ℕ) → base ≤ r → r ≤ length new → take base new ≡ take base places → In-table (take r new) → ((q : ℕ) → among q (drop base (take r new)) ≡ fails-all or (broken q (take end places) fs)) → Made value (take end places) fs (take r new) (2 * base)
   unfolding pick
   meets h new r above most same places-new each =
       makes-standing value (take end places) fs stacked (g .inside) base-is (take r new) (omega (arith, length-take-le r new most))

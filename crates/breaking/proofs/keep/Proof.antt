@@ -13,7 +13,7 @@ use lib.ListN.{length, getD, take, drop, set, length-set}
 use lib.Seq.{drop-cons, drop-length, take-suc-set, drop-set-lt}
 use Rattle.model.specs.Limits.{most-literals}
 use Rattle.theory.specs.Logic.{true-false}
-use Rattle.breaking.specs.Stacks.{among, Places, Blank-but}
+use Rattle.breaking.specs.Stacks.{among, In-table, Blank-but}
 use Rattle.breaking.proofs.Among.{among-same, among-drop}
 use Rattle.breaking.proofs.Holding.{kept-here, kept-none, blank-more}
 use Rattle.breaking.proofs.keep.Statement.{statement}
@@ -25,11 +25,11 @@ record Keeping (list₀ held₀ : List ℕ) (n : ℕ) (list held : List ℕ) (ke
   low : kept ≤ i
   long : length list ≡ length list₀
   wide : length held ≡ length held₀
-  inside : Places (drop i list)
+  inside : In-table (drop i list)
   found : (x : ℕ) → (among x (take kept list) || (among x (drop i list) && eqb (getD held x 0) n)) ≡ (among x list₀ && eqb (getD held₀ x 0) n)
   blank : Blank-but (drop i list) held
 
-begun : (list held : List ℕ) (n : ℕ) → Places list → Blank-but list held → Keeping list held n list held 0 0
+begun : (list held : List ℕ) (n : ℕ) → In-table list → Blank-but list held → Keeping list held n list held 0 0
 unfolding among
 begun list held n h g =
     record { left = omega arith; low = omega arith; long = refl; wide = refl; inside = h; found = λ x. refl; blank = g }
@@ -45,7 +45,7 @@ module _ {list₀ held₀ : List ℕ} {n : ℕ} {list held : List ℕ} {kept i :
   in-table : length held₀ ≡ most-literals → y < length held
   in-table w = omega (arith, r .wide, r .inside y (rw next (among-same y y rest refl)))
 
-  rest-inside : Places rest
+  rest-inside : In-table rest
   unfolding rest
   rest-inside x h = r .inside x (rw next (among-drop x 1 (y ∷ rest) h))
 

@@ -16,8 +16,8 @@ use Rattle.breaking.proofs.read_group.Statement.{statement}
 use Rattle.breaking.proofs.read_group.Tie as tie
 
 -- The children's entries, in the part that is lent.
-lent-children : (x top : ℕ) (firsts : List ℕ) {v : ℕ} → v ≡ children x → take (top + v - top) (drop top firsts) ≡ take (children x) (drop top firsts)
-lent-children x top firsts {v} e = let n : top + v - top ≡ children x = omega arith in rw n
+lent-children : (x top : ℕ) (stack : List ℕ) {v : ℕ} → v ≡ children x → take (top + v - top) (drop top stack) ≡ take (children x) (drop top stack)
+lent-children x top stack {v} e = let n : top + v - top ≡ children x = omega arith in rw n
 
 relabel : (x : ℕ) {ls part fs new : List ℕ} {k f : ℕ} → k ≡ kind x → part ≡ fs → Made (λ q. fails-all (pick (eqb k 4) or root) (broken q ls part)) ls part new f → Made (λ q. fails-all (pick (eqb (kind x) 4) or root) (broken q ls fs)) ls fs new f
 relabel x {ls} {new = new} {f = f} e h = subst₂ (λ j gs. Made (λ q. fails-all (pick (eqb j 4) or root) (broken q ls gs)) ls gs new f) e h
@@ -65,9 +65,9 @@ join-requires c κs =
     let p = a .pre in
     let k = p .0 .2 in
     let v = n .before .before .children-of .result in
-    let fs = drop (a .args .top) (a .args .firsts .now) in (
+    let fs = drop (a .args .top) (a .args .stack .now) in (
       record {
-        few = omega (arith, length-take (a .args .top + v - a .args .top) fs, length-drop (a .args .top) (a .args .firsts .now), p .0 .1);
+        few = omega (arith, length-take (a .args .top + v - a .args .top) fs, length-drop (a .args .top) (a .args .stack .now), p .0 .1);
         room = k .room;
         inside = k .inside;
         stacked = stacked-take (a .args .end) (a .args .top + v - a .args .top) fs (k .stacked);
@@ -88,7 +88,7 @@ returns c =
     let n = c .before .before .before .before in
     let v = n .before .before .before .before .before .before .before in
     let a = v .before .before .before .before in
-    (relabel (a .args .x) (n .before .before .before .kind-of .ensures) (lent-children (a .args .x) (a .args .top) (a .args .firsts .now) (v .children-of .ensures)) (n .join .ensures .0), n .join .ensures .1)
+    (relabel (a .args .x) (n .before .before .before .kind-of .ensures) (lent-children (a .args .x) (a .args .top) (a .args .stack .now) (v .children-of .ensures)) (n .join .ensures .0), n .join .ensures .1)
 
 pub read-group-spec : {M : Type 1} → statement M
 read-group-spec =

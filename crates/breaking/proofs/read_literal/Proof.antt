@@ -14,14 +14,14 @@ use lib.Seq.{length-take-le, take-take, take-suc-set, take-at, drop-at}
 use Rattle.model.specs.Limits.{most-literals}
 use Rattle.theory.specs.Logic.{or-split}
 use Rattle.breaking.specs.Breaking.{opposite}
-use Rattle.breaking.specs.Stacks.{among, Places, bottom, tried, Made}
+use Rattle.breaking.specs.Stacks.{among, In-table, bottom, tried, Made}
 use Rattle.breaking.proofs.Among.{among-last}
 use Rattle.breaking.proofs.Groups.{makes-failing, makes-standing}
-use Rattle.breaking.proofs.Tables.{opposite-below, fails-anyway, never-asked, asked}
+use Rattle.breaking.proofs.Tried.{opposite-below, fails-anyway, never-asked, asked}
 use Rattle.breaking.proofs.read_literal.Statement.{statement}
 use Rattle.breaking.proofs.read_literal.Tie as tie
 
-module _ (places t : List ℕ) (p end : ℕ) (room : end < length places) (inside : Places (take end places)) (small : p < most-literals) (wide : length t ≡ most-literals) where
+module _ (places t : List ℕ) (p end : ℕ) (room : end < length places) (inside : In-table (take end places)) (small : p < most-literals) (wide : length t ≡ most-literals) where
   -- Whether the literal fails, where another one does.
   abbrev value : ℕ → Bool
   value q = eqb (getD (tried t q) p 0) 1
@@ -49,7 +49,7 @@ module _ (places t : List ℕ) (p end : ℕ) (room : end < length places) (insid
   more : take (end + 1) (set places end p) ≡ take end places ++ (p ∷ [])
   more = rw (add-one end) (take-suc-set places end p room)
 
-  more-inside : Places (take end places ++ (p ∷ []))
+  more-inside : In-table (take end places ++ (p ∷ []))
   more-inside x h = ⊎-elim
       (inside x)
       (λ e. rw (eqb-true x p e) small)

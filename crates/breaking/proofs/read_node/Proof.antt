@@ -42,7 +42,7 @@ inner : (c : tie.Else1) → is-literal (c .before .before .before .before .befor
 inner c = sym (c .before .is-literal .ensures) ∙ c .if1 .left
 
 -- A connective's children are on the stack.
-enough : (c : tie.After-children-of) → let a = c .before .before .before .before .before .before .before .args in a .top + c .children-of .result ≤ length (a .firsts .now)
+enough : (c : tie.After-children-of) → let a = c .before .before .before .before .before .before .before .args in a .top + c .children-of .result ≤ length (a .stack .now)
 enough c =
     let a = c .before .before .before .before .before .before .before in
     omega (arith, c .children-of .ensures, a .pre .0 .2 (inner (c .before)))
@@ -58,11 +58,11 @@ read-literal-requires c κs =
       (omega (arith, p .1 .0), p .1 .0 .1, p .1 .0 .3 .inside),
     )
 
-mul-firsts : tie.Need-mul-firsts
-mul-firsts c = search needs
+mul-stack : tie.Need-mul-stack
+mul-stack c = search needs
 
-slice-write-firsts : tie.Need-slice-write-firsts
-slice-write-firsts c = search needs
+slice-write-stack : tie.Need-slice-write-stack
+slice-write-stack c = search needs
 
 same-length : tie.Need-same-length
 same-length c = search needs
@@ -79,7 +79,7 @@ returns c =
     let g = a .args in
     let h = p .1 .0 .3 in
     let at : suc (g .top - 1) ≡ g .top + 0 = omega (arith, p .0 .0) in
-    let low : g .top - 1 < length (g .firsts .now) = omega (arith, h .low, p .0 .0) in
+    let low : g .top - 1 < length (g .stack .now) = omega (arith, h .low, p .0 .0) in
     let room : r .result .end ≤ length (r .last .1 .1 .1 .0) = omega (arith, r .ensures .1, r .kept .1 .1 .1 .0, p .1 .0 .0, p .1 .0 .1) in
     let w = pushed h 0 (g .top - 1) (r .result .first) (r .last .1 .1 .1 .0) (r .result .end) at low room (r .ensures .0) in
     ((r .ensures .1, w .0, p .1 .1 .1), λ q. w .1 q ∙ at-literal (tried (g .failed .now) q) (g .x) _ (c .before .before .before .before .place-of .ensures) (literal t))
@@ -99,14 +99,14 @@ read-group-requires c κs =
     let p = a .pre in
     ((p .0 .2 (inner (c .before .before .before .before)), p .1 .0 .2, p .1 .0 .3), (p .1 .0 .1, p .1 .1 .1))
 
-mul-firsts-2 : tie.Need-mul-firsts-2
-mul-firsts-2 c =
+mul-stack-2 : tie.Need-mul-stack-2
+mul-stack-2 c =
     let n = c .before .before .before .before .before .before .before .before in
     let p = n .before .before .before .before .before .before .before .pre in
     omega (arith, enough n, p .1 .0 .2, p .0 .0)
 
-slice-write-firsts-2 : tie.Need-slice-write-firsts-2
-slice-write-firsts-2 c =
+slice-write-stack-2 : tie.Need-slice-write-stack-2
+slice-write-stack-2 c =
     let n = c .before .before .before .before .before .before .before .before in
     let p = n .before .before .before .before .before .before .before .pre in
     omega (arith, enough n, p .1 .0 .2, p .0 .0)
@@ -130,10 +130,10 @@ returns-2 c =
     let h = p .1 .0 .3 in
     let i : ℕ = g .top + n .children-of .result - 1 in
     let at : suc i ≡ g .top + children (g .x) = omega (arith, n .children-of .ensures, p .0 .0) in
-    let low : i < length (g .firsts .now) = omega (arith, enough n, p .0 .0) in
+    let low : i < length (g .stack .now) = omega (arith, enough n, p .0 .0) in
     let room : r .result .end ≤ length (r .last .1 .1 .1 .0) = omega (arith, r .ensures .1 .0, r .kept .1 .1 .1 .0, p .1 .0 .0, p .1 .0 .1) in
     let w = pushed h (children (g .x)) i (r .result .first) (r .last .1 .1 .1 .0) (r .result .end) at low room (r .ensures .0) in
-    ((omega (arith, r .ensures .1 .0), w .0, r .ensures .1 .1), λ q. w .1 q ∙ at-inner (tried (g .failed .now) q) (g .x) q (take (g .end) (g .places .now)) (drop (g .top) (g .firsts .now)) (inner (n .before)))
+    ((omega (arith, r .ensures .1 .0), w .0, r .ensures .1 .1), λ q. w .1 q ∙ at-inner (tried (g .failed .now) q) (g .x) q (take (g .end) (g .places .now)) (drop (g .top) (g .stack .now)) (inner (n .before)))
 
 pub read-node-spec : {M : Type 1} → statement M
 read-node-spec =
@@ -143,8 +143,8 @@ read-node-spec =
     sub-new
     place-of-requires
     read-literal-requires
-    mul-firsts
-    slice-write-firsts
+    mul-stack
+    slice-write-stack
     same-length
     same-length-2
     returns
@@ -152,8 +152,8 @@ read-node-spec =
     add-new
     sub-new-2
     read-group-requires
-    mul-firsts-2
-    slice-write-firsts-2
+    mul-stack-2
+    slice-write-stack-2
     same-length-3
     same-length-4
     same-length-5

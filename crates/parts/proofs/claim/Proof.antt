@@ -4,7 +4,7 @@ use Prim.Native.Nat.{_-_, _≤_}
 use native.Mathlib.Omega.{arith}
 use borrow.Author.Needs.{needs}
 use Rattle.parts.specs.Parts.{Claimed}
-use Rattle.parts.proofs.Tables.{claimed-none, claimed-more}
+use Rattle.parts.proofs.Linking.{claimed-none, claimed-more}
 use Rattle.parts.proofs.claim.Statement.{statement}
 use Rattle.parts.proofs.claim.Tie as tie
 
@@ -23,8 +23,8 @@ cast-homes c = search needs
 mul-homes : tie.Need-mul-homes Inv-loop μ-loop
 mul-homes c = search needs
 
-slice-write-homes : tie.Need-slice-write-homes Inv-loop μ-loop
-slice-write-homes c = omega (arith, c .before .loop .inv .2 .long)
+element-write-homes : tie.Need-element-write-homes Inv-loop μ-loop
+element-write-homes c = search needs
 
 add-n : tie.Need-add-n Inv-loop μ-loop
 add-n c = search needs
@@ -38,9 +38,6 @@ loop-again c =
     let p = c .before .before .pre in
     (search needs, search needs, claimed-more (w .2) (w .0) (omega (arith, w .2 .long)))
 
-same-length : tie.Need-same-length Inv-loop μ-loop
-same-length c = c .before .loop .inv .2 .long
-
 returns : tie.Need-returns Inv-loop μ-loop
 returns c =
     let n = c .before in
@@ -50,16 +47,4 @@ returns c =
 
 pub claim-spec : {M : Type 1} → statement M
 claim-spec =
-    tie.close
-    (tie.spec
-    Inv-loop
-    μ-loop
-    loop-holds
-    cast-homes
-    mul-homes
-    slice-write-homes
-    add-n
-    loop-less
-    loop-again
-    same-length
-    returns)
+    tie.close (tie.spec Inv-loop μ-loop loop-holds cast-homes mul-homes element-write-homes add-n loop-less loop-again returns)

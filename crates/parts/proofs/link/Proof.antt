@@ -5,46 +5,48 @@ use mathlib.Core.Path.{_≡_, sym, ap, _∙_}
 use Prim.Native.Nat.{ℕ, _+_, _-_, _<_}
 use native.Mathlib.Omega.{arith}
 use borrow.Author.Needs.{needs}
-use lib.ListN.{length, getD, length-replicate}
+use lib.ListN.{getD}
 use Rattle.model.specs.Limits.{sheet-length, most-literals}
 use Rattle.model.specs.Sheet.{used-in}
 use Rattle.theory.specs.Scan.{is-literal}
 use Rattle.theory.specs.Sheets.{Formed}
 use Rattle.theory.specs.Leaves.{place-at}
-use Rattle.parts.proofs.Tables.{literal-place, Linking, linking-none, linking-other, linking-more, linked}
+use Rattle.parts.proofs.Linking.{literal-place, Linking, linking-none, linking-other, linking-more, linked}
 use Rattle.parts.proofs.link.Statement.{statement}
 use Rattle.parts.proofs.link.Tie as tie
 
 abbrev Inv-loop : tie.InvT-loop
-Inv-loop sheet last₀ earlier₀ end i₀ last earlier i = (end ≡ 2 + used-in sheet) × Linking sheet last earlier i
+Inv-loop sheet links₀ end i₀ links i = (end ≡ 2 + used-in sheet) × Formed sheet × Linking sheet links i
 
 abbrev μ-loop : tie.MeasureT-loop
-μ-loop sheet last₀ earlier₀ end i₀ last earlier i = end - i
+μ-loop sheet links₀ end i₀ links i = end - i
 
--- What the sheet holds, and that the place is one of its numbers.
-sheet : (c : tie.At-loop Inv-loop μ-loop) → Formed (c .before .before .before .before .before .before .args .sheet .now)
-sheet c = (c .before .before .before .before .before .before .pre .0)
+-- The number at the place.
+abbrev number : (c : tie.In-loop Inv-loop μ-loop) → ℕ
+number c = getD (c .before .before .before .before .before .args .sheet .now) (c .before .loop .i) 0
 
-within : (c : tie.In-loop Inv-loop μ-loop) → c .before .loop .i < 2 + used-in (c .before .before .before .before .before .before .before .args .sheet .now)
-within c = rw (← c .before .loop .inv .0) (c .loop-test .taken)
-
+-- The place is one of the sheet's numbers.
 near : (c : tie.In-loop Inv-loop μ-loop) → c .before .loop .i < sheet-length
-near c = let k = sheet (c .before) in omega (arith, within c, k .used)
+near c = let w = c .before .loop .inv in omega (arith, w .0, w .1 .used)
 
 -- Which literal it is, where it is one.
-literal : (c : tie.Then1 Inv-loop μ-loop) → is-literal (getD (c .before .before .before .before .before .before .before .before .before .before .before .args .sheet .now) (c .before .before .before .before .before .loop .i) 0) ≡ true
-literal c = ap is-literal (sym (c .before .before .wide162 .ensures .0)) ∙ sym (c .before .is-literal .ensures) ∙ c .if1 .taken
+told : (c : tie.After-wide162 Inv-loop μ-loop) → is-literal (number (c .before .before)) ≡ is-literal (c .wide162 .result)
+told c = ap is-literal (sym (c .wide162 .ensures .0))
 
-placed : (c : tie.After-place-of Inv-loop μ-loop) → c .place-of .result ≡ place-at (getD (c .before .before .before .before .before .before .before .before .before .before .before .before .args .sheet .now) (c .before .before .before .before .before .before .loop .i) 0)
+literal : (c : tie.Then1 Inv-loop μ-loop) → is-literal (number (c .before .before .before .before)) ≡ true
+literal c = told (c .before .before) ∙ sym (c .before .is-literal .ensures) ∙ c .if1 .taken
+
+placed : (c : tie.After-place-of Inv-loop μ-loop) → c .place-of .result ≡ place-at (number (c .before .before .before .before .before))
 placed c = c .place-of .ensures ∙ ap place-at (c .before .before .before .wide162 .ensures .0)
 
 small : (c : tie.After-place-of Inv-loop μ-loop) → c .place-of .result < most-literals
 small c =
     let n = c .before .before .before .before .before in
-    rw (placed c) (literal-place _ (c .before .before .before .before .before .before .before .before .before .before .before .before .pre .0) (n .before .loop .i) (n .before .loop .inv .1 .from) (within n) (literal (c .before)))
+    let w = n .before .loop .inv in
+    rw (placed c) (literal-place _ (w .1) (n .before .loop .i) (w .2 .from) (omega arith) (literal (c .before)))
 
 shared-slice-read-wide16 : tie.Need-shared-slice-read-wide16 Inv-loop μ-loop
-shared-slice-read-wide16 c = let k = (c .before .before .before .before .pre .0) in omega arith
+shared-slice-read-wide16 c = let k = c .before .before .pre .0 in omega arith
 
 wide16-requires : tie.Need-wide16-requires Inv-loop μ-loop
 wide16-requires c κs = search needs
@@ -54,13 +56,15 @@ add-end c = search needs
 
 loop-holds : tie.Need-loop-holds Inv-loop μ-loop
 unfolding used-in
-loop-holds c = (ap (λ u. 2 + u) (c .wide16 .ensures .0), linking-none _ (c .before .before .before .before .before .pre .1) (c .before .before .before .before .before .pre .2))
+loop-holds c =
+    let p = c .before .before .before .pre in
+    (ap (λ u. 2 + u) (c .wide16 .ensures .0), p .0, linking-none _ (p .1))
 
 mul-wide16 : tie.Need-mul-wide16 Inv-loop μ-loop
 mul-wide16 c = omega (arith, near c)
 
 shared-slice-read-wide16-2 : tie.Need-shared-slice-read-wide16-2 Inv-loop μ-loop
-shared-slice-read-wide16-2 c = omega (arith, near (c .before), sheet (c .before .before) .whole)
+shared-slice-read-wide16-2 c = omega (arith, near (c .before), c .before .before .loop .inv .1 .whole)
 
 wide16-requires-2 : tie.Need-wide16-requires-2 Inv-loop μ-loop
 wide16-requires-2 c κs = search needs
@@ -71,26 +75,29 @@ is-literal-requires c κs = search needs
 place-of-requires : tie.Need-place-of-requires Inv-loop μ-loop
 place-of-requires c κs = sym (c .before .is-literal .ensures) ∙ c .if1 .taken
 
-mul-earlier : tie.Need-mul-earlier Inv-loop μ-loop
-mul-earlier c = omega (arith, small c)
+add-own : tie.Need-add-own Inv-loop μ-loop
+add-own c = omega (arith, small c)
 
-slice-read-earlier : tie.Need-slice-read-earlier Inv-loop μ-loop
-slice-read-earlier c = omega (arith, small (c .before), c .before .before .before .before .before .before .before .loop .inv .1 .wide)
+mul-links : tie.Need-mul-links Inv-loop μ-loop
+mul-links c = omega (arith, small c)
 
-mul-earlier-2 : tie.Need-mul-earlier-2 Inv-loop μ-loop
-mul-earlier-2 c = omega (arith, near (c .before .before .before .before .before .before))
+element-copy-out-links : tie.Need-element-copy-out-links Inv-loop μ-loop
+element-copy-out-links c = omega (arith, small c)
 
-slice-write-earlier : tie.Need-slice-write-earlier Inv-loop μ-loop
-slice-write-earlier c = omega (arith, near (c .before .before .before .before .before .before), c .before .before .before .before .before .before .before .loop .inv .1 .broad)
+mul-links-2 : tie.Need-mul-links-2 Inv-loop μ-loop
+mul-links-2 c = omega (arith, near (c .before .before .before .before .before .before))
 
-cast-last : tie.Need-cast-last Inv-loop μ-loop
-cast-last c = omega (arith, near (c .before .before .before .before .before .before))
+element-write-links : tie.Need-element-write-links Inv-loop μ-loop
+element-write-links c = omega (arith, near (c .before .before .before .before .before .before))
 
-mul-last : tie.Need-mul-last Inv-loop μ-loop
-mul-last c = omega (arith, small (c .before))
+cast-links : tie.Need-cast-links Inv-loop μ-loop
+cast-links c = omega (arith, near (c .before .before .before .before .before .before))
 
-slice-write-last : tie.Need-slice-write-last Inv-loop μ-loop
-slice-write-last c = omega (arith, small (c .before), c .before .before .before .before .before .before .before .loop .inv .1 .wide)
+mul-links-3 : tie.Need-mul-links-3 Inv-loop μ-loop
+mul-links-3 c = omega (arith, small (c .before))
+
+element-write-links-2 : tie.Need-element-write-links-2 Inv-loop μ-loop
+element-write-links-2 c = omega (arith, small (c .before))
 
 add-i : tie.Need-add-i Inv-loop μ-loop
 add-i c = omega (arith, near (c .before .before .before .before))
@@ -100,26 +107,20 @@ loop-less c = search needs
 
 loop-again : tie.Need-loop-again Inv-loop μ-loop
 loop-again c =
-    let n = c .before .before .before .before .before in
-    let p = c .before .before .before .before .before .before .before .before .before .before .before .pre in
-    let w = n .loop .inv in (
+    let n = c .before .before .before .before in
+    let w = n .before .loop .inv in (
       w .0,
+      w .1,
       ⊎-elim
           (λ v.
           let m : tie.After-place-of Inv-loop μ-loop = record { before = record { before = c .before; if1 = v .0 }; place-of = v .1 } in
-          rw (v .3, v .4) (linking-more (w .1) (within (c .before .before .before .before)) (literal (m .before)) (placed m) (small m) (near (c .before .before .before .before))))
-          (λ v. rw (v .1, v .2) (linking-other (w .1) (within (c .before .before .before .before)) (ap is-literal (sym (c .before .before .wide162 .ensures .0)) ∙ sym (c .before .is-literal .ensures) ∙ v .0 .left)))
+          rw (v .3) (linking-more (w .2) (omega arith) (literal (m .before)) (placed m) (small m) (near n)))
+          (λ v. rw (v .1) (linking-other (w .2) (omega arith) (told (c .before .before) ∙ sym (c .before .is-literal .ensures) ∙ v .0 .left)))
           (c .if1 .came),
     )
 
-same-length : tie.Need-same-length Inv-loop μ-loop
-same-length c = c .before .loop .inv .1 .wide ∙ sym (ap length (c .before .before .before .before .before .before .before .pre .1) ∙ length-replicate {A = ℕ} most-literals 0)
-
-same-length-2 : tie.Need-same-length-2 Inv-loop μ-loop
-same-length-2 c = c .before .loop .inv .1 .broad ∙ sym (c .before .before .before .before .before .before .before .pre .2)
-
 returns : tie.Need-returns Inv-loop μ-loop
-returns c = linked (c .before .loop .inv .1) (rw (c .before .loop .inv .0) at (c .loop-test .left))
+returns c = let w = c .before .loop .inv in linked (w .1) (w .2) (rw (w .0) at (c .loop-test .left))
 
 pub link-spec : {M : Type 1} → statement M
 link-spec =
@@ -136,16 +137,15 @@ link-spec =
     wide16-requires-2
     is-literal-requires
     place-of-requires
-    mul-earlier
-    slice-read-earlier
-    mul-earlier-2
-    slice-write-earlier
-    cast-last
-    mul-last
-    slice-write-last
+    add-own
+    mul-links
+    element-copy-out-links
+    mul-links-2
+    element-write-links
+    cast-links
+    mul-links-3
+    element-write-links-2
     add-i
     loop-less
     loop-again
-    same-length
-    same-length-2
     returns)

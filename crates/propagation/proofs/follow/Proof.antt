@@ -1,24 +1,37 @@
--- `propagation::follow` meets its contract. Invariant: the literals of the trail were visited so far, for small parts and for large
--- ones. Each turn visits one more, and the trail never has more literals than there are.
-use mathlib.Core.Path.{_≡_, sym, _∙_}
-use Prim.Native.Nat.{_+_, _*_, _-_, _≤_}
+-- `propagation::follow` meets its contract. Invariant: the literals of the trail were followed so far. Each turn of the loop goes
+-- down a chain or begins the next literal's, and the trail never has more literals than there are.
+use mathlib.Core.Path.{_≡_, refl, sym, _∙_}
+use Prim.Native.Nat.{_+_, _*_, _-_, _≤_, _<_}
 use native.Mathlib.Omega.{arith}
 use borrow.Author.Needs.{needs}
-use lib.ListN.{length}
-use Rattle.model.specs.Limits.{sheet-room, most-literals}
-use Rattle.propagation.proofs.Following.{fallen-report, Following, following-none, following-small, following-large, followed}
+use lib.ListN.{getD}
+use Rattle.model.specs.Limits.{sheet-length, most-literals}
+use Rattle.theory.specs.Sheets.{Formed}
+use Rattle.parts.specs.Parts.{Parted, Linked}
+use Rattle.propagation.specs.Trails.{Next-due}
+use Rattle.propagation.proofs.Watching.{watching-none}
+use Rattle.propagation.proofs.Following.{fallen-report, Following, following-none, following-looked}
+use Rattle.propagation.proofs.Following.{following-over, following-some, following-all, followed}
 use Rattle.propagation.proofs.follow.Statement.{statement}
 use Rattle.propagation.proofs.follow.Tie as tie
 
 abbrev Inv-loop : tie.InvT-loop
-Inv-loop sheet ends homes last earlier seen₀ failed₀ trail₀ start places₀ firsts₀ known₀ small₀ large₀ seen failed trail places firsts known small large =
-    (length places ≡ sheet-room) × (length firsts ≡ sheet-room) × Following sheet ends seen failed trail known small large
+Inv-loop sheet ends homes links seen₀ failed₀ trail₀ places₀ stack₀ begun known₀ small₀ large₀ turn₀
+    seen failed trail places stack known small large turn =
+    Formed sheet × Parted sheet ends homes × Linked sheet links × (small ≤ known) × Following sheet ends seen failed trail known large turn
 
 abbrev μ-loop : tie.MeasureT-loop
-μ-loop sheet ends homes last earlier seen₀ failed₀ trail₀ start places₀ firsts₀ known₀ small₀ large₀ seen failed trail places firsts known small large = 2 * most-literals - (small + large)
+μ-loop sheet ends homes links seen₀ failed₀ trail₀ places₀ stack₀ begun known₀ small₀ large₀ turn₀ seen failed trail places stack known small large turn =
+    8192 * (2 * most-literals - (small + large)) + turn .place
 
 short : (c : tie.At-loop Inv-loop μ-loop) → c .loop .known ≤ most-literals
-short c = omega (arith, c .loop .inv .2 .watching .facts .room)
+short c = omega (arith, c .loop .inv .4 .watching .facts .room)
+
+look-at-all-requires : tie.Need-look-at-all-requires Inv-loop μ-loop
+look-at-all-requires c κs =
+    let p = c .before .before .before .before .before .before .pre in
+    let r = p .1 .1 .1 in
+    (p .0, (p .1 .0 .part, watching-none _ _ (r .0) (r .1 .0) (r .1 .1)))
 
 enum-known-start : tie.Need-enum-known-start Inv-loop μ-loop
 enum-known-start c = search needs
@@ -27,16 +40,42 @@ enum-told : tie.Need-enum-told Inv-loop μ-loop
 enum-told c = search needs
 
 returns : tie.Need-returns Inv-loop μ-loop
-returns c = let p = c .before .before .before .before .before .before .before .before .before .before .before .before .pre in fallen-report (p .0 .0) (rw (c .enum-told .given .1) at (p .1))
+returns c =
+    let call = c .before .before in
+    fallen-report (call .before .before .before .before .before .before .before .pre .0) (rw (c .enum-told .given .1) at (call .look-at-all .ensures))
 
 loop-holds : tie.Need-loop-holds Inv-loop μ-loop
-loop-holds c = let p = c .before .before .before .before .before .before .before .before .before .before .before .before .before .pre in (p .0 .6, p .0 .7, following-none (rw (c .before .start .given .1) at (p .1)))
+loop-holds c =
+    let call = c .before .before .before in
+    let p = call .before .before .before .before .before .before .before .pre in
+    let watching = rw (c .before .start .given .1) at (call .look-at-all .ensures) in
+    (p .0, p .1 .0, p .1 .1 .0, omega arith, following-none watching refl refl)
 
-visit-requires : tie.Need-visit-requires Inv-loop μ-loop
-visit-requires c κs =
-    let p = c .before .before .before .before .before .before .before .before .before .before .before .before .before .before .before .before .before .before .before .before .before .pre .0 in
-    let w = c .before .before .before .before .before .before .before .loop .inv in
-    ((p .0, p .1, p .2, w .2 .watching, w .0, w .1), (omega arith, omega arith, omega arith, c .before .before .before .before .before .if1 .taken))
+next-due-requires : tie.Need-next-due-requires Inv-loop μ-loop
+next-due-requires c κs = let w = c .before .loop .inv in (w .4 .near, (w .2 .descends, w .1 .near))
+
+part-at-requires : tie.Need-part-at-requires Inv-loop μ-loop
+part-at-requires c κs = (c .before .next-due .ensures .near, c .before .before .before .loop .inv .1 .near (c .before .next-due .result))
+
+begins : (c : tie.After-part-at Inv-loop μ-loop) → c .part-at .result .from < sheet-length
+begins c = rw (c .part-at .ensures .0) (c .before .before .before .before .loop .inv .1 .near (c .before .before .next-due .result))
+
+cast-seen : tie.Need-cast-seen Inv-loop μ-loop
+cast-seen c = omega (arith, short (c .before .before .before .before))
+
+mul-seen : tie.Need-mul-seen Inv-loop μ-loop
+mul-seen c = omega (arith, begins c)
+
+element-write-seen : tie.Need-element-write-seen Inv-loop μ-loop
+element-write-seen c = begins c
+
+look-requires : tie.Need-look-requires Inv-loop μ-loop
+look-requires c κs =
+    let m = c .before .before .before .before in
+    let w = m .before .before .before .before .loop .inv in
+    let part = m .part-at in
+    let begins = rw (← part .ensures .0) at (m .before .before .next-due .ensures .begins (m .before .if1 .taken)) in
+    (w .0, (rw (part .ensures .1) (w .1 .part (part .result .from) (λ z. omega arith)), w .4 .watching .facts))
 
 enum-known-outcome : tie.Need-enum-known-outcome Inv-loop μ-loop
 enum-known-outcome c = search needs
@@ -44,98 +83,72 @@ enum-known-outcome c = search needs
 enum-told-2 : tie.Need-enum-told-2 Inv-loop μ-loop
 enum-told-2 c = search needs
 
-same-length : tie.Need-same-length Inv-loop μ-loop
-same-length c = c .before .before .before .before .before .before .before .before .before .before .before .before .visit .kept .1 .1 .1 .1 .1 .1 .1 .1 .0 ∙ c .before .before .before .before .before .before .before .before .before .before .before .before .before .before .before .before .before .before .before .before .loop .inv .2 .watching .long ∙ sym (c .before .before .before .before .before .before .before .before .before .before .before .before .before .before .before .before .before .before .before .before .before .before .before .before .before .before .before .before .before .before .before .before .before .before .pre .0 .3)
-
-same-length-2 : tie.Need-same-length-2 Inv-loop μ-loop
-same-length-2 c = c .before .before .before .before .before .before .before .before .before .before .before .before .visit .kept .1 .1 .1 .1 .1 .1 .1 .1 .1 .0 ∙ c .before .before .before .before .before .before .before .before .before .before .before .before .before .before .before .before .before .before .before .before .loop .inv .2 .watching .facts .long ∙ sym (c .before .before .before .before .before .before .before .before .before .before .before .before .before .before .before .before .before .before .before .before .before .before .before .before .before .before .before .before .before .before .before .before .before .before .pre .0 .4)
-
-same-length-3 : tie.Need-same-length-3 Inv-loop μ-loop
-same-length-3 c = c .before .before .before .before .before .before .before .before .before .before .before .before .visit .kept .1 .1 .1 .1 .1 .1 .1 .1 .1 .1 .0 ∙ c .before .before .before .before .before .before .before .before .before .before .before .before .before .before .before .before .before .before .before .before .loop .inv .2 .watching .facts .wide ∙ sym (c .before .before .before .before .before .before .before .before .before .before .before .before .before .before .before .before .before .before .before .before .before .before .before .before .before .before .before .before .before .before .before .before .before .before .pre .0 .5)
-
-same-length-4 : tie.Need-same-length-4 Inv-loop μ-loop
-same-length-4 c = c .before .before .before .before .before .before .before .before .before .before .before .before .visit .kept .1 .1 .1 .1 .1 .1 .1 .1 .1 .1 .1 .1 .0 ∙ c .before .before .before .before .before .before .before .before .before .before .before .before .before .before .before .before .before .before .before .before .loop .inv .0 ∙ sym (c .before .before .before .before .before .before .before .before .before .before .before .before .before .before .before .before .before .before .before .before .before .before .before .before .before .before .before .before .before .before .before .before .before .before .pre .0 .6)
-
-same-length-5 : tie.Need-same-length-5 Inv-loop μ-loop
-same-length-5 c = c .before .before .before .before .before .before .before .before .before .before .before .before .visit .kept .1 .1 .1 .1 .1 .1 .1 .1 .1 .1 .1 .1 .1 .0 ∙ c .before .before .before .before .before .before .before .before .before .before .before .before .before .before .before .before .before .before .before .before .loop .inv .1 ∙ sym (c .before .before .before .before .before .before .before .before .before .before .before .before .before .before .before .before .before .before .before .before .before .before .before .before .before .before .before .before .before .before .before .before .before .before .pre .0 .7)
-
 returns-2 : tie.Need-returns-2 Inv-loop μ-loop
-returns-2 c = fallen-report (c .before .before .before .before .before .before .before .before .before .before .before .before .before .before .before .before .before .before .before .before .before .before .before .before .before .before .before .before .before .before .before .before .before .before .pre .0 .0) (rw (c .enum-told2 .given .1) at (c .before .before .before .before .before .before .before .before .before .before .before .before .visit .ensures))
+returns-2 c =
+    let m = c .before .before .before .before .before .before .before in
+    fallen-report (m .before .before .before .before .loop .inv .0) (rw (c .enum-told2 .given .1) at (c .before .before .look .ensures))
 
-add-small : tie.Need-add-small Inv-loop μ-loop
-add-small c = omega (arith, short (c .before .before .before .before .before .before .before .before .before .before .before .before .before .before .before .before .before .before .before .before .before), c .before .before .before .before .before .before .before .before .before .before .before .before .before .before .before .before .before .before .before .if1 .taken)
+-- The part that was looked at, where that is told.
+abbrev part-of : tie.After-known-told2 Inv-loop μ-loop → tie.After-part-at Inv-loop μ-loop
+part-of c = c .before .before .before .before .before .before .before .before
 
 loop-less : tie.Need-loop-less Inv-loop μ-loop
-loop-less c = omega (arith, short (c .before .before .before .before .before .before .before .before .before .before .before .before .before .before .before .before .before .before .before .before .before), c .before .before .before .before .before .before .before .before .before .before .before .before .before .before .before .before .before .before .before .if1 .taken, c .before .before .before .before .before .before .before .before .before .before .before .before .before .before .before .before .before .before .before .before .before .loop .inv .2 .order)
+loop-less c = let m = part-of c in omega (arith, m .before .if1 .taken, m .before .before .next-due .ensures .down)
 
 loop-again : tie.Need-loop-again Inv-loop μ-loop
 loop-again c =
-    let w = c .before .before .before .before .before .before .before .before .before .before .before .before .before .before .before .before .before .before .before .before .before .loop .inv in
-    let call = c .before .before .before .before .before .before .before .before .before .before .before .before .before .visit in
-    let v = rw (c .before .outcome .given .1) at (call .ensures) in
-    (call .kept .1 .1 .1 .1 .1 .1 .1 .1 .1 .1 .1 .1 .0 ∙ w .0, call .kept .1 .1 .1 .1 .1 .1 .1 .1 .1 .1 .1 .1 .1 .0 ∙ w .1, following-small (v .0) (w .2) (c .before .before .before .before .before .before .before .before .before .before .before .before .before .before .before .before .before .before .before .if1 .taken) (v .1))
+    let m = part-of c in
+    let w = m .before .before .before .before .loop .inv in
+    let part = m .part-at .ensures in
+    let look = rw (c .before .outcome .given .1, part .1) at (c .before .before .before .look .ensures) in
+    let on = following-looked (w .0) (w .1) (w .2) (w .4) (m .before .before .next-due .ensures) (m .before .if1 .taken) (part .0) look in
+    (w .0, w .1, w .2, omega (arith, look .grown .more), on refl refl refl)
 
-visit-requires-2 : tie.Need-visit-requires-2 Inv-loop μ-loop
-visit-requires-2 c κs =
-    let p = c .before .before .before .before .before .before .before .before .before .before .before .before .before .before .before .before .before .before .before .before .before .pre .0 in
-    let w = c .before .before .before .before .before .before .before .loop .inv in
-    ((p .0, p .1, p .2, w .2 .watching, w .0, w .1), (omega arith, omega arith, omega arith, c .before .before .before .before .before .before .loop-test .taken))
+turn-of-requires : tie.Need-turn-of-requires Inv-loop μ-loop
+turn-of-requires c κs = omega (arith, short (c .before .before .before .before .before), c .before .if2 .taken)
 
-enum-known-outcome-2 : tie.Need-enum-known-outcome-2 Inv-loop μ-loop
-enum-known-outcome-2 c = search needs
-
-enum-told-3 : tie.Need-enum-told-3 Inv-loop μ-loop
-enum-told-3 c = search needs
-
-same-length-6 : tie.Need-same-length-6 Inv-loop μ-loop
-same-length-6 c = c .before .before .before .before .before .before .before .before .before .before .before .before .visit2 .kept .1 .1 .1 .1 .1 .1 .1 .1 .0 ∙ c .before .before .before .before .before .before .before .before .before .before .before .before .before .before .before .before .before .before .before .before .loop .inv .2 .watching .long ∙ sym (c .before .before .before .before .before .before .before .before .before .before .before .before .before .before .before .before .before .before .before .before .before .before .before .before .before .before .before .before .before .before .before .before .before .before .pre .0 .3)
-
-same-length-7 : tie.Need-same-length-7 Inv-loop μ-loop
-same-length-7 c = c .before .before .before .before .before .before .before .before .before .before .before .before .visit2 .kept .1 .1 .1 .1 .1 .1 .1 .1 .1 .0 ∙ c .before .before .before .before .before .before .before .before .before .before .before .before .before .before .before .before .before .before .before .before .loop .inv .2 .watching .facts .long ∙ sym (c .before .before .before .before .before .before .before .before .before .before .before .before .before .before .before .before .before .before .before .before .before .before .before .before .before .before .before .before .before .before .before .before .before .before .pre .0 .4)
-
-same-length-8 : tie.Need-same-length-8 Inv-loop μ-loop
-same-length-8 c = c .before .before .before .before .before .before .before .before .before .before .before .before .visit2 .kept .1 .1 .1 .1 .1 .1 .1 .1 .1 .1 .0 ∙ c .before .before .before .before .before .before .before .before .before .before .before .before .before .before .before .before .before .before .before .before .loop .inv .2 .watching .facts .wide ∙ sym (c .before .before .before .before .before .before .before .before .before .before .before .before .before .before .before .before .before .before .before .before .before .before .before .before .before .before .before .before .before .before .before .before .before .before .pre .0 .5)
-
-same-length-9 : tie.Need-same-length-9 Inv-loop μ-loop
-same-length-9 c = c .before .before .before .before .before .before .before .before .before .before .before .before .visit2 .kept .1 .1 .1 .1 .1 .1 .1 .1 .1 .1 .1 .1 .0 ∙ c .before .before .before .before .before .before .before .before .before .before .before .before .before .before .before .before .before .before .before .before .loop .inv .0 ∙ sym (c .before .before .before .before .before .before .before .before .before .before .before .before .before .before .before .before .before .before .before .before .before .before .before .before .before .before .before .before .before .before .before .before .before .before .pre .0 .6)
-
-same-length-10 : tie.Need-same-length-10 Inv-loop μ-loop
-same-length-10 c = c .before .before .before .before .before .before .before .before .before .before .before .before .visit2 .kept .1 .1 .1 .1 .1 .1 .1 .1 .1 .1 .1 .1 .1 .0 ∙ c .before .before .before .before .before .before .before .before .before .before .before .before .before .before .before .before .before .before .before .before .loop .inv .1 ∙ sym (c .before .before .before .before .before .before .before .before .before .before .before .before .before .before .before .before .before .before .before .before .before .before .before .before .before .before .before .before .before .before .before .before .before .before .pre .0 .7)
-
-returns-3 : tie.Need-returns-3 Inv-loop μ-loop
-returns-3 c = fallen-report (c .before .before .before .before .before .before .before .before .before .before .before .before .before .before .before .before .before .before .before .before .before .before .before .before .before .before .before .before .before .before .before .before .before .before .pre .0 .0) (rw (c .enum-told3 .given .1) at (c .before .before .before .before .before .before .before .before .before .before .before .before .visit2 .ensures))
-
-add-large : tie.Need-add-large Inv-loop μ-loop
-add-large c = omega (arith, short (c .before .before .before .before .before .before .before .before .before .before .before .before .before .before .before .before .before .before .before .before .before), c .before .before .before .before .before .before .before .before .before .before .before .before .before .before .before .before .before .before .before .before .loop-test .taken)
+add-small : tie.Need-add-small Inv-loop μ-loop
+add-small c = omega (arith, short (c .before .before .before .before .before .before), c .before .before .if2 .taken)
 
 loop-less-2 : tie.Need-loop-less-2 Inv-loop μ-loop
-loop-less-2 c = omega (arith, short (c .before .before .before .before .before .before .before .before .before .before .before .before .before .before .before .before .before .before .before .before .before), c .before .before .before .before .before .before .before .before .before .before .before .before .before .before .before .before .before .before .before .before .loop-test .taken, c .before .before .before .before .before .before .before .before .before .before .before .before .before .before .before .before .before .before .before .before .before .loop .inv .2 .ahead)
+loop-less-2 c =
+    let w = c .before .before .before .before .before .before .loop .inv in
+    let l = c .before .before .if2 .taken in
+    let facts = w .4 .watching .facts in
+    omega (arith, c .turn-of .ensures .1, facts .placed (c .before .before .before .before .before .before .loop .small) l, facts .room, w .4 .ahead)
 
 loop-again-2 : tie.Need-loop-again-2 Inv-loop μ-loop
 loop-again-2 c =
-    let w = c .before .before .before .before .before .before .before .before .before .before .before .before .before .before .before .before .before .before .before .before .before .loop .inv in
-    let call = c .before .before .before .before .before .before .before .before .before .before .before .before .before .visit2 in
-    let past = c .before .before .before .before .before .before .before .before .before .before .before .before .before .before .before .before .before .before .before .if1 .left in
-    let v = rw (c .before .outcome2 .given .1) at (call .ensures) in
-    (call .kept .1 .1 .1 .1 .1 .1 .1 .1 .1 .1 .1 .1 .0 ∙ w .0, call .kept .1 .1 .1 .1 .1 .1 .1 .1 .1 .1 .1 .1 .1 .0 ∙ w .1, following-large (v .0) (w .2) (c .before .before .before .before .before .before .before .before .before .before .before .before .before .before .before .before .before .before .before .before .loop-test .taken) (λ l. omega arith) (v .1))
+    let w = c .before .before .before .before .before .before .loop .inv in
+    let e = c .turn-of .ensures in
+    let turn = following-some (w .0) (w .1) (w .2) (w .4) (c .before .before .before .before .next-due .ensures) (c .before .before .before .if1 .left) (e .0) (e .1) (c .before .before .if2 .taken) in
+    (w .0, w .1, w .2, omega (arith, c .before .before .if2 .taken), turn (λ z. omega (arith, z, e .2)))
 
-same-length-11 : tie.Need-same-length-11 Inv-loop μ-loop
-same-length-11 c = c .before .loop .inv .2 .watching .long ∙ sym (c .before .before .before .before .before .before .before .before .before .before .before .before .before .before .before .pre .0 .3)
+turn-of-requires-2 : tie.Need-turn-of-requires-2 Inv-loop μ-loop
+turn-of-requires-2 c κs = omega (arith, short (c .before .before .before .before .before .before), c .before .if3 .taken)
 
-same-length-12 : tie.Need-same-length-12 Inv-loop μ-loop
-same-length-12 c = c .before .loop .inv .2 .watching .facts .long ∙ sym (c .before .before .before .before .before .before .before .before .before .before .before .before .before .before .before .pre .0 .4)
+add-large : tie.Need-add-large Inv-loop μ-loop
+add-large c = omega (arith, short (c .before .before .before .before .before .before .before), c .before .before .if3 .taken)
 
-same-length-13 : tie.Need-same-length-13 Inv-loop μ-loop
-same-length-13 c = c .before .loop .inv .2 .watching .facts .wide ∙ sym (c .before .before .before .before .before .before .before .before .before .before .before .before .before .before .before .pre .0 .5)
+loop-less-3 : tie.Need-loop-less-3 Inv-loop μ-loop
+loop-less-3 c =
+    let w = c .before .before .before .before .before .before .before .loop .inv in
+    let l = c .before .before .if3 .taken in
+    let facts = w .4 .watching .facts in
+    omega (arith, c .turn-of2 .ensures .1, facts .placed (c .before .before .before .before .before .before .before .loop .large) l, facts .room, w .3)
 
-same-length-14 : tie.Need-same-length-14 Inv-loop μ-loop
-same-length-14 c = c .before .loop .inv .0 ∙ sym (c .before .before .before .before .before .before .before .before .before .before .before .before .before .before .before .pre .0 .6)
+loop-again-3 : tie.Need-loop-again-3 Inv-loop μ-loop
+loop-again-3 c =
+    let w = c .before .before .before .before .before .before .before .loop .inv in
+    let e = c .turn-of2 .ensures in
+    let turn = following-all (w .0) (w .1) (w .2) (w .4) (c .before .before .before .before .before .next-due .ensures) (c .before .before .before .before .if1 .left) (e .0) (e .1) (c .before .before .if3 .taken) in
+    (w .0, w .1, w .2, w .3, turn refl (e .2))
 
-same-length-15 : tie.Need-same-length-15 Inv-loop μ-loop
-same-length-15 c = c .before .loop .inv .1 ∙ sym (c .before .before .before .before .before .before .before .before .before .before .before .before .before .before .before .pre .0 .7)
-
-returns-4 : tie.Need-returns-4 Inv-loop μ-loop
-returns-4 c = followed (c .before .before .before .before .before .before .before .before .before .before .before .before .before .before .before .pre .0 .0) (c .before .before .before .before .before .before .before .before .before .before .before .before .before .before .before .pre .0 .1) (c .before .loop .inv .2) (omega (arith, c .loop-test .left))
+returns-3 : tie.Need-returns-3 Inv-loop μ-loop
+returns-3 c =
+    let w = c .before .before .before .before .before .loop .inv in
+    let over = following-over (w .0) (w .1) (w .2) (w .4) (c .before .before .before .next-due .ensures) (c .before .before .if1 .left) in
+    followed (w .0) (w .1) (w .4 .watching) over (c .if3 .left)
 
 pub follow-spec : {M : Type 1} → statement M
 follow-spec =
@@ -143,37 +156,28 @@ follow-spec =
     (tie.spec
     Inv-loop
     μ-loop
+    look-at-all-requires
     enum-known-start
     enum-told
     returns
     loop-holds
-    visit-requires
+    next-due-requires
+    part-at-requires
+    cast-seen
+    mul-seen
+    element-write-seen
+    look-requires
     enum-known-outcome
     enum-told-2
-    same-length
-    same-length-2
-    same-length-3
-    same-length-4
-    same-length-5
     returns-2
-    add-small
     loop-less
     loop-again
-    visit-requires-2
-    enum-known-outcome-2
-    enum-told-3
-    same-length-6
-    same-length-7
-    same-length-8
-    same-length-9
-    same-length-10
-    returns-3
-    add-large
+    turn-of-requires
+    add-small
     loop-less-2
     loop-again-2
-    same-length-11
-    same-length-12
-    same-length-13
-    same-length-14
-    same-length-15
-    returns-4)
+    turn-of-requires-2
+    add-large
+    loop-less-3
+    loop-again-3
+    returns-3)

@@ -50,7 +50,7 @@ whole t n = let e : n - 0 ≡ n = omega arith in rw e
 returns : tie.Need-returns Inv-loop μ-loop
 returns c =
     let n = c .before .before .before in
-    let a = n .before .before .args in
+    let a = n .before .args in
     sym (whole _ (a .n) ∙ n .loop .inv .1 ∙ stops _ (a .n) (n .loop .v) (c .before .before .loop-test .taken) (c .before .mark-of .ensures) (c .if1 .taken))
 
 add-v : tie.Need-add-v Inv-loop μ-loop
@@ -62,14 +62,14 @@ loop-less c = omega arith
 loop-again : tie.Need-loop-again Inv-loop μ-loop
 loop-again c =
     let n = c .before .before .before in
-    let a = n .before .before .args in
+    let a = n .before .args in
     (omega arith, n .loop .inv .1 ∙ goes-on _ (a .n) (n .loop .v) (c .before .before .loop-test .taken) (c .before .mark-of .ensures) (c .if1 .left))
 
 returns-2 : tie.Need-returns-2 Inv-loop μ-loop
 unfolding all count-from
 returns-2 c =
     let n = c .before in
-    let a = n .before .before .args in
+    let a = n .before .args in
     let e : a .n - n .loop .v ≡ 0 = omega arith in
     sym (whole _ (a .n) ∙ n .loop .inv .1 ∙ rw e)
 

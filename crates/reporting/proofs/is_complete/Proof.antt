@@ -8,49 +8,33 @@ use Rattle.theory.specs.Tables.{report-complete}
 use Rattle.reporting.proofs.is_complete.Statement.{statement}
 use Rattle.reporting.proofs.is_complete.Tie as tie
 
-slice-aggregate-propagate : tie.Need-slice-aggregate-propagate
-slice-aggregate-propagate c = search needs
-
 propagate-requires : tie.Need-propagate-requires
 propagate-requires c κs = search needs
 
-slice-aggregate-all-marked : tie.Need-slice-aggregate-all-marked
-slice-aggregate-all-marked c = search needs
-
 shared-slice-read-wide16 : tie.Need-shared-slice-read-wide16
-shared-slice-read-wide16 c = let k = (c .before .before .before .before .before .before .before .pre) in omega arith
+shared-slice-read-wide16 c = search needs
 
 wide16-requires : tie.Need-wide16-requires
 wide16-requires c κs = search needs
 
 all-marked-requires : tie.Need-all-marked-requires
 unfolding options-in
-all-marked-requires c κs =
-    let k = (c .before .before .before .before .before .before .before .before .pre) in
-    omega (arith, c .wide16 .ensures, k .options, c .before .before .before .before .before .propagate .kept .1 .0)
+all-marked-requires c κs = omega (arith, c .wide16 .ensures, c .before .before .before .before .before .before .before .pre .options)
 
 returns : tie.Need-returns
 unfolding options-in
 returns c =
-    let call = c .before .before .before .before .before .before .propagate in
-    let quiet = sym (call .ensures .1) ∙ not-true (call .result) (c .before .before .before .before .if1 .taken) in
-    c .all-marked .ensures ∙ rw (c .before .wide16 .ensures .0) (sym (report-complete _ _ (call .ensures .0) ∙ rw quiet))
+    let call = c .before .before .before .before .before .propagate in
+    let stands = sym (call .ensures .1) ∙ not-true (call .result) (c .before .before .before .before .if1 .taken) in
+    c .all-marked .ensures ∙ rw (c .before .wide16 .ensures .0) (sym (report-complete _ _ (call .ensures .0) ∙ rw stands))
 
 returns-2 : tie.Need-returns-2
 returns-2 c =
-    let call = c .before .before .propagate in
-    let loud = sym (call .ensures .1) ∙ not-false (call .result) (c .if1 .left) in
-    c .if1 .left ∙ sym (report-complete _ _ (call .ensures .0) ∙ rw loud)
+    let call = c .before .propagate in
+    let falls = sym (call .ensures .1) ∙ not-false (call .result) (c .if1 .left) in
+    c .if1 .left ∙ sym (report-complete _ _ (call .ensures .0) ∙ rw falls)
 
 pub is-complete-spec : {M : Type 1} → statement M
 is-complete-spec =
     tie.close
-    (tie.spec
-    slice-aggregate-propagate
-    propagate-requires
-    slice-aggregate-all-marked
-    shared-slice-read-wide16
-    wide16-requires
-    all-marked-requires
-    returns
-    returns-2)
+    (tie.spec propagate-requires shared-slice-read-wide16 wide16-requires all-marked-requires returns returns-2)

@@ -14,8 +14,8 @@ mul-if1 c = search needs
 add-if1 : tie.Need-add-if1
 add-if1 c = search needs
 
-shared-slice-read-if1 : tie.Need-shared-slice-read-if1
-shared-slice-read-if1 c = search needs
+element-copy-out-if1 : tie.Need-element-copy-out-if1
+element-copy-out-if1 c = search needs
 
 returns : tie.Need-returns
 unfolding mark-in set-of place-of pick
@@ -24,8 +24,8 @@ returns c = let a = c .before .before .args in rw (eq-eqb (getD (a .failed .now)
 mul-if2 : tie.Need-mul-if2
 mul-if2 c = search needs
 
-shared-slice-read-if2 : tie.Need-shared-slice-read-if2
-shared-slice-read-if2 c = search needs
+element-copy-out-if2 : tie.Need-element-copy-out-if2
+element-copy-out-if2 c = search needs
 
 returns-2 : tie.Need-returns-2
 unfolding mark-in set-of place-of pick
@@ -47,9 +47,9 @@ mark-of-spec =
     (tie.spec
     mul-if1
     add-if1
-    shared-slice-read-if1
+    element-copy-out-if1
     returns
     mul-if2
-    shared-slice-read-if2
+    element-copy-out-if2
     returns-2
     returns-3)

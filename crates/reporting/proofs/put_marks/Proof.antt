@@ -32,7 +32,7 @@ mark-of-requires : tie.Need-mark-of-requires Inv-loop μ-loop
 mark-of-requires c κs = omega arith
 
 -- The mark, where the two ways meet.
-mark : (c : tie.Joined1 Inv-loop μ-loop) → let n = c .before .before in let a = n .before .before .before .args in c .if1 .out ≡ pick (a .contradictory) 3 (mark-in (a .failed .now) (n .loop .v))
+mark : (c : tie.Joined1 Inv-loop μ-loop) → let n = c .before .before in let a = n .before .before .args in c .if1 .out ≡ pick (a .contradictory) 3 (mark-in (a .failed .now) (n .loop .v))
 unfolding pick
 mark c = ⊎-elim (λ w. w .1 ∙ rw (w .0 .taken)) (λ w. w .2 ∙ w .1 .ensures ∙ rw (w .0 .left)) (c .if1 .came)
 
@@ -48,7 +48,7 @@ loop-less c = omega arith
 loop-again : tie.Need-loop-again Inv-loop μ-loop
 loop-again c =
     let n = c .before .before in
-    let a = n .before .before .before .args in
+    let a = n .before .before .args in
     let w = n .loop .inv in
     (omega arith, length-set (n .loop .out) (n .loop .v) (c .if1 .out) ∙ w .1, more (a .contradictory) (a .failed .now) (n .loop .out) (n .loop .v) (c .before .loop-test .taken) (mark c) (w .2))
 
@@ -58,7 +58,7 @@ same-length c = c .before .loop .inv .1
 returns : tie.Need-returns Inv-loop μ-loop
 returns c =
     let n = c .before in
-    let a = n .before .before .before .args in
+    let a = n .before .before .args in
     let w = n .loop .inv in
     let e : n .loop .v ≡ length (a .out .now) = omega arith in
     sym (take-all (n .loop .v) (n .loop .out) (omega arith)) ∙ w .2 ∙ ap (marks-in (a .contradictory) (a .failed .now)) e
