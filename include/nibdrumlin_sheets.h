@@ -47,7 +47,7 @@
  *
  * Stack: the ND_STACK_ numbers, here and in nibdrumlin.h, are bytes that suffice for one call,
  * with a margin of at least 4,096 over what was measured: 3,384 for nd_write, 8,636 for nd_step,
- * 33,228 for nd_run, 56,712 for nd_report.  tests/library/stack.c measures it again.  It counts
+ * 33,228 for nd_run, 56,744 for nd_report.  tests/library/stack.c measures it again.  It counts
  * what the calls and their memset, memcpy and memmove use.  A program that binds these three
  * only when they are first called needs, that once, the dynamic linker's stack besides.
  */
