@@ -5,12 +5,11 @@ use mathlib.Core.Path.{_≡_, refl, sym, ap, ap₂, _∙_}
 use Prim.Native.Nat.{ℕ, zero, suc, _+_, _-_, _≤_, _<_}
 use native.Mathlib.Omega.{arith}
 use lib.ListN.{length, drop, replicate, length-drop}
-use Rattle.model.specs.Base.{is-some}
 use Rattle.model.specs.Literal.{Literal}
 use Rattle.model.specs.Forest.{Conn, Forest, nil, lit, node, size, first, after, _⊕_, literal-at}
 use Rattle.model.specs.Code.{Node, leaf, head, encode, number-of, node-of}
 use Rattle.model.specs.Limits.{sheet-room}
-use Rattle.model.specs.Rules.{assigned, spread, spreads, change, step}
+use Rattle.model.specs.Rules.{assigned, spread, spreads, change}
 use Rattle.model.specs.Sheet.{used-in, numbers-in, nodes-in}
 use Rattle.theory.specs.Logic.{only-some, then-some}
 use Rattle.theory.specs.Lists.{map-drop}
@@ -18,13 +17,13 @@ use Rattle.theory.specs.Forests.{size-⊕, literal-here, cut-at, assigned-lit}
 use Rattle.theory.specs.Codes.{encode-⊕}
 use Rattle.theory.specs.Numbers.{fits, fits-node}
 use Rattle.theory.specs.Spans.{arity, span, arity-leaf, arity-head}
-use Rattle.theory.specs.Shape.{shaped-trees}
 use Rattle.theory.specs.Sheets.{Formed}
 use Rattle.theory.specs.Stretches.{stands}
 use Rattle.locality.specs.Turned.{Turned, turned}
-use Rattle.theory.specs.Turns.{family-9}
-use Rattle.locality.specs.Locality.{level-length}
-use Rattle.sizes.specs.Tables.{Sized}
+use Rattle.locality.specs.Families.{family-9, level-length}
+use Rattle.sizes.specs.SizeTables.{Sizes-from}
+use Rattle.search.specs.declared.Redex.{Redex}
+use Rattle.search.specs.Redexes.{Applies}
 use Rattle.run_bounds_after.specs.Zoned.{after-step}
 use Rattle.run_bounds_after.proofs.SheetZones as O
 
@@ -114,24 +113,26 @@ arities-below (x ∷ xs) = ap₂ _∷_ (arity-below (node-of x) (fits-node x)) (
 sheet-arities : (s : List ℕ) → Formed s → map arity (drop 2 s) ≡ map below (nodes-in s) ++ map arity (replicate (sheet-room - used-in s) 0)
 unfolding nodes-in
 sheet-arities s h =
-    ap (map arity) (stands s (h))
+    ap (map arity) (stands s h)
     ∙ map-append arity (map number-of (nodes-in s)) (replicate (sheet-room - used-in s) 0)
     ∙ ap (λ xs. xs ++ map arity (replicate (sheet-room - used-in s) 0)) (arities-below (numbers-in s))
 
 -- The table of sizes is right after the step where it was before.
-pub sized-still : (s u : List ℕ) (h : Formed s) → Formed u → (r p i j : ℕ) → is-some (step r p i j (nodes-in s)) ≡ true → nodes-in u ≡ after-step r p i j (nodes-in s) → 9 ≤ r → r ≤ 10 → (t : List ℕ) → Sized 0 (drop 2 s) t → Sized 0 (drop 2 u) t
-sized-still s u h k r p i j a same low top t sized q le l =
-    let facts = h in
-    let one = shaped-trees (facts .shaped) in
-    let did = O.did s h r p i j a in
-    let its : Turned spreads p i j (nodes-in s) (after-step r p i j (nodes-in s)) = rw (family-9 r low top) at (turned r p i j (nodes-in s) one did) in
-    let arms-same : map below (nodes-in u) ≡ map below (nodes-in s) = ap (map below) same ∙ turned-arms p i j (nodes-in s) (after-step r p i j (nodes-in s)) its in
-    let level = level-length r p i j (nodes-in s) one did low (omega arith) in
-    let used : used-in u ≡ used-in s = sym (k .count) ∙ ap length same ∙ level ∙ facts .count in
+pub sizes-still : (s u : List ℕ) (h : Formed s) → Formed u → (x : Redex) → Applies x s → nodes-in u ≡ after-step x (nodes-in s) → 9 ≤ x .rule → x .rule ≤ 10 → (t : List ℕ) → Sizes-from 0 (drop 2 s) t → Sizes-from 0 (drop 2 u) t
+sizes-still s u h k x a same low top t sizes q le l =
+    let ns = nodes-in s in
+    let r = x .rule in
+    let p = x .place in
+    let one = O.one s h x a in
+    let did = O.did s h x a in
+    let its : Turned spreads p (x .i) (x .j) ns (after-step x ns) = rw (family-9 r low top) at (turned r p (x .i) (x .j) ns one did) in
+    let arms-same : map below (nodes-in u) ≡ map below ns = ap (map below) same ∙ turned-arms p (x .i) (x .j) ns (after-step x ns) its in
+    let level = level-length r p (x .i) (x .j) ns one did low (omega arith) in
+    let used : used-in u ≡ used-in s = sym (k .count) ∙ ap length same ∙ level ∙ h .count in
     let arities : map arity (drop 2 u) ≡ map arity (drop 2 s) =
     sheet-arities u k ∙ ap₂ (λ xs n. xs ++ map arity (replicate (sheet-room - n) 0)) arms-same used ∙ sym (sheet-arities s h) in
-    let there : q < length (drop 2 s) = omega (arith, length-drop 2 s, length-drop 2 u, facts .whole, k .whole) in
-    sized q le there
+    let there : q < length (drop 2 s) = omega (arith, length-drop 2 s, length-drop 2 u, h .whole, k .whole) in
+    sizes q le there
     ∙ span-reach 1 (drop q (drop 2 s))
     ∙ ap (reach 1) (map-drop arity q (drop 2 s) ∙ ap (drop q) (sym arities) ∙ sym (map-drop arity q (drop 2 u)))
     ∙ sym (span-reach 1 (drop q (drop 2 u)))

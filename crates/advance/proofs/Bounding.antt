@@ -2,106 +2,127 @@
 use mathlib.Core.Bool.{true, false}
 use mathlib.Core.List.{List}
 use mathlib.Core.Logic.{_⊎_, inl, inr, ⊎-elim}
-use mathlib.Core.Option.{none, some}
-use mathlib.Core.Path.{_≡_, ap, _∙_}
+use mathlib.Core.Option.{none}
+use mathlib.Core.Path.{_≡_, sym, ap, _∙_}
 use Prim.Native.Nat.{ℕ, _+_, _-_, _≤_, _<_}
 use native.Mathlib.Omega.{arith}
 use borrow.Author.Tests.{eqb-true, eqb-false, ltb-true, ltb-false}
 use lib.Dec.{eqb, ltb}
 use lib.ListN.{length, getD, drop}
-use Rattle.model.specs.Code.{Node, decode, trees}
-use Rattle.model.specs.Limits.{sheet-room}
-use Rattle.model.specs.Rules.{rewrite, step}
+use Rattle.model.specs.Code.{decode}
+use Rattle.model.specs.Rules.{rewrite}
+use Rattle.model.specs.Sheet.{nodes-in}
 use Rattle.model.specs.Strategy.{least-i}
 use Rattle.theory.specs.Logic.{either}
-use Rattle.locality.specs.Zones.{Holds, Twice, zone}
-use Rattle.locality.specs.Locality.{step-before}
-use Rattle.locality.specs.Locality.{level-length}
-use Rattle.bounds.specs.Tables.{Bounds, High, Rises}
-use Rattle.run_bounds_after.specs.Zoned.{after-step, Zoned}
-use Rattle.advance.specs.Holders.{Holders}
-use Rattle.advance.specs.Settled.{Spared, Settled}
+use Rattle.theory.specs.Sheets.{Formed}
+use Rattle.locality.specs.Zones.{Holds, Twice}
+use Rattle.locality.specs.Locality.{step-extent, step-before}
+use Rattle.locality.specs.Families.{level-length}
 use Rattle.locality.specs.Inside.{spread-inside}
+use Rattle.search.specs.declared.Redex.{Redex}
+use Rattle.search.specs.Redexes.{Applies}
+use Rattle.bounds.specs.BoundTables.{Bounds, High, Rises}
+use Rattle.run_bounds_after.specs.declared.Plan.{Plan}
+use Rattle.run_bounds_after.specs.Zoned.{after-step}
+use Rattle.run_bounds_after.specs.Renewed.{Apart}
+use Rattle.run_bounds_after.proofs.SheetZones as O
+use Rattle.advance.specs.Foreseen.{Foreseen}
+use Rattle.advance.specs.Followed.{Spared, Followed}
 use Rattle.advance.proofs.Quiets.{quiet-from, quiet-to}
 
-module _ (r p i j : ℕ) (ns : List Node) {t : ℕ} (h : trees ns ≡ some t) (e : step r p i j ns ≡ some (after-step r p i j ns)) {from old new inner outer : ℕ} (z : Zoned r p i j ns from old new) (w : Holders p inner outer ns) (low up : List ℕ) (n : Settled r from old new p inner outer (after-step r p i j ns) low up) (few : length ns ≤ sheet-room) (small : from ≤ length ns) where
-  abbrev ms : List Node
-  ms = after-step r p i j ns
+module _ (s : List ℕ) (h : Formed s) (x : Redex) (a : Applies x s) {p : Plan} (f : Foreseen x (nodes-in s) p) (low up : List ℕ) (n : Followed (x .rule) p (after-step x (nodes-in s)) low up) where
+  -- How far the entries after the zone have moved, and that the zone begins among the nodes.
+  abbrev back : ℕ
+  back = p .zone .old - p .zone .new
+
+  small : p .zone .from ≤ length (nodes-in s)
+  small =
+      let w = step-extent (x .rule) (x .place) (x .i) (x .j) (nodes-in s) (O.one s h x a) (O.did s h x a) in
+      omega (arith, f .zoned .before, w .order .from-old, w .old-within)
 
   -- A place is one of the three that are forgotten, or not.
-  apart : (q : ℕ) → (getD up q 0 ≡ 1) ⊎ ((q ≡ p → ⊥) × (q ≡ inner → ⊥) × (q ≡ outer → ⊥))
-  apart q =
-      ⊎-elim
-      (λ x. inl (ap (λ k. getD up k 0) (eqb-true q p x) ∙ n .at-place))
-      (λ x. ⊎-elim (λ y. inl (ap (λ k. getD up k 0) (eqb-true q inner y) ∙ n .at-inner)) (λ y. ⊎-elim (λ v. inl (ap (λ k. getD up k 0) (eqb-true q outer v) ∙ n .at-outer)) (λ v. inr (eqb-false q p x, eqb-false q inner y, eqb-false q outer v)) (either (eqb q outer))) (either (eqb q inner)))
-      (either (eqb q p))
+  apart : (q : ℕ) → (getD up q 0 ≡ 1) ⊎ Apart p q
+  apart q = go (either (eqb q (p .place))) (either (eqb q (p .inner))) (either (eqb q (p .outer)))
+    where
+      go : (eqb q (p .place) ≡ true) ⊎ (eqb q (p .place) ≡ false) → (eqb q (p .inner) ≡ true) ⊎ (eqb q (p .inner) ≡ false) → (eqb q (p .outer) ≡ true) ⊎ (eqb q (p .outer) ≡ false) → (getD up q 0 ≡ 1) ⊎ Apart p q
+      go (inl e) d c = inl (ap (λ k. getD up k 0) (eqb-true q (p .place) e) ∙ n .moved .at-place)
+      go (inr e) (inl d) c = inl (ap (λ k. getD up k 0) (eqb-true q (p .inner) d) ∙ n .moved .at-inner)
+      go (inr e) (inr d) (inl c) = inl (ap (λ k. getD up k 0) (eqb-true q (p .outer) c) ∙ n .moved .at-outer)
+      go (inr e) (inr d) (inr c) = inr (record { place = eqb-false q (p .place) e; inner = eqb-false q (p .inner) d; outer = eqb-false q (p .outer) c })
 
   -- An entry is forgotten, or stayed before the zone, or was spared in it, or moved with its node.
   data Entry (q : ℕ) : Type 0 where
     forgotten : getD up q 0 ≡ 1 → Entry q
-    stayed : q < from → (q ≡ p → ⊥) → (q ≡ inner → ⊥) → (q ≡ outer → ⊥) → getD up q 0 ≡ getD low q 0 → Entry q
-    kept : q < new → Spared r p q (after-step r p i j ns) low up → Entry q
-    moved : new ≤ q → q + (old - new) < length ns → drop q (after-step r p i j ns) ≡ drop (q + (old - new)) ns → getD up q 0 ≡ getD low (q + (old - new)) 0 → Entry q
+    stayed : q < p .zone .from → Apart p q → getD up q 0 ≡ getD low q 0 → Entry q
+    kept : q < p .zone .new → Spared (x .rule) (p .place) q (after-step x (nodes-in s)) low up → Entry q
+    moved : q + (p .zone .old - p .zone .new) < length (nodes-in s) → drop q (after-step x (nodes-in s)) ≡ drop (q + (p .zone .old - p .zone .new)) (nodes-in s) → getD up q 0 ≡ getD low (q + (p .zone .old - p .zone .new)) 0 → Entry q
 
-  entry : (q : ℕ) → q < length (after-step r p i j ns) → Entry q
-  entry q l = go (apart q) (either (ltb q from)) (either (ltb q new))
+  entry : (q : ℕ) → q < length (after-step x (nodes-in s)) → Entry q
+  entry q l = go (apart q) (either (ltb q (p .zone .from))) (either (ltb q (p .zone .new)))
     where
-      go : (getD up q 0 ≡ 1) ⊎ ((q ≡ p → ⊥) × (q ≡ inner → ⊥) × (q ≡ outer → ⊥)) → (ltb q from ≡ true) ⊎ (ltb q from ≡ false) → (ltb q new ≡ true) ⊎ (ltb q new ≡ false) → Entry q
-      go (inl x) a b = forgotten x
-      go (inr x) (inl a) b = stayed (ltb-true q from a) (x .0) (x .1) (x .2) (n .before q (ltb-true q from a) (x .0) (x .1) (x .2))
-      go (inr x) (inr a) (inl b) = ⊎-elim (λ y. forgotten y) (λ y. kept (ltb-true q new b) y) (n .zone q (ltb-false q from a) (ltb-true q new b))
-      go (inr x) (inr a) (inr b) =
-          let w = z .after q (ltb-false q new b) l in
-          moved (ltb-false q new b) (w .1) (w .0) (n .after q (ltb-false q new b) (omega (arith, w .1)) (x .0) (x .1) (x .2))
+      go : (getD up q 0 ≡ 1) ⊎ Apart p q → (ltb q (p .zone .from) ≡ true) ⊎ (ltb q (p .zone .from) ≡ false) → (ltb q (p .zone .new) ≡ true) ⊎ (ltb q (p .zone .new) ≡ false) → Entry q
+      go (inl e) b c = forgotten e
+      go (inr e) (inl b) c = let lt = ltb-true q (p .zone .from) b in stayed lt e (n .moved .before q lt e)
+      go (inr e) (inr b) (inl c) =
+          let lt = ltb-true q (p .zone .new) c in
+          ⊎-elim (λ y. forgotten y) (λ y. kept lt y) (n .zone q (ltb-false q (p .zone .from) b) lt)
+      go (inr e) (inr b) (inr c) =
+          let le = ltb-false q (p .zone .new) c in
+          let w = f .zoned .after q le l in
+          moved (w .1) (w .0) (n .moved .after q le (omega (arith, w .1, O.few s h x a)) e)
 
-  pub bounds-after : Bounds ns low → Bounds (after-step r p i j ns) up
-  bounds-after b q s l one lt = go (entry q l)
+  -- By rules 9 and 10 there are as many nodes as before.
+  level : {q : ℕ} → Spared (x .rule) (p .place) q (after-step x (nodes-in s)) low up → length (after-step x (nodes-in s)) ≡ length (nodes-in s)
+  level y = level-length (x .rule) (x .place) (x .i) (x .j) (nodes-in s) (O.one s h x a) (O.did s h x a) (y .nine) (omega (arith, y .ten))
+
+  pub bounds-after : Bounds (nodes-in s) low → Bounds (after-step x (nodes-in s)) up
+  bounds-after b q r l one lt = go (entry q l)
     where
-      go : Entry q → none ≡ least-i s q (decode (drop q (after-step r p i j ns)))
-      go (forgotten x) = absurd (omega arith)
-      go (stayed a x y v same) =
-          let was = quiet-from s q (decode (drop q ns)) (b q s (omega arith) one (omega arith)) in
-          let deep : Holds q p ns → Twice q p ns = λ held. ⊎-elim (λ k. absurd (y k)) (λ k. ⊎-elim (λ k'. absurd (v k')) (λ k'. k') (k .1)) (w .nearest q held) in
-          quiet-to s q (decode (drop q (after-step r p i j ns))) (step-before r p i j ns h e q s (omega (arith, z .before)) x deep was)
-      go (kept a y) =
-          let level = level-length r p i j ns h e (y .nine) (omega (arith, y .ten)) in
-          let was = quiet-from s q (decode (drop q ns)) (b q s (omega arith) one (omega (arith, y .same))) in
-          quiet-to s q (decode (drop q (after-step r p i j ns))) (spread-inside r p i j ns h e (y .nine) (y .ten) q s (y .later) (omega (arith, z .spread (y .nine) (y .ten) .1)) (y .bare) was)
-      go (moved a within there same) =
-          let was = quiet-from s (q + (old - new)) (decode (drop (q + (old - new)) ns)) (b (q + (old - new)) s within one (omega arith)) in
-          quiet-to s q (decode (drop q (after-step r p i j ns))) (λ x y. ap (λ xs. rewrite s x y (decode xs)) there ∙ was x y)
+      was : (k : ℕ) → k < length (nodes-in s) → r < getD low k 0 → (i j : ℕ) → rewrite r i j (decode (drop k (nodes-in s))) ≡ none
+      was k within less = quiet-from r k (decode (drop k (nodes-in s))) (b k r within one less)
 
-  -- Before all that was forgotten the entries stay as they were.
-  untouched : (q : ℕ) → q < outer → getD up q 0 ≡ getD low q 0
+      go : Entry q → none ≡ least-i r q (decode (drop q (after-step x (nodes-in s))))
+      go (forgotten e) = absurd (omega arith)
+      go (stayed c d same) =
+          let deep : Holds q (x .place) (nodes-in s) → Twice q (x .place) (nodes-in s) =
+          λ held. ⊎-elim (λ k. absurd (d .inner k)) (λ k. ⊎-elim (λ e. absurd (d .outer e)) (λ e. e) (k .1)) (f .nearest q held) in
+          let other : q ≡ x .place → ⊥ = λ e. d .place (e ∙ sym (f .place)) in
+          quiet-to r q (decode (drop q (after-step x (nodes-in s)))) (step-before (x .rule) (x .place) (x .i) (x .j) (nodes-in s) (O.one s h x a) (O.did s h x a) q r (omega (arith, f .zoned .before)) other deep (was q (omega (arith, small)) (omega arith)))
+      go (kept c y) =
+          let still = level y in
+          quiet-to r q (decode (drop q (after-step x (nodes-in s)))) (spread-inside (x .rule) (x .place) (x .i) (x .j) (nodes-in s) (O.one s h x a) (O.did s h x a) (y .nine) (y .ten) q r (omega (arith, y .later, f .place)) (omega (arith, f .zoned .spread (y .nine) (y .ten) .1)) (y .free) (was q (omega arith) (omega (arith, y .same))))
+      go (moved within there same) =
+          quiet-to r q (decode (drop q (after-step x (nodes-in s)))) (λ i j. ap (λ xs. rewrite r i j (decode xs)) there ∙ was (q + back) within (omega arith) i j)
+
+  -- Before all that was forgotten the entries stay as they were, so that they are as high as they were before the step's place.
+  untouched : (q : ℕ) → q < p .outer → getD up q 0 ≡ getD low q 0
   untouched q l =
-      n .before q (omega (arith, w .outer-before, w .inner-before, z .place-from)) (λ y. omega (arith, w .outer-before, w .inner-before)) (λ y. omega (arith, w .outer-before)) (λ y. omega arith)
+      n .moved .before q (omega (arith, f .outer-before, f .inner-before, f .zoned .place-from))
+      (record { place = λ e. omega (arith, f .place, f .outer-before, f .inner-before); inner = λ e. omega (arith, f .outer-before); outer = λ e. omega arith })
 
-  -- There they are as high as they were before the step's place.
-  pub high-before : {f : ℕ} → High f 0 p low → High f 0 outer up
-  high-before high q a l = let k = high q a (omega (arith, w .outer-before, w .inner-before)) in omega (arith, untouched q l)
+  pub high-before : {r : ℕ} → High r 0 (x .place) low → High r 0 (p .outer) up
+  high-before high q b l = let k = high q b (omega (arith, f .outer-before, f .inner-before)) in omega (arith, untouched q l)
 
   -- All entries are 1 at least; outside the places that were forgotten all are as high as they were.
-  module _ {f : ℕ} (one : 1 ≤ f) (high : High f 0 (length ns) low) where
-    pub high-one : High 1 0 (length (after-step r p i j ns)) up
-    high-one q a l = go (entry q l)
+  module _ {r : ℕ} (one : 1 ≤ r) (high : High r 0 (length (nodes-in s)) low) where
+    pub high-one : High 1 0 (length (after-step x (nodes-in s))) up
+    high-one q b l = go (entry q l)
       where
         go : Entry q → 1 ≤ getD up q 0
-        go (forgotten x) = omega arith
-        go (stayed b x y v same) = let k = high q a (omega arith) in omega arith
-        go (kept b y) =
-            let level = level-length r p i j ns h e (y .nine) (omega (arith, y .ten)) in
-            let k = high q a (omega arith) in
-            omega (arith, y .same)
-        go (moved b within there same) = let k = high (q + (old - new)) (omega arith) within in omega arith
+        go (forgotten e) = omega arith
+        go (stayed c d same) = let k = high q b (omega (arith, small)) in omega arith
+        go (kept c y) = let still = level y in let k = high q b (omega arith) in omega (arith, y .same)
+        go (moved within there same) = let k = high (q + back) (omega arith) within in omega arith
 
-    pub high-outside : (q : ℕ) → q < length (after-step r p i j ns) → (q < outer) ⊎ ((p < q) × (new ≤ q)) → f ≤ getD up q 0
-    high-outside q l (inl x) =
-        let k = high q (omega arith) (omega (arith, w .outer-before, w .inner-before, z .place-from)) in
-        omega (arith, untouched q x)
-    high-outside q l (inr x) =
-        let v = z .after q (x .1) l in
-        let k = high (q + (old - new)) (omega arith) (v .1) in
-        let same = n .after q (x .1) (omega (arith, v .1)) (λ y. omega (arith, x .0)) (λ y. omega (arith, x .0, w .inner-before)) (λ y. omega (arith, x .0, w .inner-before, w .outer-before)) in
+    pub high-outside : (q : ℕ) → q < length (after-step x (nodes-in s)) → (q < p .outer) ⊎ ((x .place < q) × (p .zone .new ≤ q)) → r ≤ getD up q 0
+    high-outside q l (inl e) =
+        let k = high q (omega arith) (omega (arith, f .outer-before, f .inner-before, f .zoned .place-from, small)) in
+        omega (arith, untouched q e)
+    high-outside q l (inr e) =
+        let v = f .zoned .after q (e .1) l in
+        let k = high (q + back) (omega arith) (v .1) in
+        let other : Apart p q = record { place = λ d. omega (arith, e .0, f .place); inner = λ d. omega (arith, e .0, f .inner-before); outer = λ d. omega (arith, e .0, f .inner-before, f .outer-before) } in
+        let same = n .moved .after q (e .1) (omega (arith, v .1, O.few s h x a)) other in
         omega arith
 
 -- Where the bounds that were set back have risen to a floor, all are so high: the places that were looked at lie between the two

@@ -1,5 +1,5 @@
 pub mod Quiets
-pub mod Settling
+pub mod Following
 pub mod Bounding
 pub mod Arities
 pub mod Sizing

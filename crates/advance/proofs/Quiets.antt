@@ -9,7 +9,7 @@ use Rattle.model.specs.Strategy.{redex, least-j, least-i}
 use Rattle.theory.specs.Logic.{none-some, none-if, is-some-none}
 use Rattle.theory.specs.Least.{least-none}
 use Rattle.theory.specs.Bounds.{rewrite-within}
-use Rattle.search.proofs.Laws.{i-never}
+use Rattle.search.proofs.SearchLevels.{i-never}
 
 pub quiet-from : (r p : ℕ) (f : Forest) → none ≡ least-i r p f → (i j : ℕ) → rewrite r i j f ≡ none
 unfolding least-i least-j

@@ -8,52 +8,46 @@ use native.Mathlib.Omega.{arith}
 use borrow.Author.Tests.{eqb-true, eqb-false}
 use lib.Dec.{eqb}
 use lib.ListN.{length, getD, drop, length-drop}
-use Rattle.model.specs.Base.{is-some}
 use Rattle.model.specs.Code.{weight}
 use Rattle.model.specs.Limits.{most-weight}
-use Rattle.model.specs.Rules.{step}
+use Rattle.model.specs.Results.{stepped}
 use Rattle.model.specs.Sheet.{used-in, nodes-in}
 use Rattle.theory.specs.Logic.{either}
 use Rattle.theory.specs.Steps.{done, more, steps-shaped, steps-weight}
 use Rattle.theory.specs.Sheets.{Formed, formed-made, nodes-made}
 use Rattle.locality.specs.Zones.{Holds, Twice, tree-end}
-use Rattle.sizes.specs.Tables.{Sized}
-use Rattle.model.specs.Results.{stepped}
+use Rattle.sizes.specs.SizeTables.{Measured}
+use Rattle.search.specs.declared.Redex.{Redex}
+use Rattle.search.specs.Redexes.{Applies, stepped-by}
 use Rattle.run_bounds_after.specs.Zoned.{after-step}
 use Rattle.run_bounds_after.proofs.ChildPlaces.{size-here}
 use Rattle.run_bounds_after.proofs.SheetZones as O
-use Rattle.advance.specs.Holders.{Holders}
 
 -- The sheet after a step.
-pub record After (s : List ℕ) (r p i j : ℕ) : Type 0 where
-  pub sheet : Formed (stepped s r p i j)
-  pub nodes : nodes-in (stepped s r p i j) ≡ after-step r p i j (nodes-in s)
-  pub used : used-in (stepped s r p i j) ≡ length (after-step r p i j (nodes-in s))
+pub record After (s : List ℕ) (x : Redex) : Type 0 where
+  pub sheet : Formed (stepped-by x s)
+  pub nodes : nodes-in (stepped-by x s) ≡ after-step x (nodes-in s)
+  pub used : used-in (stepped-by x s) ≡ length (after-step x (nodes-in s))
 
-pub after : (s : List ℕ) → Formed s → (r p i j : ℕ) → is-some (step r p i j (nodes-in s)) ≡ true → After s r p i j
+pub after : (s : List ℕ) → Formed s → (x : Redex) → Applies x s → After s x
 unfolding stepped after-step
-after s h r p i j a =
+after s h x a =
     let form = h .shaped in
-    let one = more r p i j (O.did s h r p i j a) done in
-    let light : weight (after-step r p i j (nodes-in s)) ≤ most-weight = omega (arith, h .weight, steps-weight form one) in
+    let one = more (x .rule) (x .place) (x .i) (x .j) (O.did s h x a) done in
+    let light : weight (after-step x (nodes-in s)) ≤ most-weight = omega (arith, h .weight, steps-weight form one) in
     let shaped = steps-shaped form one in
     let made = formed-made (h .options) shaped light in
     let nodes = nodes-made (h .options) shaped light in
     record { sheet = made; nodes = nodes; used = sym (made .count) ∙ ap length nodes }
 
 -- The nearest two places that hold a place.
-pub holders : (s t : List ℕ) → Formed s → Sized 0 (drop 2 s) t → (p inner outer : ℕ) → p < used-in s → inner ≤ p → (inner < p → p < inner + getD t inner 0) → ((q : ℕ) → q < p → p < q + getD t q 0 → (inner < p) × (q ≤ inner)) → outer ≤ inner → (outer < inner → p < outer + getD t outer 0) → ((q : ℕ) → q < inner → p < q + getD t q 0 → (outer < inner) × (q ≤ outer)) → Holders p inner outer (nodes-in s)
-holders s t h sized p inner outer within a reach near b reach-2 near-2 =
-    record {
-      inner-before = a;
-      outer-before = b;
-      nearest = λ q held. go q held (near q (held .0) (wide q held)) (either (eqb q inner));
-    }
+pub nearest-two : {s t : List ℕ} → Measured s t → (p inner outer : ℕ) → p < used-in s → (inner < p → p < inner + getD t inner 0) → ((q : ℕ) → q < p → p < q + getD t q 0 → (inner < p) × (q ≤ inner)) → (outer < inner → p < outer + getD t outer 0) → ((q : ℕ) → q < inner → p < q + getD t q 0 → (outer < inner) × (q ≤ outer)) → (q : ℕ) → Holds q p (nodes-in s) → (q ≡ inner) ⊎ ((q < inner) × ((q ≡ outer) ⊎ Twice q p (nodes-in s)))
+nearest-two {s} {t} m p inner outer within reach near reach-2 near-2 q held = go q held (near q (held .0) (wide q held)) (either (eqb q inner))
   where
     ends : (q : ℕ) → q < used-in s → q + getD t q 0 ≡ tree-end q (nodes-in s)
     ends q l =
-        let facts = h in
-        omega (arith, sized q (omega arith) (omega (arith, length-drop 2 s, facts .whole, facts .used)), size-here s h q l)
+        let h = m .sheet in
+        omega (arith, m .each q (omega arith) (omega (arith, length-drop 2 s, h .whole, h .used)), size-here s h q l)
 
     wide : (q : ℕ) → Holds q p (nodes-in s) → p < q + getD t q 0
     wide q held = omega (arith, ends q (omega (arith, held .0)), held .1)

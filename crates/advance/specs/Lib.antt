@@ -1,2 +1,4 @@
-pub mod Holders
-pub mod Settled
+pub mod Foreseen
+pub mod Followed
+pub mod SizesLeft
+pub mod MovedOn

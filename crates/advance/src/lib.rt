@@ -1,63 +1,48 @@
 // One step of a run by bounds: the sheet, the sizes of its trees and the bounds beside its places go on together.
 ghost use mathlib.Core.Path.{_≡_};
-ghost use mathlib.Core.Bool.{true};
 ghost use mathlib.Core.Logic.{_⊎_};
-ghost use Prim.Native.Nat.{ℕ, _+_, _≤_, _<_};
-ghost use lib.ListN.{length, getD, drop};
-ghost use Rattle.model.specs.Base.{«is-some»};
-ghost use Rattle.model.specs.Limits.{«sheet-room», «sheet-length», «no-rule»};
-ghost use Rattle.model.specs.Rules.{step};
+ghost use Prim.Native.Nat.{_≤_, _<_};
+ghost use lib.ListN.{length, drop};
+ghost use Rattle.model.specs.Limits.{«sheet-room»};
 ghost use Rattle.model.specs.Sheet.{«used-in», «nodes-in»};
-ghost use Rattle.theory.specs.Spans.{span};
-ghost use Rattle.sizes.specs.Tables.{Sized};
-ghost use Rattle.model.specs.Results.{stepped};
-ghost use Rattle.theory.specs.Sheets.{Formed};
-ghost use Rattle.bounds.specs.Tables.{Bounds, High};
-ghost use Rattle.run_bounds_after.specs.Zoned.{Zoned};
-ghost use Rattle.advance.specs.Holders.{Holders};
-ghost use Rattle.advance.specs.Settled.{Settled};
+ghost use Rattle.sizes.specs.SizeTables.{«Sizes-from», Measured};
+ghost use Rattle.search.specs.Redexes.{Applies, «stepped-by»};
+ghost use Rattle.bounds.specs.BoundTables.{«Come-to»};
+ghost use Rattle.run_bounds_after.specs.Renewed.{Planned};
+ghost use Rattle.advance.specs.Foreseen.{Foreseen};
+ghost use Rattle.advance.specs.Followed.{Followed};
+ghost use Rattle.advance.specs.SizesLeft.{«Sizes-left»};
+ghost use Rattle.advance.specs.MovedOn.{«Moved-on»};
+use run_bounds_after::Plan;
+use run_bounds_after::Zone;
+use search::Redex;
 
 // The sizes after a step. Rules 9 and 10 keep every size, rules 11 and 12 those outside the zone; the others keep those past all
 // nodes, old and new.
-fn resize(sheet: &[u16], sizes: &mut [u16], rule: usize, from: usize, to: usize, most: usize)
-    requires { ⌜ (length (now sheet) ≡ «sheet-length») × (length (now sizes) ≡ «sheet-room») × (from ≤ to) × (to ≤ «sheet-room») ⌝ }
-    requires { ⌜ (9 ≤ rule → rule ≤ 10 → Sized 0 (drop 2 (now sheet)) (now sizes)) ⌝ }
-    requires { ⌜ (11 ≤ rule → rule ≤ 12 → (q : ℕ) → q < length (drop 2 (now sheet)) → (q < from) ⊎ (to ≤ q) → getD (now sizes) q 0 ≡ span 1 (drop q (drop 2 (now sheet)))) ⌝ }
-    requires { ⌜ (most ≤ «sheet-room») × Sized most (drop 2 (now sheet)) (now sizes) ⌝ }
-    ensures { λ r. ⌜ Sized 0 (drop 2 (now (sheet .entry))) (now (sizes .exit)) ⌝ }
+fn resize(sheet: &[u16], sizes: &mut [u16], rule: usize, zone: Zone, most: usize)
+    requires { ⌜ «Sizes-left» rule most zone (now sheet) (now sizes) ⌝ }
+    ensures { λ r. ⌜ «Sizes-from» 0 (drop 2 (now (sheet .entry))) (now (sizes .exit)) ⌝ }
 {
-    if rule <= 8 || 13 <= rule {
-        sizes::refill(&sheet[2..], sizes, 0, most);
-        return;
+    match rule {
+        9..=10 => {}
+        11..=12 => sizes::refill(&sheet[2..], sizes, zone.from, zone.new),
+        _ => sizes::refill(&sheet[2..], sizes, 0, most),
     }
-    if rule <= 10 {
-        return;
-    }
-    sizes::refill(&sheet[2..], sizes, from, to);
 }
 
 // What a step will change: its zone, and the two nearest places that hold its own.
-struct Plan {
-    from: usize,
-    old: usize,
-    new: usize,
-    inner: usize,
-    outer: usize,
-}
-
-fn look_ahead(sheet: &[u16], sizes: &[u16], rule: usize, place: usize, i: usize, j: usize) -> Plan
-    requires { ⌜ Formed (now sheet) × («is-some» (step rule place i j («nodes-in» (now sheet))) ≡ true) ⌝ }
-    requires { ⌜ (length (now sizes) ≡ «sheet-room») × Sized 0 (drop 2 (now sheet)) (now sizes) ⌝ }
-    ensures { λ r. ⌜ Zoned rule place i j («nodes-in» (now (sheet .entry))) (r .from) (r .old) (r .new) ⌝ }
-    ensures { λ r. ⌜ Holders place (r .inner) (r .outer) («nodes-in» (now (sheet .entry))) ⌝ }
+fn look_ahead(sheet: &[u16], sizes: &[u16], redex: Redex) -> Plan
+    requires { ⌜ Measured (now sheet) (now sizes) ⌝ }
+    requires { ⌜ Applies redex (now sheet) ⌝ }
+    ensures { λ r. ⌜ Foreseen redex («nodes-in» (now (sheet .entry))) r ⌝ }
 {
+    let place = redex.place;
     let inner = sizes::holder(sizes, place, place);
     let outer = sizes::holder(sizes, inner, place);
-    let zone = run_bounds_after::zone_of(sheet, sizes, rule, place, i, j);
+    let zone = run_bounds_after::zone_of(sheet, sizes, redex);
     Plan {
-        from: zone.from,
-        old: zone.old,
-        new: zone.new,
+        zone: zone,
+        place: place,
         inner: inner,
         outer: outer,
     }
@@ -65,36 +50,37 @@ fn look_ahead(sheet: &[u16], sizes: &[u16], rule: usize, place: usize, i: usize,
 
 // The bounds after a step, whose sheet and sizes are there: those of the zone go back to 1. Rules 9 and 10 move no node and make
 // constants of literals, so that of their zone those go back alone whose node has a constant among its children.
-fn settle(sheet: &[u16], sizes: &[u16], low: &mut [u16], rule: usize, place: usize, plan: Plan)
-    requires { ⌜ Formed (now sheet) ⌝ }
-    requires { ⌜ (length (now sizes) ≡ «sheet-room») × Sized 0 (drop 2 (now sheet)) (now sizes) ⌝ }
-    requires { ⌜ (length (now low) ≡ «sheet-room») × (plan .from ≤ plan .new) × (plan .new ≤ plan .old) × (plan .old ≤ «sheet-room») ⌝ }
-    requires { ⌜ (place < «sheet-room») × (plan .inner ≤ place) × (plan .outer ≤ plan .inner) ⌝ }
-    requires { ⌜ (9 ≤ rule → rule ≤ 10 → (plan .from ≡ place) × (place < plan .new) × (plan .new ≤ «used-in» (now sheet))) ⌝ }
-    ensures { λ r. ⌜ Settled rule (plan .from) (plan .old) (plan .new) place (plan .inner) (plan .outer) («nodes-in» (now (sheet .entry))) (now (low .entry)) (now (low .exit)) ⌝ }
+fn follow(sheet: &[u16], sizes: &[u16], low: &mut [u16], rule: usize, plan: Plan)
+    requires { ⌜ Measured (now sheet) (now sizes) ⌝ }
+    requires { ⌜ length (now low) ≡ «sheet-room» ⌝ }
+    requires { ⌜ Planned plan ⌝ }
+    requires { ⌜ (9 ≤ rule → rule ≤ 10 →
+        (plan .zone .from ≡ plan .place)
+        × (plan .place < plan .zone .new)
+        × (plan .zone .new ≤ «used-in» (now sheet))) ⌝ }
+    ensures { λ r. ⌜ Followed rule plan («nodes-in» (now (sheet .entry))) (now (low .entry)) (now (low .exit)) ⌝ }
 {
-    if 9 <= rule && rule <= 10 {
-        run_bounds_after::renew(
-            low,
-            plan.new,
-            plan.old,
-            plan.new,
-            place,
-            plan.inner,
-            plan.outer,
-        );
-        run_bounds_after::set_back(sheet, sizes, low, place + 1, plan.new);
-        return;
+    match rule {
+        9..=10 => {
+            let place = plan.place;
+            let old = plan.zone.old;
+            let new = plan.zone.new;
+            let none = Zone {
+                from: new,
+                old: old,
+                new: new,
+            };
+            let rest = Plan {
+                zone: none,
+                place: place,
+                inner: plan.inner,
+                outer: plan.outer,
+            };
+            run_bounds_after::renew(low, rest);
+            run_bounds_after::set_back(sheet, sizes, low, place + 1, new);
+        }
+        _ => run_bounds_after::renew(low, plan),
     }
-    run_bounds_after::renew(
-        low,
-        plan.from,
-        plan.old,
-        plan.new,
-        place,
-        plan.inner,
-        plan.outer,
-    );
 }
 
 // The greater of two numbers.
@@ -124,37 +110,24 @@ struct Reach {
 }
 
 // The step on the sheet and the two tables.
-fn move_on(
-    sheet: &mut [u16],
-    sizes: &mut [u16],
-    low: &mut [u16],
-    rule: usize,
-    place: usize,
-    i: usize,
-    j: usize,
-) -> Reach
-    requires { ⌜ Formed (now sheet) × («is-some» (step rule place i j («nodes-in» (now sheet))) ≡ true) ⌝ }
-    requires { ⌜ (length (now sizes) ≡ «sheet-room») × Sized 0 (drop 2 (now sheet)) (now sizes) ⌝ }
-    requires { ⌜ (length (now low) ≡ «sheet-room») × Bounds («nodes-in» (now sheet)) (now low) × High rule 0 («used-in» (now sheet)) (now low) ⌝ }
-    requires { ⌜ High (rule + 1) 0 place (now low) ⌝ }
-    ensures { λ r. ⌜ now (sheet .exit) ≡ stepped (now (sheet .entry)) rule place i j ⌝ }
-    ensures { λ r. ⌜ Sized 0 (drop 2 (now (sheet .exit))) (now (sizes .exit)) ⌝ }
-    ensures { λ r. ⌜ Bounds («nodes-in» (now (sheet .exit))) (now (low .exit)) × High 1 0 («used-in» (now (sheet .exit))) (now (low .exit)) ⌝ }
-    ensures { λ r. ⌜ High (rule + 1) 0 (r .from) (now (low .exit)) ⌝ }
-    ensures { λ r. ⌜ (r .from ≤ r .to) × ((q : ℕ) → q < «used-in» (now (sheet .exit)) → (q < r .from) ⊎ (r .to ≤ q) → rule ≤ getD (now (low .exit)) q 0) ⌝ }
+fn move_on(sheet: &mut [u16], sizes: &mut [u16], low: &mut [u16], redex: Redex) -> Reach
+    requires { ⌜ «Come-to» (redex .rule) (redex .place) (now sheet) (now sizes) (now low) ⌝ }
+    requires { ⌜ Applies redex (now sheet) ⌝ }
+    ensures { λ r. ⌜ now (sheet .exit) ≡ «stepped-by» redex (now (sheet .entry)) ⌝ }
+    ensures { λ r. ⌜ «Moved-on» (redex .rule) r (now (sheet .exit)) (now (sizes .exit)) (now (low .exit)) ⌝ }
 {
-    let p = look_ahead(sheet, sizes, rule, place, i, j);
-    let from = p.from;
-    let new = p.new;
-    let outer = p.outer;
+    let rule = redex.rule;
+    let place = redex.place;
+    let plan = look_ahead(sheet, sizes, redex);
+    let zone = plan.zone;
     let before = numbers::wide16(sheet[1]);
-    rewriting::apply(sheet, rule, place, i, j);
+    rewriting::apply(sheet, rule, place, redex.i, redex.j);
     let most = greater(before, numbers::wide16(sheet[1]));
-    resize(sheet, sizes, rule, from, new, most);
-    settle(sheet, sizes, low, rule, place, p);
-    let to = greater(place + 1, new);
+    resize(sheet, sizes, rule, zone, most);
+    follow(sheet, sizes, low, rule, plan);
+    let to = greater(place + 1, zone.new);
     Reach {
-        from: outer,
+        from: plan.outer,
         to: to,
     }
 }
@@ -166,30 +139,17 @@ pub struct Ahead {
 }
 
 // One step of a run by bounds.
-pub fn advance(
-    sheet: &mut [u16],
-    sizes: &mut [u16],
-    low: &mut [u16],
-    rule: usize,
-    place: usize,
-    i: usize,
-    j: usize,
-) -> Ahead
-    requires { ⌜ Formed (now sheet) × («is-some» (step rule place i j («nodes-in» (now sheet))) ≡ true) ⌝ }
-    requires { ⌜ (length (now sizes) ≡ «sheet-room») × Sized 0 (drop 2 (now sheet)) (now sizes) ⌝ }
-    requires { ⌜ (length (now low) ≡ «sheet-room») × Bounds («nodes-in» (now sheet)) (now low) × High rule 0 («used-in» (now sheet)) (now low) ⌝ }
-    requires { ⌜ High (rule + 1) 0 place (now low) ⌝ }
-    ensures { λ r. ⌜ now (sheet .exit) ≡ stepped (now (sheet .entry)) rule place i j ⌝ }
-    ensures { λ r. ⌜ Sized 0 (drop 2 (now (sheet .exit))) (now (sizes .exit)) ⌝ }
-    ensures { λ r. ⌜ Bounds («nodes-in» (now (sheet .exit))) (now (low .exit)) × High (r .floor) 0 («used-in» (now (sheet .exit))) (now (low .exit)) ⌝ }
-    ensures { λ r. ⌜ (1 ≤ r .floor) × (r .floor ≤ «no-rule») ⌝ }
-    ensures { λ r. ⌜ (r .cursor ≤ «used-in» (now (sheet .exit))) × High (r .floor + 1) 0 (r .cursor) (now (low .exit)) ⌝ }
+pub fn advance(sheet: &mut [u16], sizes: &mut [u16], low: &mut [u16], redex: Redex) -> Ahead
+    requires { ⌜ «Come-to» (redex .rule) (redex .place) (now sheet) (now sizes) (now low) ⌝ }
+    requires { ⌜ Applies redex (now sheet) ⌝ }
+    ensures { λ r. ⌜ now (sheet .exit) ≡ «stepped-by» redex (now (sheet .entry)) ⌝ }
+    ensures { λ r. ⌜ «Come-to» (r .floor) (r .cursor) (now (sheet .exit)) (now (sizes .exit)) (now (low .exit)) ⌝ }
 {
-    let reach = move_on(sheet, sizes, low, rule, place, i, j);
+    let reach = move_on(sheet, sizes, low, redex);
     let used = numbers::wide16(sheet[1]);
     let to = lesser(reach.to, used);
     let from = lesser(reach.from, to);
-    let floor = bounds::raise_all(sheet, sizes, low, from, to, rule);
+    let floor = bounds::raise_all(sheet, sizes, low, from, to, redex.rule);
     Ahead {
         floor: floor,
         cursor: from,

@@ -1,19 +1,14 @@
--- How high all bounds are after a search for one rule, and after one for all.
-use Prim.Native.Nat.{ℕ, _+_}
-use Rattle.model.specs.Limits.{no-rule}
+-- How far a search has come.
+use Prim.Native.Nat.{ℕ}
 use Rattle.search.specs.declared.Next as N
 use Rattle.search.specs.declared.Next.the-variants as V₁
 
+-- The rule that was found, or the number past those that were tried.
 abbrev pub floorOf : ℕ → N.Next → ℕ
-floorOf rule (V₁.Redex r p i j) = rule
-floorOf rule V₁.Nothing = rule + 1
-
--- The rule that was found, or the number past all.
-abbrev pub ruleOf : N.Next → ℕ
-ruleOf (V₁.Redex r p i j) = r
-ruleOf V₁.Nothing = no-rule
+floorOf past (V₁.Redex x) = x .rule
+floorOf past V₁.Nothing = past
 
 -- The place that was found; where there is none, the first.
 abbrev pub placeOf : N.Next → ℕ
-placeOf (V₁.Redex r p i j) = p
+placeOf (V₁.Redex x) = x .place
 placeOf V₁.Nothing = 0

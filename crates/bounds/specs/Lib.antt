@@ -1,2 +1,2 @@
-pub mod Tables
+pub mod BoundTables
 pub mod Floors

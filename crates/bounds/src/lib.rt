@@ -3,19 +3,18 @@
 ghost use mathlib.Core.Path.{_≡_};
 ghost use mathlib.Core.Option.{none};
 ghost use Prim.Native.Nat.{_+_, _≤_, _<_};
-ghost use lib.ListN.{length, getD, drop};
-ghost use Rattle.model.specs.Limits.{«sheet-room», «last-rule», «no-rule»};
+ghost use lib.ListN.{getD, drop};
+ghost use Rattle.model.specs.Limits.{«last-rule», «no-rule»};
 ghost use Rattle.model.specs.Code.{decode};
 ghost use Rattle.model.specs.Strategy.{«least-i», «least-place», next};
 ghost use Rattle.model.specs.Sheet.{«used-in», «nodes-in»};
-ghost use Rattle.theory.specs.Sheets.{Formed};
-ghost use Rattle.sizes.specs.Tables.{Sized};
-ghost use Rattle.search.specs.Meaning.{spotOf, nextOf};
-ghost use Rattle.bounds.specs.Tables.{Bounds, High, Rises};
-ghost use Rattle.bounds.specs.Floors.{floorOf, ruleOf, placeOf};
+ghost use Rattle.search.specs.Redexes.{spotOf, nextOf};
+ghost use Rattle.bounds.specs.BoundTables.{High, Tabled, Raised, «Come-to»};
+ghost use Rattle.bounds.specs.Floors.{floorOf, placeOf};
 use limits::LAST_RULE;
 use limits::NO_RULE;
 use search::Next;
+use search::Redex;
 use search::Spot;
 
 // The bound of a place where no rule applies.
@@ -25,11 +24,11 @@ const PAST_ALL: u16 = NO_RULE as u16;
 // all rules at a literal.
 fn try_at(sheet: &[u16], sizes: &[u16], low: &mut [u16], rule: usize, place: usize) -> Spot
     requires { ⌜ (1 ≤ rule) × (rule ≤ «last-rule») ⌝ }
-    requires { ⌜ Formed (now sheet) × (place < «used-in» (now sheet)) ⌝ }
-    requires { ⌜ (length (now sizes) ≡ «sheet-room») × Sized 0 (drop 2 (now sheet)) (now sizes) ⌝ }
-    requires { ⌜ (length (now low) ≡ «sheet-room») × (rule ≤ getD (now low) place 0) × Bounds («nodes-in» (now sheet)) (now low) ⌝ }
+    requires { ⌜ Tabled (now sheet) (now sizes) (now low) ⌝ }
+    requires { ⌜ place < «used-in» (now sheet) ⌝ }
+    requires { ⌜ rule ≤ getD (now low) place 0 ⌝ }
     ensures { λ r. ⌜ spotOf rule place r ≡ «least-i» rule place (decode (drop place («nodes-in» (now (sheet .entry))))) ⌝ }
-    ensures { λ r. ⌜ Bounds («nodes-in» (now (sheet .entry))) (now (low .exit)) × Rises (now (low .entry)) (now (low .exit)) ⌝ }
+    ensures { λ r. ⌜ Raised (now (sheet .entry)) (now (sizes .entry)) (now (low .entry)) (now (low .exit)) ⌝ }
     ensures { λ r. ⌜ (spotOf rule place r ≡ none → rule < getD (now (low .exit)) place 0) ⌝ }
 {
     if rule < numbers::wide16(low[place]) {
@@ -50,22 +49,22 @@ fn try_at(sheet: &[u16], sizes: &[u16], low: &mut [u16], rule: usize, place: usi
 
 // The least place for a rule that all bounds have come to, from a start on before which all are past it.
 fn least_place(sheet: &[u16], sizes: &[u16], low: &mut [u16], rule: usize, start: usize) -> Next
-    requires { ⌜ (1 ≤ rule) × (rule ≤ «last-rule») ⌝ }
-    requires { ⌜ Formed (now sheet) ⌝ }
-    requires { ⌜ (length (now sizes) ≡ «sheet-room») × Sized 0 (drop 2 (now sheet)) (now sizes) ⌝ }
-    requires { ⌜ (length (now low) ≡ «sheet-room») × Bounds («nodes-in» (now sheet)) (now low) ⌝ }
-    requires { ⌜ High rule 0 («used-in» (now sheet)) (now low) ⌝ }
-    requires { ⌜ (start ≤ «used-in» (now sheet)) × High (rule + 1) 0 start (now low) ⌝ }
+    requires { ⌜ rule ≤ «last-rule» ⌝ }
+    requires { ⌜ «Come-to» rule start (now sheet) (now sizes) (now low) ⌝ }
     ensures { λ r. ⌜ nextOf r ≡ «least-place» rule («nodes-in» (now (sheet .entry))) ⌝ }
-    ensures { λ r. ⌜ Bounds («nodes-in» (now (sheet .entry))) (now (low .exit)) × High (floorOf rule r) 0 («used-in» (now (sheet .entry))) (now (low .exit)) ⌝ }
-    ensures { λ r. ⌜ High (rule + 1) 0 (placeOf r) (now (low .exit)) ⌝ }
+    ensures { λ r. ⌜ «Come-to» (floorOf (rule + 1) r) (placeOf r) (now (sheet .entry)) (now (sizes .entry)) (now (low .exit)) ⌝ }
 {
     let used = numbers::wide16(sheet[1]);
     let mut place = start;
     while place < used {
         let spot = try_at(sheet, sizes, low, rule, place);
         if let Spot::At(i, j) = spot {
-            return Next::Redex(rule, place, i, j);
+            return Next::Redex(Redex {
+                rule: rule,
+                place: place,
+                i: i,
+                j: j,
+            });
         }
         place += 1;
     }
@@ -80,22 +79,16 @@ pub fn next_redex(
     floor: usize,
     cursor: usize,
 ) -> Next
-    requires { ⌜ (1 ≤ floor) × (floor ≤ «no-rule») ⌝ }
-    requires { ⌜ Formed (now sheet) ⌝ }
-    requires { ⌜ (length (now sizes) ≡ «sheet-room») × Sized 0 (drop 2 (now sheet)) (now sizes) ⌝ }
-    requires { ⌜ (length (now low) ≡ «sheet-room») × Bounds («nodes-in» (now sheet)) (now low) ⌝ }
-    requires { ⌜ High floor 0 («used-in» (now sheet)) (now low) ⌝ }
-    requires { ⌜ (cursor ≤ «used-in» (now sheet)) × High (floor + 1) 0 cursor (now low) ⌝ }
+    requires { ⌜ «Come-to» floor cursor (now sheet) (now sizes) (now low) ⌝ }
     ensures { λ r. ⌜ nextOf r ≡ next («nodes-in» (now (sheet .entry))) ⌝ }
-    ensures { λ r. ⌜ Bounds («nodes-in» (now (sheet .entry))) (now (low .exit)) × High (ruleOf r) 0 («used-in» (now (sheet .entry))) (now (low .exit)) ⌝ }
-    ensures { λ r. ⌜ High (ruleOf r + 1) 0 (placeOf r) (now (low .exit)) ⌝ }
+    ensures { λ r. ⌜ «Come-to» (floorOf «no-rule» r) (placeOf r) (now (sheet .entry)) (now (sizes .entry)) (now (low .exit)) ⌝ }
 {
     let mut rule = floor;
     let mut start = cursor;
     while rule <= LAST_RULE {
         let found = least_place(sheet, sizes, low, rule, start);
-        if let Next::Redex(r, p, i, j) = found {
-            return Next::Redex(r, p, i, j);
+        if let Next::Redex(redex) = found {
+            return Next::Redex(redex);
         }
         rule += 1;
         start = 0;
@@ -106,11 +99,13 @@ pub fn next_redex(
 // The bound of a place rises up to a limit, or to the least rule below it that applies there: the number it has come to.
 fn raise(sheet: &[u16], sizes: &[u16], low: &mut [u16], place: usize, limit: usize) -> usize
     requires { ⌜ (1 ≤ limit) × (limit ≤ «no-rule») ⌝ }
-    requires { ⌜ Formed (now sheet) × (place < «used-in» (now sheet)) ⌝ }
-    requires { ⌜ (length (now sizes) ≡ «sheet-room») × Sized 0 (drop 2 (now sheet)) (now sizes) ⌝ }
-    requires { ⌜ (length (now low) ≡ «sheet-room») × (1 ≤ getD (now low) place 0) × Bounds («nodes-in» (now sheet)) (now low) ⌝ }
-    ensures { λ r. ⌜ (1 ≤ r) × (r ≤ limit) × (r ≤ getD (now (low .exit)) place 0) ⌝ }
-    ensures { λ r. ⌜ Bounds («nodes-in» (now (sheet .entry))) (now (low .exit)) × Rises (now (low .entry)) (now (low .exit)) ⌝ }
+    requires { ⌜ Tabled (now sheet) (now sizes) (now low) ⌝ }
+    requires { ⌜ place < «used-in» (now sheet) ⌝ }
+    requires { ⌜ 1 ≤ getD (now low) place 0 ⌝ }
+    ensures { λ r. ⌜ (1 ≤ r)
+        × (r ≤ limit)
+        × (r ≤ getD (now (low .exit)) place 0) ⌝ }
+    ensures { λ r. ⌜ Raised (now (sheet .entry)) (now (sizes .entry)) (now (low .entry)) (now (low .exit)) ⌝ }
 {
     if limit <= numbers::wide16(low[place]) {
         return limit;
@@ -136,11 +131,13 @@ pub fn raise_all(
     limit: usize,
 ) -> usize
     requires { ⌜ (1 ≤ limit) × (limit ≤ «no-rule») ⌝ }
-    requires { ⌜ Formed (now sheet) × (from ≤ to) × (to ≤ «used-in» (now sheet)) ⌝ }
-    requires { ⌜ (length (now sizes) ≡ «sheet-room») × Sized 0 (drop 2 (now sheet)) (now sizes) ⌝ }
-    requires { ⌜ (length (now low) ≡ «sheet-room») × High 1 from to (now low) × Bounds («nodes-in» (now sheet)) (now low) ⌝ }
-    ensures { λ r. ⌜ (1 ≤ r) × (r ≤ limit) × High r from to (now (low .exit)) ⌝ }
-    ensures { λ r. ⌜ Bounds («nodes-in» (now (sheet .entry))) (now (low .exit)) × Rises (now (low .entry)) (now (low .exit)) ⌝ }
+    requires { ⌜ Tabled (now sheet) (now sizes) (now low) ⌝ }
+    requires { ⌜ (from ≤ to) × (to ≤ «used-in» (now sheet)) ⌝ }
+    requires { ⌜ High 1 from to (now low) ⌝ }
+    ensures { λ r. ⌜ (1 ≤ r)
+        × (r ≤ limit)
+        × High r from to (now (low .exit)) ⌝ }
+    ensures { λ r. ⌜ Raised (now (sheet .entry)) (now (sizes .entry)) (now (low .entry)) (now (low .exit)) ⌝ }
 {
     let mut floor = limit;
     let mut place = from;

@@ -1,3 +1,3 @@
 pub mod Held
 pub mod Passing
-pub mod Inner
+pub mod FactorChildren

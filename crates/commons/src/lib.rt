@@ -7,7 +7,7 @@ ghost use Rattle.model.specs.Code.{children};
 ghost use Rattle.theory.specs.Spans.{«child-at»};
 ghost use Rattle.theory.specs.Stretches.{Stretch};
 ghost use Rattle.theory.specs.Heads.{Headed};
-ghost use Rattle.sizes.specs.Tables.{Sized};
+ghost use Rattle.sizes.specs.SizeTables.{«Sizes-of»};
 ghost use Rattle.factor.specs.Walks.{«group-here»};
 ghost use Rattle.sizes.specs.FirstApplying.{«First-inner»};
 ghost use Rattle.commons.specs.Held.{«literal-numbers», Noted, Carried, Filter, Barred};
@@ -32,8 +32,10 @@ fn note(held: &mut [u16], x: usize, groups: u16)
 
 // The tree at a place, after so many conjunctions: the children of a conjunction are noted. The conjunctions with it.
 fn hold(part: &[u16], sizes: &[u16], at: usize, groups: u16, held: &mut [u16]) -> u16
-    requires { ⌜ (at < length (now part)) × (length (now part) ≤ «sheet-room») × (groups ≤ «sheet-room») ⌝ }
-    requires { ⌜ (length (now sizes) ≡ length (now part)) × Sized 0 (now part) (now sizes) ⌝ }
+    requires { ⌜ (at < length (now part))
+        × (length (now part) ≤ «sheet-room»)
+        × (groups ≤ «sheet-room») ⌝ }
+    requires { ⌜ «Sizes-of» (now part) (now sizes) ⌝ }
     requires { ⌜ length (now held) ≡ «literal-numbers» ⌝ }
     ensures { λ r. ⌜ r ≡ groups + «group-here» (getD (now (part .entry)) at 0) ⌝ }
     ensures { λ r. ⌜ Carried groups r (drop at (now (part .entry))) (now (held .entry)) (now (held .exit)) ⌝ }
@@ -56,7 +58,7 @@ fn hold(part: &[u16], sizes: &[u16], at: usize, groups: u16, held: &mut [u16]) -
 // literal nor a conjunction, so that no literal is shared.
 fn hold_all(part: &[u16], sizes: &[u16], held: &mut [u16]) -> u16
     requires { ⌜ (1 ≤ length (now part)) × (length (now part) ≤ «sheet-room») ⌝ }
-    requires { ⌜ (length (now sizes) ≡ length (now part)) × Sized 0 (now part) (now sizes) ⌝ }
+    requires { ⌜ «Sizes-of» (now part) (now sizes) ⌝ }
     requires { ⌜ length (now held) ≡ «literal-numbers» ⌝ }
     ensures { λ r. ⌜ Filter r (now (part .entry)) (now (held .exit)) ⌝ }
 {
@@ -87,20 +89,21 @@ fn first_sifted(part: &[u16], sizes: &[u16], i: usize, held: &[u16], groups: u16
     requires { ⌜ Stretch (now part) ⌝ }
     requires { ⌜ Headed 14 (now part) ⌝ }
     requires { ⌜ (i < children (getD (now part) 0 0)) × (1 + i ≡ «child-at» i (now part)) ⌝ }
-    requires { ⌜ (length (now sizes) ≡ length (now part)) × Sized 0 (now part) (now sizes) ⌝ }
+    requires { ⌜ «Sizes-of» (now part) (now sizes) ⌝ }
     requires { ⌜ (length (now held) ≡ «literal-numbers») × Filter groups (now part) (now held) ⌝ }
     ensures { λ r. ⌜ «First-inner» 14 i r (now (part .entry)) ⌝ }
 {
-    let head = numbers::wide16(part[1 + i]);
+    let at = 1 + i;
+    let head = numbers::wide16(part[at]);
     let m = spans::arity_of(head);
     if groups < 2 || nodes::kind_of(head) != 3 {
         return m + 1;
     }
     let mut j = 0;
-    let mut from = i + 2;
+    let mut from = at + 1;
     while j < m {
         let x = numbers::wide16(part[from]);
-        if may_share(held, x, groups) && factor::asks(part, i, j, 1 + i) {
+        if may_share(held, x, groups) && factor::asks(part, i, j, at) {
             return j;
         }
         from += numbers::wide16(sizes[from]);
@@ -114,7 +117,7 @@ fn first_held(part: &[u16], sizes: &[u16], i: usize) -> usize
     requires { ⌜ Stretch (now part) ⌝ }
     requires { ⌜ Headed 14 (now part) ⌝ }
     requires { ⌜ (i < children (getD (now part) 0 0)) × (1 + i ≡ «child-at» i (now part)) ⌝ }
-    requires { ⌜ (length (now sizes) ≡ length (now part)) × Sized 0 (now part) (now sizes) ⌝ }
+    requires { ⌜ «Sizes-of» (now part) (now sizes) ⌝ }
     ensures { λ r. ⌜ «First-inner» 14 i r (now (part .entry)) ⌝ }
 {
     let mut held = [0u16; LITERAL_NUMBERS];
@@ -146,7 +149,7 @@ pub fn first_common(part: &[u16], sizes: &[u16], i: usize) -> usize
     requires { ⌜ Stretch (now part) ⌝ }
     requires { ⌜ Headed 14 (now part) ⌝ }
     requires { ⌜ (i < children (getD (now part) 0 0)) × (1 + i ≡ «child-at» i (now part)) ⌝ }
-    requires { ⌜ (length (now sizes) ≡ length (now part)) × Sized 0 (now part) (now sizes) ⌝ }
+    requires { ⌜ «Sizes-of» (now part) (now sizes) ⌝ }
     ensures { λ r. ⌜ «First-inner» 14 i r (now (part .entry)) ⌝ }
 {
     if sizes[0] < 64 || sizes[1 + i] < 2 {

@@ -1,3 +1,2 @@
 pub mod Tallies
-pub mod Hops
-pub mod Trees
+pub mod SpreadTree

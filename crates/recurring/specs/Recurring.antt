@@ -1,5 +1,5 @@
 -- Literals whose option occurs again in the first tree of a list of numbers, and how often options occur.
-use mathlib.Core.Bool.{Bool, true, false}
+use mathlib.Core.Bool.{Bool}
 use mathlib.Core.List.{List, [], _∷_}
 use mathlib.Core.Path.{_≡_}
 use Prim.Native.Nat.{ℕ, zero, suc, _≤_, _<_}
@@ -10,19 +10,18 @@ use Rattle.model.specs.Limits.{kind-factor, sheet-room}
 use Rattle.model.specs.Code.{children}
 use Rattle.theory.specs.Spans.{child-at}
 use Rattle.spread.specs.Assigning.{names, spreads-from}
+use Rattle.sizes.specs.FirstApplying.{First-of}
 
 -- The first tree of a list of at most 4,096 numbers ends at a place: its children begin before it.
-pub record Ends (end : ℕ) (l : List ℕ) : Type 0 where
+pub record Ends-at (end : ℕ) (l : List ℕ) : Type 0 where
   pub some-head : 1 ≤ end
   pub within : end ≤ length l
   pub short : length l ≤ sheet-room
   pub children : (i : ℕ) → i < children (getD l 0 0) → child-at i l < end
 
 -- The first child that is a literal whose option occurs again before the end; as many as there are children where there is none.
-pub record First-again (end i : ℕ) (l : List ℕ) : Type 0 where
-  pub few : i ≤ children (getD l 0 0)
-  pub before : (k : ℕ) → k < i → spreads-from (child-at k l) end l ≡ false
-  pub there : i < children (getD l 0 0) → spreads-from (child-at i l) end l ≡ true
+abbrev pub First-again : ℕ → ℕ → List ℕ → Type 0
+First-again end i l = First-of (λ k. spreads-from (child-at k l) end l) (children (getD l 0 0)) i
 
 -- One more, where nothing past two is told apart.
 unfoldable pub up : ℕ → ℕ

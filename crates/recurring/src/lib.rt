@@ -6,14 +6,17 @@ ghost use Rattle.model.specs.Limits.{«kind-factor», «sheet-room»};
 ghost use Rattle.theory.specs.Stretches.{Stretch};
 ghost use Rattle.theory.specs.Heads.{Headed};
 ghost use Rattle.sizes.specs.FirstApplying.{«First-child»};
-ghost use Rattle.sizes.specs.Tables.{Sized};
+ghost use Rattle.sizes.specs.SizeTables.{«Sizes-of»};
 ghost use Rattle.spread.specs.Assigning.{«spreads-from»};
-ghost use Rattle.recurring.specs.Recurring.{Ends, «First-again», Tallied, «Tallied-if-any»};
+ghost use Rattle.recurring.specs.Recurring.{«Ends-at», «First-again», Tallied, «Tallied-if-any»};
 use limits::KIND_FACTOR;
 
 // How many literals of each option stand between the head and an end: none, one, or two for all more.
 fn count(part: &[u16], end: usize, tally: &mut [u8])
-    requires { ⌜ (1 ≤ end) × (end ≤ length (now part)) × (length (now part) ≤ «sheet-room») × (now tally ≡ replicate «kind-factor» 0) ⌝ }
+    requires { ⌜ (1 ≤ end)
+        × (end ≤ length (now part))
+        × (length (now part) ≤ «sheet-room»)
+        × (now tally ≡ replicate «kind-factor» 0) ⌝ }
     ensures { λ r. ⌜ Tallied 1 end (now (part .entry)) (now (tally .exit)) ⌝ }
 {
     let mut q = end;
@@ -31,7 +34,10 @@ fn count(part: &[u16], end: usize, tally: &mut [u8])
 
 // The number at a place is a literal whose option occurs again: by the tally where there is one, and else by a look around it.
 fn recurs(part: &[u16], at: usize, end: usize, tally: &[u8]) -> bool
-    requires { ⌜ (1 ≤ at) × (at < end) × (end ≤ length (now part)) × (length (now part) ≤ «sheet-room») ⌝ }
+    requires { ⌜ (1 ≤ at)
+        × (at < end)
+        × (end ≤ length (now part))
+        × (length (now part) ≤ «sheet-room») ⌝ }
     requires { ⌜ «Tallied-if-any» end (now part) (now tally) ⌝ }
     ensures { λ r. ⌜ r ≡ «spreads-from» at end (now (part .entry)) ⌝ }
 {
@@ -44,8 +50,8 @@ fn recurs(part: &[u16], at: usize, end: usize, tally: &[u8]) -> bool
 
 // The first child for which that holds; as many as there are children where there is none.
 fn first_among(part: &[u16], sizes: &[u16], end: usize, tally: &[u8]) -> usize
-    requires { ⌜ Ends end (now part) ⌝ }
-    requires { ⌜ (length (now sizes) ≡ length (now part)) × Sized 0 (now part) (now sizes) ⌝ }
+    requires { ⌜ «Ends-at» end (now part) ⌝ }
+    requires { ⌜ «Sizes-of» (now part) (now sizes) ⌝ }
     requires { ⌜ «Tallied-if-any» end (now part) (now tally) ⌝ }
     ensures { λ r. ⌜ «First-again» end r (now (part .entry)) ⌝ }
 {
@@ -69,7 +75,7 @@ pub fn first_recurring(part: &[u16], sizes: &[u16], rule: usize) -> usize
     requires { ⌜ (9 ≤ rule) × (rule ≤ 10) ⌝ }
     requires { ⌜ Stretch (now part) ⌝ }
     requires { ⌜ Headed rule (now part) ⌝ }
-    requires { ⌜ (length (now sizes) ≡ length (now part)) × Sized 0 (now part) (now sizes) ⌝ }
+    requires { ⌜ «Sizes-of» (now part) (now sizes) ⌝ }
     ensures { λ r. ⌜ «First-child» rule r (now (part .entry)) ⌝ }
 {
     let end = numbers::wide16(sizes[0]);

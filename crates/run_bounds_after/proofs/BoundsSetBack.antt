@@ -10,21 +10,21 @@ use lib.ListN.{length, getD, set}
 use lib.Seq.{getD-set-same, getD-set-other}
 use Rattle.model.specs.Code.{Node}
 use Rattle.theory.specs.Logic.{either}
-use Rattle.run_bounds_after.specs.SetBack.{Bare, Set-back}
+use Rattle.run_bounds_after.specs.SetBack.{Constant-free, Set-back}
 
 -- Bounds set back up to a place: none at first, then one place more, which has stayed or gone back to 1.
 pub set-none : (from : ℕ) (ns : List Node) (t : List ℕ) → Set-back from from ns t t
 set-none from ns t = record { outside = λ q w. refl; inside = λ q a b. absurd (omega arith) }
 
 module _ {from p : ℕ} (ns : List Node) (t u : List ℕ) (w : Set-back from p ns t u) (le : from ≤ p) where
-  pub set-kept : Bare p ns → Set-back from (p + 1) ns t u
-  set-kept bare =
+  pub set-kept : Constant-free p ns → Set-back from (p + 1) ns t u
+  set-kept free =
       record {
         outside = λ q e. w .outside q (⊎-elim (λ l. inl l) (λ l. inr (omega arith)) e);
         inside = λ q a b. ⊎-elim
             (λ e. w .inside q a (ltb-true q p e))
             (λ e. let same : p ≡ q = omega (arith, ltb-false q p e) in
-            inr (w .outside q (inr (omega arith)), subst (λ k. Bare k ns) same bare))
+            inr (w .outside q (inr (omega arith)), subst (λ k. Constant-free k ns) same free))
             (either (ltb q p));
       }
 

@@ -1,7 +1,7 @@
 -- Places on the numbers of a sheet and on its nodes.
 use mathlib.Core.List.{List}
-use mathlib.Core.Path.{_≡_, refl, ap, subst, _∙_}
-use Prim.Native.Nat.{ℕ, suc, _+_, _-_, _≤_, _<_}
+use mathlib.Core.Path.{_≡_, refl, ap, _∙_}
+use Prim.Native.Nat.{ℕ, _+_, _≤_, _<_}
 use native.Mathlib.Omega.{arith}
 use lib.ListN.{length, drop, length-map, length-drop}
 use lib.Seq.{drop-drop}
@@ -15,10 +15,10 @@ use Rattle.theory.specs.Spans.{span, child-at}
 use Rattle.theory.specs.Flat.{spell, Fits, start-at}
 use Rattle.theory.specs.Shape.{shaped-trees}
 use Rattle.theory.specs.Sheets.{Formed}
-use Rattle.theory.specs.Stretches.{Stretch, forest-in, spell-to, sheet-stretch}
 use Rattle.theory.specs.Children.{Group, child-place, child-later, child-room}
 use Rattle.locality.specs.Zones as Z
 use Rattle.locality.specs.Zones.{tree-length}
+use Rattle.search.proofs.LentStretch.{sheet-spelled}
 
 -- A node with children, on the numbers.
 pub record Here (s : List ℕ) (p i : ℕ) : Type 0 where
@@ -31,37 +31,33 @@ pub record Here (s : List ℕ) (p i : ℕ) : Type 0 where
   pub inside : p + child-at i (drop (2 + p) s) < sheet-room
   pub index : i ≤ sheet-room
 
--- A stretch whose first tree has children begins with a group.
-grouped : (l : List ℕ) (f : Forest) {i : ℕ} → Stretch l → forest-in l ≡ f → i < size (kids f) → (c : Conn) × (k : Forest) × (g : Forest) × (z : ℕ) × (f ≡ node c k g) × Group l c k g z
-unfolding kids size spell-to
-grouped l nil s e h = absurd (omega arith)
-grouped l (lit x f) s e h = absurd (omega arith)
-grouped l (node c k g) s e h =
-    (c, k, g, length l - length (encode (node c k g)), refl, record { spelled = s .spelled ∙ ap (λ f. spell f (length l - length (encode f))) e; fitting = subst Fits e (s .fitting) })
+-- Numbers that spell trees begin with a group where the first tree has children.
+pub group-of : (f : Forest) (z : ℕ) (l : List ℕ) → l ≡ spell f z → Fits f → 0 < size (kids f) → (c : Conn) × (g : Forest) × Group l c (kids f) g z
+unfolding kids size
+group-of nil z l e h some = absurd (omega arith)
+group-of (lit x f) z l e h some = absurd (omega arith)
+group-of (node c k f) z l e h some = (c, f, record { spelled = e; fitting = h })
 
 pub here : (s : List ℕ) → Formed s → (p i : ℕ) → i < size (kids (decode (drop p (nodes-in s)))) → Here s p i
-unfolding Z.child-place kids
+unfolding Z.child-place
 here s h p i lt =
-    let facts = h in
-    let within : p < used-in s = omega (arith, place-within p (nodes-in s) (tree-there _ lt), facts .count) in
-    let w = sheet-stretch s p h (omega arith) in
+    let f = decode (drop p (nodes-in s)) in
+    let within : p < used-in s = omega (arith, place-within p (nodes-in s) (tree-there _ lt), h .count) in
     let l = drop (2 + p) s in
-    let g = grouped l (decode (drop p (nodes-in s))) (w .0) (w .1) lt in
-    let k = g .1 in
-    let few : i < size k = subst (λ f. i < size (kids f)) (g .4) lt in
-    let place = child-place (g .5) i (omega arith) in
-    let same : Z.child-place p i (nodes-in s) ≡ p + suc (length (encode (first i k))) = ap (λ f. p + suc (length (encode (first i (kids f))))) (g .4) in
-    let room = child-room (g .5) i (omega arith) in
+    let w = sheet-spelled h p (omega arith) in
+    let g = group-of f (w .0) l (w .1) (w .2) (omega arith) .2 in
+    let place = child-place g i (omega arith) in
+    let room = child-room g i (omega arith) in
     let size-long = length-drop (2 + p) s in
     record {
-      whole = facts .whole;
+      whole = h .whole;
       within = within;
-      few = facts .used;
-      short = omega (arith, facts .whole, size-long);
-      long = omega (arith, facts .whole, size-long, facts .used);
-      at = omega (arith, same, place, length-map (encode (first i k)) number-of);
-      inside = omega (arith, room, facts .whole, size-long, facts .used);
-      index = omega (arith, room, child-later (g .5) i (omega arith), facts .whole, size-long);
+      few = h .used;
+      short = omega (arith, h .whole, size-long);
+      long = omega (arith, h .whole, size-long, h .used);
+      at = omega (arith, place, length-map (encode (first i (kids f))) number-of);
+      inside = omega (arith, room, h .whole, size-long, h .used);
+      index = omega (arith, room, child-later g i (omega arith), h .whole, size-long);
     }
 
 some-tree : (f : Forest) → 1 ≤ length (encode f) → 1 ≤ size f
@@ -72,16 +68,12 @@ some-tree (node c k f) h = omega arith
 
 -- The size of a tree, on the numbers and on the nodes.
 pub size-here : (s : List ℕ) → Formed s → (p : ℕ) → p < used-in s → span 1 (drop p (drop 2 s)) ≡ tree-length p (nodes-in s)
-unfolding spell-to tree-length
+unfolding tree-length
 size-here s h p lt =
-    let facts = h in
-    let w = sheet-stretch s p h (omega arith) in
     let ns = nodes-in s in
     let f = decode (drop p ns) in
-    let l = drop (2 + p) s in
-    let z = length l - length (encode f) in
-    let spelled : drop p (drop 2 s) ≡ spell f z = drop-drop p 2 s ∙ w .0 .spelled ∙ ap (λ g. spell g (length l - length (encode g))) (w .1) in
-    let t = trees-drop p ns (shaped-trees (facts .shaped)) in
+    let w = sheet-spelled h p (omega arith) in
+    let t = trees-drop p ns (shaped-trees (h .shaped)) in
     let code : encode f ≡ drop p ns = encode-decode (drop p ns) (t .0) (t .1) .0 in
-    let some-here : 1 ≤ size f = some-tree f (omega (arith, ap length code, length-drop p ns, facts .count)) in
-    ap (span 1) spelled ∙ start-at 1 f z some-here (subst Fits (w .1) (w .0 .fitting))
+    let some-here : 1 ≤ size f = some-tree f (omega (arith, ap length code, length-drop p ns, h .count)) in
+    ap (span 1) (drop-drop p 2 s ∙ w .1) ∙ start-at 1 f (w .0) some-here (w .2)

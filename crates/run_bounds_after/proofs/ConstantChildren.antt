@@ -2,8 +2,8 @@
 use mathlib.Core.Bool.{true, false}
 use mathlib.Core.List.{List}
 use mathlib.Core.Logic.{⊎-elim}
-use mathlib.Core.Path.{_≡_, refl, sym, ap, subst, _∙_}
-use Prim.Native.Nat.{ℕ, zero, suc, _+_, _-_, _≤_, _<_}
+use mathlib.Core.Path.{_≡_, refl, sym, ap, _∙_}
+use Prim.Native.Nat.{ℕ, zero, suc, _+_, _≤_, _<_}
 use native.Mathlib.Omega.{arith}
 use borrow.Author.Tests.{ne-eqb, ltb-true, ltb-false}
 use lib.Dec.{eqb, ltb}
@@ -18,13 +18,13 @@ use Rattle.theory.specs.Forests.{past-end}
 use Rattle.theory.specs.Rooted.{no-root, no-root-node, Rooted, below-root}
 use Rattle.theory.specs.Shape.{shaped-rooted}
 use Rattle.theory.specs.Sheets.{Formed}
-use Rattle.theory.specs.Spans.{arity, arity-none, arity-leaf, arity-head, span, span-none, child-at}
+use Rattle.theory.specs.Spans.{arity, arity-none, arity-leaf, arity-head, span, child-at}
 use Rattle.theory.specs.Flat.{spell, Fits, fits-lit, fits-tree}
-use Rattle.theory.specs.Stretches.{spell-to, sheet-stretch}
 use Rattle.theory.specs.Children.{Group, first-left, child-constant, child-room}
-use Rattle.sizes.specs.Tables.{Sized}
-use Rattle.sizes.proofs.Laws.{child-next, span-one}
-use Rattle.run_bounds_after.specs.SetBack.{Bare}
+use Rattle.sizes.specs.TreeHops.{inner-at}
+use Rattle.search.proofs.LentStretch.{sheet-spelled}
+use Rattle.run_bounds_after.specs.SetBack.{Constant-free}
+use Rattle.run_bounds_after.proofs.ChildPlaces.{group-of}
 
 -- The root stands at the head of a sheet alone, so that no child of a node is an empty root.
 kids-no-root : (f : Forest) → no-root f ≡ true → no-root (kids f) ≡ true
@@ -55,100 +55,57 @@ announced nil (suc z) h = arity-none
 announced (lit x f) z h = arity-leaf x (fits-lit x f h .0)
 announced (node c k f) z h = arity-head c (size k) (fits-tree c k f h .0)
 
--- Where it has children, it is a group.
-group-of : (f : Forest) (z : ℕ) (l : List ℕ) → l ≡ spell f z → Fits f → 0 < size (kids f) → (c : Conn) × (g : Forest) × Group l c (kids f) g z
-unfolding kids size
-group-of nil z l e h some = absurd (omega arith)
-group-of (lit x f) z l e h some = absurd (omega arith)
-group-of (node c k f) z l e h some = (c, f, record { spelled = e; fitting = h })
-
--- The children of the node at a place of a sheet.
+-- The children of the node at a place of a sheet; that child i of them is no constant.
 abbrev children : List ℕ → ℕ → Forest
 children s p = kids (decode (drop p (nodes-in s)))
 
--- On the way: child i begins at a place, and none before it is a constant.
-pub record Passed (s : List ℕ) (p i at : ℕ) : Type 0 where
-  pub here : at ≡ p + child-at i (drop (2 + p) s)
-  pub none-yet : (j : ℕ) → j < i → (d : Conn) → constant-at d (after j (children s p)) ≡ false
+abbrev pub No-constant : List ℕ → ℕ → ℕ → Type 0
+No-constant s p i = (d : Conn) → constant-at d (after i (children s p)) ≡ false
 
-pub passed-first : (s : List ℕ) (p : ℕ) → Passed s p 0 (p + 1)
-passed-first s p = record { here = omega (arith, span-none (drop 1 (drop (2 + p) s))); none-yet = λ j l. absurd (omega arith) }
-
-module _ (s : List ℕ) (h : Formed s) (p : ℕ) (lt : p < used-in s) where
-  -- What stands at the place, and how many children it announces.
-  spelled-here : let f = decode (drop p (nodes-in s)) in (z : ℕ) × (drop (2 + p) s ≡ spell f z) × Fits f
-  unfolding spell-to
-  spelled-here =
-      let w = sheet-stretch s p h (omega arith) in
-      let l = drop (2 + p) s in
-      let f = decode (drop p (nodes-in s)) in
-      (length l - length (encode f), w .0 .spelled ∙ ap (λ g. spell g (length l - length (encode g))) (w .1), subst Fits (w .1) (w .0 .fitting))
-
+module _ {s : List ℕ} (h : Formed s) {p : ℕ} (lt : p < used-in s) where
+  -- How many children the node there announces.
   counted : arity (getD s (2 + p) 0) ≡ size (children s p)
   counted =
-      let w = spelled-here in
+      let w = sheet-spelled h p (omega arith) in
       ap arity (sym (first-left (2 + p) s) ∙ ap (λ l. getD l 0 0) (w .1)) ∙ announced (decode (drop p (nodes-in s))) (w .0) (w .2)
 
-  -- Past the last child the node is bare.
-  pub passed-all : {i at : ℕ} → Passed s p i at → arity (getD s (2 + p) 0) ≤ i → Bare p (nodes-in s)
+  -- Past the last child no child is a constant.
+  pub passed-all : {i : ℕ} → ((j : ℕ) → j < i → No-constant s p j) → arity (getD s (2 + p) 0) ≤ i → Constant-free p (nodes-in s)
   unfolding constant-at
-  passed-all {i} w le d c =
+  passed-all {i} none le d c =
       ⊎-elim
-      (λ e. w .none-yet c (ltb-true c i e) d)
+      (λ e. none c (ltb-true c i e) d)
       (λ e. ap (constant-at d) (past-end c (children s p) (omega (arith, ltb-false c i e, counted))))
       (either (ltb c i))
 
-  -- Where there is one more child.
-  module _ {i at : ℕ} (w : Passed s p i at) (more : i < arity (getD s (2 + p) 0)) where
+  -- Where there is one more child, which begins at a place.
+  module _ {i at : ℕ} (here : at ≡ p + 1 + span i (drop (p + 1) (drop 2 s))) (more : i < arity (getD s (2 + p) 0)) where
     left : i < size (children s p)
     left = omega (arith, counted)
 
-    stands-at : 2 + at ≡ 2 + p + child-at i (drop (2 + p) s)
-    stands-at = omega (arith, w .here)
+    stands-at : at ≡ p + child-at i (drop (2 + p) s)
+    stands-at = here ∙ sym (inner-at p i (drop 2 s)) ∙ ap (λ l. p + child-at i l) (drop-drop p 2 s)
 
-    group-here : (c : Conn) × (g : Forest) × Group (drop (2 + p) s) c (children s p) g (spelled-here .0)
+    group-here : (c : Conn) × (g : Forest) × Group (drop (2 + p) s) c (children s p) g (sheet-spelled h p (omega arith) .0)
     group-here =
-        let f = spelled-here in
-        group-of (decode (drop p (nodes-in s))) (f .0) (drop (2 + p) s) (f .1) (f .2) (omega (arith, left))
+        let w = sheet-spelled h p (omega arith) in
+        group-of (decode (drop p (nodes-in s))) (w .0) (drop (2 + p) s) (w .1) (w .2) (omega (arith, left))
 
     -- It begins within the sheet, and its number tells whether it is a constant.
-    pub passed-inside : at < sheet-room
-    passed-inside =
-        omega (arith, w .here, child-room (group-here .2) i (omega (arith, left)), left, length-drop (2 + p) s, h .whole, h .used)
+    pub child-inside : at < sheet-room
+    child-inside =
+        omega (arith, stands-at, child-room (group-here .2) i (omega (arith, left)), left, length-drop (2 + p) s, h .whole, h .used)
 
     asked : (d : Conn) → eqb (getD s (2 + at) 0) (number (conn-kind d) 0) ≡ constant-at d (after i (children s p))
     asked d =
         let l = drop (2 + p) s in
-        let there : getD s (2 + at) 0 ≡ getD l (child-at i l) 0 = ap (λ k. getD s k 0) stands-at ∙ sym (getD-drop (2 + p) s (child-at i l) 0) in
+        let sum : 2 + at ≡ 2 + p + child-at i l = omega (arith, stands-at) in
+        let there : getD s (2 + at) 0 ≡ getD l (child-at i l) 0 = ap (λ k. getD s k 0) sum ∙ sym (getD-drop (2 + p) s (child-at i l) 0) in
         ap (λ x. eqb x (number (conn-kind d) 0)) there ∙ child-constant (group-here .2) i left d
 
     -- An empty conjunction and an empty disjunction are all the constants that it could be.
-    no-constant : (getD s (2 + at) 0 ≡ 12288 → ⊥) → (getD s (2 + at) 0 ≡ 16384 → ⊥) → (d : Conn) → constant-at d (after i (children s p)) ≡ false
+    pub no-constant : (getD s (2 + at) 0 ≡ 12288 → ⊥) → (getD s (2 + at) 0 ≡ 16384 → ⊥) → No-constant s p i
     unfolding number conn-kind
     no-constant a o and = sym (asked and) ∙ ne-eqb (getD s (2 + at) 0) 12288 a
     no-constant a o or = sym (asked or) ∙ ne-eqb (getD s (2 + at) 0) 16384 o
     no-constant a o root = no-empty-root i (children s p) (below-place p (nodes-in s) (shaped-rooted (h .shaped)))
-
-    -- One hop, by the table of sizes.
-    module _ (t : List ℕ) (sized : Sized 0 (drop 2 s) t) {n : ℕ} (read : n ≡ getD t at 0) where
-      long : at < length (drop 2 s)
-      long = omega (arith, passed-inside, length-drop 2 s, h .whole)
-
-      hop : n ≡ span 1 (drop at (drop 2 s))
-      hop = read ∙ sized at (omega arith) long
-
-      pub passed-room : at + n ≤ sheet-room
-      passed-room = omega (arith, hop, span-one at (drop 2 s) long .1, length-drop 2 s, h .whole)
-
-      pub passed-more : (getD s (2 + at) 0 ≡ 12288 → ⊥) → (getD s (2 + at) 0 ≡ 16384 → ⊥) → Passed s p (i + 1) (at + n)
-      passed-more a o =
-          let l = drop (2 + p) s in
-          let same : drop at (drop 2 s) ≡ drop (child-at i l) l = drop-drop at 2 s ∙ ap (λ k. drop k s) stands-at ∙ sym (drop-drop (child-at i l) (2 + p) s) in
-          record {
-            here = omega (arith, w .here, hop ∙ ap (span 1) same, child-next i l);
-            none-yet = λ j m d. ⊎-elim
-                (λ e. w .none-yet j (ltb-true j i e) d)
-                (λ e. let last : i ≡ j = omega (arith, ltb-false j i e) in
-                subst (λ k. constant-at d (after k (children s p)) ≡ false) last (no-constant a o d))
-                (either (ltb j i));
-          }

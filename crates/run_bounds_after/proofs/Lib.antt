@@ -1,5 +1,4 @@
 pub mod ChildPlaces
-pub mod FamilyZones
 pub mod SheetZones
 pub mod RenewedEntries
 pub mod ConstantChildren

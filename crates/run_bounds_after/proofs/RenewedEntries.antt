@@ -11,7 +11,8 @@ use lib.ListN.{length, getD, take, drop, set, replicate, length-drop, length-set
 use lib.Seq.{getD-set-same, getD-set-other, getD-take, getD-drop, getD-append-add, length-take-le}
 use Rattle.model.specs.Limits.{sheet-room}
 use Rattle.theory.specs.Logic.{either}
-use Rattle.run_bounds_after.specs.Renewed.{Renewed}
+use Rattle.run_bounds_after.specs.Renewed.{Planned, Apart, Renewed}
+use Rattle.run_bounds_after.specs.declared.Plan.{Plan}
 
 pub record Ones (from to : ℕ) (t u : List ℕ) : Type 0 where
   pub ones : (q : ℕ) → from ≤ q → q < to → getD u q 0 ≡ 1
@@ -69,34 +70,38 @@ keeps-one t a q l e =
     (either (eqb q a))
 
 -- The whole renewal.
-pub renewed : (t o : List ℕ) (from old new place inner outer : ℕ) → length t ≡ sheet-room → length o ≡ sheet-room → from ≤ new → new ≤ old → old ≤ sheet-room → place < sheet-room → inner ≤ place → outer ≤ inner → Ones from new (gone t new (old - new)) o → Renewed from old new place inner outer t (set (set (set o place 1) inner 1) outer 1)
-renewed t o from old new place inner outer lt lo a b c lp li lu ones =
-    record {
-      at-place = keeps-one o2 outer place l2 (keeps-one o1 inner place l1 (getD-set-same o place 1 0 l0));
-      at-inner = keeps-one o2 outer inner l2 (getD-set-same o1 inner 1 0 l1);
-      at-outer = getD-set-same o2 outer 1 0 l2;
-      zone = λ q x y. keeps-one o2 outer q l2 (keeps-one o1 inner q l1 (keeps-one o place q l0 (ones .ones q x y)));
-      before = λ q x p i u. others q p i u ∙ ones .before q x ∙ gone-before t new (old - new) fits q (omega arith);
-      after = λ q x y p i u. others q p i u ∙ ones .after q x ∙ gone-after t new (old - new) fits q x (omega arith);
-    }
-  where
-    o1 : List ℕ
-    o1 = set o place 1
+module _ (p : Plan) (ok : Planned p) (t o : List ℕ) (lt : length t ≡ sheet-room) (lo : length o ≡ sheet-room) where
+  abbrev o1 : List ℕ
+  o1 = set o (p .place) 1
 
-    o2 : List ℕ
-    o2 = set o1 inner 1
+  abbrev o2 : List ℕ
+  o2 = set o1 (p .inner) 1
 
-    l0 : place < length o
-    l0 = omega arith
+  pub l0 : p .place < length o
+  l0 = omega (arith, ok)
 
-    l1 : inner < length o1
-    l1 = omega (arith, length-set o place 1)
+  pub l1 : p .inner < length (set o (p .place) 1)
+  l1 = omega (arith, ok, length-set o (p .place) 1)
 
-    l2 : outer < length o2
-    l2 = omega (arith, length-set o place 1, length-set o1 inner 1)
+  pub l2 : p .outer < length (set (set o (p .place) 1) (p .inner) 1)
+  l2 = omega (arith, ok, length-set o (p .place) 1, length-set (set o (p .place) 1) (p .inner) 1)
 
-    fits : new + (old - new) ≤ length t
-    fits = omega arith
+  others : (q : ℕ) → Apart p q → getD (set o2 (p .outer) 1) q 0 ≡ getD o q 0
+  others q a =
+      getD-set-other o2 (p .outer) q 1 0 (a .outer) ∙ getD-set-other o1 (p .inner) q 1 0 (a .inner) ∙ getD-set-other o (p .place) q 1 0 (a .place)
 
-    others : (q : ℕ) → (q ≡ place → ⊥) → (q ≡ inner → ⊥) → (q ≡ outer → ⊥) → getD (set o2 outer 1) q 0 ≡ getD o q 0
-    others q p i u = getD-set-other o2 outer q 1 0 u ∙ getD-set-other o1 inner q 1 0 i ∙ getD-set-other o place q 1 0 p
+  pub renewed : Ones (p .zone .from) (p .zone .new) (gone t (p .zone .new) (p .zone .old - p .zone .new)) o → Renewed p t (set (set (set o (p .place) 1) (p .inner) 1) (p .outer) 1)
+  renewed ones =
+      let new = p .zone .new in
+      let back = p .zone .old - new in
+      let fits : new + back ≤ length t = omega (arith, ok) in
+      record {
+        moved = record {
+          at-place = keeps-one o2 (p .outer) (p .place) l2 (keeps-one o1 (p .inner) (p .place) l1 (getD-set-same o (p .place) 1 0 l0));
+          at-inner = keeps-one o2 (p .outer) (p .inner) l2 (getD-set-same o1 (p .inner) 1 0 l1);
+          at-outer = getD-set-same o2 (p .outer) 1 0 l2;
+          before = λ q l a. others q a ∙ ones .before q l ∙ gone-before t new back fits q (omega (arith, ok));
+          after = λ q l m a. others q a ∙ ones .after q l ∙ gone-after t new back fits q l (omega arith);
+        };
+        zone = λ q l m. keeps-one o2 (p .outer) q l2 (keeps-one o1 (p .inner) q l1 (keeps-one o (p .place) q l0 (ones .ones q l m)));
+      }

@@ -1,85 +1,173 @@
--- The zones of a step on a sheet.
-use mathlib.Core.Bool.{true}
+-- The zone of a step on a sheet, family by family.
 use mathlib.Core.List.{List}
 use mathlib.Core.Option.{some}
-use mathlib.Core.Path.{_≡_}
-use Prim.Native.Nat.{ℕ, _+_, _≤_, _<_}
+use mathlib.Core.Path.{_≡_, refl, sym, ap, subst, _∙_}
+use Prim.Native.Nat.{ℕ, suc, _+_, _-_, _≤_, _<_}
 use native.Mathlib.Omega.{arith}
 use lib.ListN.{length, getD, drop, length-drop}
-use Rattle.model.specs.Base.{is-some}
+use Rattle.model.specs.Base.{pick, is-some, maybe}
 use Rattle.model.specs.Limits.{sheet-room, last-rule}
-use Rattle.model.specs.Forest.{size, kids}
+use Rattle.model.specs.Literal.{Literal}
+use Rattle.model.specs.Forest.{and, Forest, node, lit, size, after, kids, _⊕_, conjunction-at, literal-at}
 use Rattle.model.specs.Code.{Node, decode, trees, weight}
-use Rattle.model.specs.Rules.{step}
+use Rattle.model.specs.Rules.{Family, absorbs, omits, unwraps, spreads, lifts, change, lift, step}
 use Rattle.model.specs.Sheet.{used-in, nodes-in}
+use Rattle.theory.specs.Logic.{is-some-of, then-some}
+use Rattle.theory.specs.Forests.{conjunction-here, literal-here, size-after}
+use Rattle.theory.specs.Codes.{size-length, decode-encode}
 use Rattle.theory.specs.Shape.{shaped-trees}
-use Rattle.theory.specs.Steps.{done, more, steps-weight}
-use Rattle.theory.specs.Bounds.{step-within}
 use Rattle.theory.specs.Sheets.{Formed}
-use Rattle.locality.specs.Zones.{tree-end, child-place}
-use Rattle.sizes.specs.Tables.{Sized}
-use Rattle.run_bounds_after.specs.Zoned.{after-step, Zoned}
+use Rattle.theory.specs.Steps.{done, more, steps-weight}
+use Rattle.theory.specs.Bounds.{step-within, step-child}
+use Rattle.theory.specs.Turns.{family-at}
+use Rattle.locality.specs.Zones.{between, zone, tree-length, tree-end, child-place}
+use Rattle.locality.specs.Places.{read-here, length-here, child-here}
+use Rattle.locality.specs.Turned.{Turned, turned, old-here}
+use Rattle.locality.specs.Locality.{step-extent, step-after}
+use Rattle.locality.specs.Families.{family-1, family-4, family-7, family-9, family-11}
+use Rattle.sizes.specs.SizeTables.{Sizes-from}
+use Rattle.search.specs.declared.Redex.{Redex}
+use Rattle.search.specs.Redexes.{Applies}
+use Rattle.run_bounds_after.specs.declared.Zone.{Zone}
+use Rattle.run_bounds_after.specs.Zoned.{after-step, own-zone, Zoned}
 use Rattle.run_bounds_after.proofs.ChildPlaces.{size-here}
-use Rattle.run_bounds_after.proofs.FamilyZones as Z
 
-module _ (s : List ℕ) (h : Formed s) (r p i j : ℕ) (a : is-some (step r p i j (nodes-in s)) ≡ true) where
-  ns : List Node
+lit-size : (l : Literal) (f : Forest) → 1 ≤ size (lit l f)
+unfolding size
+lit-size l f = omega arith
+
+module _ (s : List ℕ) (h : Formed s) (x : Redex) (a : Applies x s) where
+  abbrev ns : List Node
   ns = nodes-in s
 
-  facts : Formed s
-  facts = h
+  abbrev ms : List Node
+  ms = after-step x (nodes-in s)
 
-  one : trees (nodes-in s) ≡ some 1
-  one = shaped-trees (facts .shaped)
+  pub one : trees (nodes-in s) ≡ some 1
+  one = shaped-trees (h .shaped)
 
   pub few : length (nodes-in s) ≤ sheet-room
-  few = omega (arith, facts .count, facts .used)
+  few = omega (arith, h .count, h .used)
 
-  pub did : step r p i j (nodes-in s) ≡ some (after-step r p i j (nodes-in s))
-  did = Z.did r p i j (nodes-in s) one few a
+  pub did : step (x .rule) (x .place) (x .i) (x .j) (nodes-in s) ≡ some (after-step x (nodes-in s))
+  unfolding after-step maybe
+  did = let w = is-some-of (step (x .rule) (x .place) (x .i) (x .j) ns) a in w .1 ∙ ap some (sym (ap (maybe ns (λ x. x)) (w .1)))
 
   -- The rule is one of the fourteen, the place one of the nodes, and the child is there.
-  pub rules : (1 ≤ r) × (r ≤ last-rule)
-  rules = let w = step-within r p i j (nodes-in s) did .1 in (w .rule-low, w .rule-high)
+  pub rules : (1 ≤ x .rule) × (x .rule ≤ last-rule)
+  rules = let w = step-within (x .rule) (x .place) (x .i) (x .j) ns did .1 in (w .rule-low, w .rule-high)
 
-  pub within : p < used-in s
-  within = omega (arith, step-within r p i j (nodes-in s) did .0, facts .count)
+  pub within : x .place < used-in s
+  within = omega (arith, step-within (x .rule) (x .place) (x .i) (x .j) ns did .0, h .count)
 
-  pub child : i < size (kids (decode (drop p (nodes-in s))))
-  child = Z.child-there r p i j (nodes-in s) one few a .1
-
-  pub short : length (after-step r p i j (nodes-in s)) ≤ sheet-room
-  unfolding weight
-  short =
-      let light = steps-weight (facts .shaped) (more r p i j did done) in
-      omega (arith, facts .weight)
+  pub child : x .i < size (kids (decode (drop (x .place) (nodes-in s))))
+  child = step-child (x .rule) (x .place) (x .i) (x .j) ns did
 
   -- The end of the tree at the place, by the table.
-  pub end-by : (t : List ℕ) → Sized 0 (drop 2 s) t → p + getD t p 0 ≡ tree-end p (nodes-in s)
-  end-by t sized =
-      let there : p < length (drop 2 s) = omega (arith, within, facts .used, facts .whole, length-drop 2 s) in
-      omega (arith, sized p (omega arith) there, size-here s h p within)
+  pub end-by : (t : List ℕ) → Sizes-from 0 (drop 2 s) t → x .place + getD t (x .place) 0 ≡ tree-end (x .place) (nodes-in s)
+  end-by t sizes =
+      let there : x .place < length (drop 2 s) = omega (arith, within, h .used, h .whole, length-drop 2 s) in
+      omega (arith, sizes (x .place) (omega arith) there, size-here s h (x .place) within)
 
-  pub zone-1 : r ≤ 3 → Zoned r p i j (nodes-in s) p (tree-end p (nodes-in s)) (p + 2)
-  zone-1 = Z.zone-1 r p i j (nodes-in s) one few a
+  -- A zone that is the step's own, and not longer after it.
+  zoned : {z : Zone} → own-zone x (nodes-in s) ≡ between (z .from) (z .old) (z .new) → z .new ≤ z .old → (9 ≤ x .rule → x .rule ≤ 12 → z .old ≡ z .new) → Zoned x (nodes-in s) z
+  unfolding zone
+  zoned {z} e le level =
+      let w = step-extent (x .rule) (x .place) (x .i) (x .j) ns one did in
+      let own = own-zone x ns in
+      let f : own .from ≡ z .from = ap (λ k. k .from) e in
+      let o : own .old ≡ z .old = ap (λ k. k .old) e in
+      let n : own .new ≡ z .new = ap (λ k. k .new) e in
+      record {
+        place-from = omega (arith, w .order .place-from);
+        from-new = omega (arith, w .order .from-new);
+        new-old = le;
+        old-within = omega (arith, w .old-within, few);
+        before = omega (arith, f);
+        after = λ q l m. let sum : own .old + (q - own .new) ≡ q + (z .old - z .new) = omega arith in
+            (step-after (x .rule) (x .place) (x .i) (x .j) ns one did q (omega arith) ∙ ap (λ k. drop k ns) sum, omega (arith, w .moved-by));
+        level = level;
+        spread = λ low top. let its = sym e ∙ ap (λ k. zone k (x .place) (x .i) (x .j) ns ms) (family-9 (x .rule) low top) in (ap (λ k. k .from) its, ap (λ k. k .new) its);
+      }
 
-  pub zone-4 : 4 ≤ r → r ≤ 6 → let at = child-place p i (nodes-in s) in Zoned r p i j (nodes-in s) at (at + 1) at
-  zone-4 = Z.zone-4 r p i j (nodes-in s) one few a
+  it : Turned (family-at (x .rule)) (x .place) (x .i) (x .j) (nodes-in s) (after-step x (nodes-in s))
+  it = turned (x .rule) (x .place) (x .i) (x .j) ns one did
 
-  pub zone-7 : 7 ≤ r → r ≤ 8 → Zoned r p i j (nodes-in s) p (p + 1) p
-  zone-7 = Z.zone-7 r p i j (nodes-in s) one few a
+  -- The tree at the place has a node below its head.
+  pub tall : 2 ≤ tree-length (x .place) (nodes-in s)
+  unfolding kids
+  tall =
+      let w = it in
+      let p = x .place in
+      let there : x .i < size (w .children) = subst (λ f. x .i < size (kids f)) (read-here p ns (w .conn) (w .children) (w .rest) (old-here w)) child in
+      omega (arith, length-here p ns (w .conn) (w .children) (w .rest) (old-here w), size-length (w .children))
 
-  pub zone-9 : 9 ≤ r → r ≤ 10 → let end = tree-end p (nodes-in s) in Zoned r p i j (nodes-in s) p end end
-  zone-9 = Z.zone-9 r p i j (nodes-in s) one few a
+  -- The own zone of a step of a family; of a rule.
+  of-family : (k : Family) → family-at (x .rule) ≡ k → own-zone x (nodes-in s) ≡ zone k (x .place) (x .i) (x .j) (nodes-in s) (after-step x (nodes-in s))
+  of-family k = ap (λ k. zone k (x .place) (x .i) (x .j) ns ms)
 
-  pub zone-11 : 11 ≤ r → r ≤ 12 → let at = child-place p i (nodes-in s) in let after = child-place at j (nodes-in s) + 1 in Zoned r p i j (nodes-in s) at after after
-  zone-11 = Z.zone-11 r p i j (nodes-in s) one few a
+  of-rule : (r : ℕ) → x .rule ≡ r → own-zone x (nodes-in s) ≡ zone (family-at r) (x .place) (x .i) (x .j) (nodes-in s) (after-step x (nodes-in s))
+  of-rule r = ap (λ r. zone (family-at r) (x .place) (x .i) (x .j) ns ms)
 
-  pub zone-13 : r ≡ 13 → let at = child-place p i (nodes-in s) in Zoned r p i j (nodes-in s) at (at + 1) at
-  zone-13 = Z.zone-13 r p i j (nodes-in s) one few a
+  pub zone-1 : {z : Zone} → x .rule ≤ 3 → z .from ≡ x .place → z .old ≡ tree-end (x .place) (nodes-in s) → z .new ≡ x .place + 2 → Zoned x (nodes-in s) z
+  unfolding zone
+  zone-1 b f o n = zoned (rw (f, o, n) (of-family absorbs (family-1 (x .rule) b))) (omega (arith, tall)) (λ x y. absurd (omega arith))
 
-  pub zone-14 : r ≡ 14 → Zoned r p i j (nodes-in s) p sheet-room sheet-room
-  zone-14 e = Z.zone-14 r p i j (nodes-in s) one few a e short
+  -- One node goes.
+  module _ {z : Zone} {at : ℕ} (gone : (z .from ≡ at) × (z .old ≡ at + 1) × (z .new ≡ at)) where
+    pub zone-4 : 4 ≤ x .rule → x .rule ≤ 6 → at ≡ child-place (x .place) (x .i) (nodes-in s) → Zoned x (nodes-in s) z
+    unfolding zone
+    zone-4 a b e = zoned (rw (gone .0, gone .1, gone .2, e) (of-family omits (family-4 (x .rule) a b))) (omega arith) (λ x y. absurd (omega arith))
 
-  pub inner-there : 11 ≤ r → r ≤ 12 → j < size (kids (decode (drop (child-place p i (nodes-in s)) (nodes-in s))))
-  inner-there = Z.inner-there r p i j (nodes-in s) one few a
+    pub zone-7 : 7 ≤ x .rule → x .rule ≤ 8 → at ≡ x .place → Zoned x (nodes-in s) z
+    unfolding zone
+    zone-7 a b e = zoned (rw (gone .0, gone .1, gone .2, e) (of-family unwraps (family-7 (x .rule) a b))) (omega arith) (λ x y. absurd (omega arith))
+
+    pub zone-13 : x .rule ≡ 13 → at ≡ child-place (x .place) (x .i) (nodes-in s) → Zoned x (nodes-in s) z
+    unfolding zone family-at pick
+    zone-13 r e = zoned (rw (gone .0, gone .1, gone .2, e) (of-rule 13 r)) (omega arith) (λ x y. absurd (omega arith))
+
+  -- No node moves.
+  module _ {z : Zone} {to : ℕ} (still : (z .from ≡ x .place) × (z .old ≡ to) × (z .new ≡ to)) where
+    pub zone-9 : 9 ≤ x .rule → x .rule ≤ 10 → to ≡ tree-end (x .place) (nodes-in s) → Zoned x (nodes-in s) z
+    unfolding zone
+    zone-9 a b e = zoned (rw (still .0, still .1, still .2, e) (of-family spreads (family-9 (x .rule) a b))) (omega arith) (λ x y. omega arith)
+
+    -- Rule 14 may make the nodes longer: from the place on nothing is said.
+    pub zone-14 : x .rule ≡ 14 → to ≡ sheet-room → Zoned x (nodes-in s) z
+    unfolding zone family-at pick weight
+    zone-14 r e =
+        let light = steps-weight (h .shaped) (more (x .rule) (x .place) (x .i) (x .j) did done) in
+        let short : length ms ≤ sheet-room = omega (arith, h .weight) in
+        record {
+          place-from = omega arith;
+          from-new = omega (arith, within, h .used);
+          new-old = omega arith;
+          old-within = omega arith;
+          before = omega (arith, ap (λ k. k .from) (of-rule 14 r));
+          after = λ q l m. absurd (omega arith);
+          level = λ x y. omega arith;
+          spread = λ low top. absurd (omega arith);
+        }
+
+  pub zone-11 : {z : Zone} → 11 ≤ x .rule → x .rule ≤ 12 → {at inner : ℕ} → z .from ≡ at → z .old ≡ inner + 1 → z .new ≡ inner + 1 → at ≡ child-place (x .place) (x .i) (nodes-in s) → inner ≡ child-place at (x .j) (nodes-in s) → Zoned x (nodes-in s) z
+  unfolding zone
+  zone-11 a b f o n e e' = zoned (rw (f, o, n, e', e) (of-family lifts (family-11 (x .rule) a b))) (omega arith) (λ x y. omega arith)
+
+  -- The inner child of rules 11 and 12 is there.
+  pub inner-there : 11 ≤ x .rule → x .rule ≤ 12 → x .j < size (kids (decode (drop (child-place (x .place) (x .i) (nodes-in s)) (nodes-in s))))
+  unfolding change lift kids _⊕_
+  inner-there a b =
+      let w = it in
+      let p = x .place in
+      let i = x .i in
+      let j = x .j in
+      let made : change lifts (w .conn) i j (w .children) ≡ some (w .new) = ap (λ k. change k (w .conn) i j (w .children)) (sym (family-11 (x .rule) a b)) ∙ w .made in
+      let c = then-some (conjunction-at (after i (w .children))) _ made in
+      let l = then-some (literal-at (after j (c .0))) _ (c .2) in
+      let few : j < size (c .0) = omega (arith, size-after j (c .0), ap size (literal-here j (c .0) (l .1)), lit-size (l .0) (after (suc j) (c .0))) in
+      let there : decode (drop (child-place p i ns) ns) ≡ after i (w .children) ⊕ w .rest =
+      ap decode (child-here p ns (w .conn) (w .children) (w .rest) (old-here w) i .left) ∙ decode-encode (after i (w .children) ⊕ w .rest) in
+      let group : after i (w .children) ⊕ w .rest ≡ node and (c .0) (after (suc i) (w .children) ⊕ w .rest) =
+      ap (λ f. f ⊕ w .rest) (conjunction-here i (w .children) (c .1)) in
+      subst (λ f. j < size (kids f)) (sym (there ∙ group)) few

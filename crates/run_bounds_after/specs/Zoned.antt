@@ -8,20 +8,30 @@ use Rattle.model.specs.Limits.{sheet-room}
 use Rattle.model.specs.Code.{Node}
 use Rattle.model.specs.Rules.{step}
 use Rattle.theory.specs.Turns.{family-at}
-use Rattle.locality.specs.Zones.{zone, tree-end}
+use Rattle.locality.specs.Zones as L
+use Rattle.search.specs.declared.Redex.{Redex}
+use Rattle.run_bounds_after.specs.declared.Zone.{Zone}
 
 -- The nodes after a step, where it applies.
-unfoldable pub after-step : ℕ → ℕ → ℕ → ℕ → List Node → List Node
-after-step r p i j ns = maybe ns (λ ms. ms) (step r p i j ns)
+unfoldable pub after-step : Redex → List Node → List Node
+after-step x ns = maybe ns (λ ms. ms) (step (x .rule) (x .place) (x .i) (x .j) ns)
+
+-- The step's own zone.
+abbrev pub own-zone : Redex → List Node → L.Zone
+own-zone x ns = L.zone (family-at (x .rule)) (x .place) (x .i) (x .j) ns (after-step x ns)
 
 -- The zone lies from the place on and within the step's own; from `new` on the nodes are the old ones from `old` on. Of rules 9
 -- and 10 it is the tree at the place.
-pub record Zoned (r p i j : ℕ) (ns : List Node) (from old new : ℕ) : Type 0 where
-  pub place-from : p ≤ from
-  pub from-new : from ≤ new
-  pub new-old : new ≤ old
-  pub old-within : old ≤ sheet-room
-  pub before : from ≤ zone (family-at r) p i j ns (after-step r p i j ns) .from
-  pub after : (q : ℕ) → new ≤ q → q < length (after-step r p i j ns) → (drop q (after-step r p i j ns) ≡ drop (q + (old - new)) ns) × (q + (old - new) < length ns)
-  pub level : 9 ≤ r → r ≤ 12 → old ≡ new
-  pub spread : 9 ≤ r → r ≤ 10 → (from ≡ p) × (new ≡ tree-end p ns)
+pub record Zoned (x : Redex) (ns : List Node) (z : Zone) : Type 0 where
+  pub place-from : x .place ≤ z .from
+  pub from-new : z .from ≤ z .new
+  pub new-old : z .new ≤ z .old
+  pub old-within : z .old ≤ sheet-room
+  pub before : z .from ≤ own-zone x ns .from
+  pub after : (q : ℕ) → z .new ≤ q → q < length (after-step x ns) →
+      (drop q (after-step x ns) ≡ drop (q + (z .old - z .new)) ns)
+      × (q + (z .old - z .new) < length ns)
+  pub level : 9 ≤ x .rule → x .rule ≤ 12 → z .old ≡ z .new
+  pub spread : 9 ≤ x .rule → x .rule ≤ 10 →
+      (z .from ≡ x .place)
+      × (z .new ≡ L.tree-end (x .place) ns)

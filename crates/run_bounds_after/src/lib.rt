@@ -2,64 +2,58 @@
 // entries moved and those that may be too high back at 1; and, after a step of rule 9 or 10, those of the nodes that have got a constant
 // among their children back at 1.
 ghost use mathlib.Core.Path.{_≡_};
-ghost use mathlib.Core.Bool.{true, false};
-ghost use Prim.Native.Nat.{ℕ, _+_, _-_, _≤_, _<_};
+ghost use mathlib.Core.Bool.{false};
+ghost use Prim.Native.Nat.{ℕ, _+_, _≤_, _<_};
 ghost use lib.ListN.{length, getD, drop};
-ghost use Rattle.model.specs.Base.{«is-some»};
 ghost use Rattle.model.specs.Limits.{«sheet-room»};
 ghost use Rattle.model.specs.Forest.{size, kids};
 ghost use Rattle.model.specs.Code.{decode};
-ghost use Rattle.model.specs.Rules.{step};
 ghost use Rattle.model.specs.Sheet.{«used-in», «nodes-in»};
 ghost use Rattle.theory.specs.Sheets.{Formed};
-ghost use Rattle.locality.specs.Zones.{«child-place», «tree-end»};
-ghost use Rattle.sizes.specs.Tables.{Sized};
+ghost use Rattle.locality.specs.Zones.{«child-place»};
+ghost use Rattle.sizes.specs.SizeTables.{Measured};
+ghost use Rattle.search.specs.Redexes.{Applies};
 ghost use Rattle.run_bounds_after.specs.Zoned.{Zoned};
-ghost use Rattle.run_bounds_after.specs.Renewed.{«close-up», Renewed};
-ghost use Rattle.run_bounds_after.specs.SetBack.{Bare, «Set-back»};
+ghost use Rattle.run_bounds_after.specs.Renewed.{Planned, «close-up», Renewed};
+ghost use Rattle.run_bounds_after.specs.SetBack.{«Constant-free», «Set-back»};
 use limits::SHEET_ROOM;
+use search::Redex;
 
-// The places that a step may change, before it (up to `old`) and after it (up to `new`).
+// The places that a step may change: from one place on, up to `old` before the step and up to `new` after it.
 pub struct Zone {
     pub from: usize,
     pub old: usize,
     pub new: usize,
 }
 
+// What a step will change: its zone, its own place, and the two nearest places that hold it.
+pub struct Plan {
+    pub zone: Zone,
+    pub place: usize,
+    pub inner: usize,
+    pub outer: usize,
+}
+
 // The place of child i of the node at a place.
 fn child_place(sheet: &[u16], place: usize, i: usize) -> usize
     requires { ⌜ Formed (now sheet) ⌝ }
     requires { ⌜ i < size (kids (decode (drop place («nodes-in» (now sheet))))) ⌝ }
-    ensures { λ r. ⌜ (r ≡ «child-place» place i («nodes-in» (now (sheet .entry)))) × (r < «sheet-room») ⌝ }
+    ensures { λ r. ⌜ (r ≡ «child-place» place i («nodes-in» (now (sheet .entry))))
+        × (r < «sheet-room») ⌝ }
 {
     let from = 2 + place;
     place + spans::child_at(&sheet[from..], i)
 }
 
-// The zone of rules 9 to 13, where the tree at the place ends.
-fn late_zone(sheet: &[u16], rule: usize, place: usize, i: usize, j: usize, end: usize) -> Zone
-    requires { ⌜ (9 ≤ rule) × (rule ≤ 13) ⌝ }
+// The zone of rules 11 and 12: from child i on, up to the literal that is lifted.
+fn lifted_zone(sheet: &[u16], redex: Redex) -> Zone
+    requires { ⌜ (11 ≤ redex .rule) × (redex .rule ≤ 12) ⌝ }
     requires { ⌜ Formed (now sheet) ⌝ }
-    requires { ⌜ «is-some» (step rule place i j («nodes-in» (now sheet))) ≡ true ⌝ }
-    requires { ⌜ end ≡ «tree-end» place («nodes-in» (now sheet)) ⌝ }
-    ensures { λ r. ⌜ Zoned rule place i j («nodes-in» (now (sheet .entry))) (r .from) (r .old) (r .new) ⌝ }
+    requires { ⌜ Applies redex (now sheet) ⌝ }
+    ensures { λ r. ⌜ Zoned redex («nodes-in» (now (sheet .entry))) r ⌝ }
 {
-    if rule <= 10 {
-        return Zone {
-            from: place,
-            old: end,
-            new: end,
-        };
-    }
-    let at = child_place(sheet, place, i);
-    if rule == 13 {
-        return Zone {
-            from: at,
-            old: at + 1,
-            new: at,
-        };
-    }
-    let after = child_place(sheet, at, j) + 1;
+    let at = child_place(sheet, redex.place, redex.i);
+    let after = child_place(sheet, at, redex.j) + 1;
     Zone {
         from: at,
         old: after,
@@ -67,39 +61,11 @@ fn late_zone(sheet: &[u16], rule: usize, place: usize, i: usize, j: usize, end: 
     }
 }
 
-// The zone of a step that applies. Rule 14 makes a tree anew: from the place on all is left open.
-pub fn zone_of(sheet: &[u16], sizes: &[u16], rule: usize, place: usize, i: usize, j: usize) -> Zone
-    requires { ⌜ Formed (now sheet) ⌝ }
-    requires { ⌜ «is-some» (step rule place i j («nodes-in» (now sheet))) ≡ true ⌝ }
-    requires { ⌜ (length (now sizes) ≡ «sheet-room») × Sized 0 (drop 2 (now sheet)) (now sizes) ⌝ }
-    ensures { λ r. ⌜ Zoned rule place i j («nodes-in» (now (sheet .entry))) (r .from) (r .old) (r .new) ⌝ }
+// The zone of a step that takes one node away.
+fn node_gone(at: usize) -> Zone
+    requires { ⌜ at < «sheet-room» ⌝ }
+    ensures { λ r. ⌜ (r .from ≡ at) × (r .old ≡ at + 1) × (r .new ≡ at) ⌝ }
 {
-    if rule == 14 {
-        return Zone {
-            from: place,
-            old: SHEET_ROOM,
-            new: SHEET_ROOM,
-        };
-    }
-    let end = place + numbers::wide16(sizes[place]);
-    if rule <= 3 {
-        return Zone {
-            from: place,
-            old: end,
-            new: place + 2,
-        };
-    }
-    if 9 <= rule {
-        return late_zone(sheet, rule, place, i, j, end);
-    }
-    if 7 <= rule {
-        return Zone {
-            from: place,
-            old: place + 1,
-            new: place,
-        };
-    }
-    let at = child_place(sheet, place, i);
     Zone {
         from: at,
         old: at + 1,
@@ -107,11 +73,49 @@ pub fn zone_of(sheet: &[u16], sizes: &[u16], rule: usize, place: usize, i: usize
     }
 }
 
+// The zone of a step that moves no node.
+fn unmoved(from: usize, to: usize) -> Zone
+    ensures { λ r. ⌜ (r .from ≡ from) × (r .old ≡ to) × (r .new ≡ to) ⌝ }
+{
+    Zone {
+        from: from,
+        old: to,
+        new: to,
+    }
+}
+
+// The zone of a step that applies. Rule 14 makes a tree anew: from the place on all is left open.
+pub fn zone_of(sheet: &[u16], sizes: &[u16], redex: Redex) -> Zone
+    requires { ⌜ Measured (now sheet) (now sizes) ⌝ }
+    requires { ⌜ Applies redex (now sheet) ⌝ }
+    ensures { λ r. ⌜ Zoned redex («nodes-in» (now (sheet .entry))) r ⌝ }
+{
+    let rule = redex.rule;
+    let place = redex.place;
+    let end = place + numbers::wide16(sizes[place]);
+    match rule {
+        1..=3 => Zone {
+            from: place,
+            old: end,
+            new: place + 2,
+        },
+        4..=6 => node_gone(child_place(sheet, place, redex.i)),
+        7..=8 => node_gone(place),
+        9..=10 => unmoved(place, end),
+        11..=12 => lifted_zone(sheet, redex),
+        13..=13 => node_gone(child_place(sheet, place, redex.i)),
+        _ => unmoved(place, SHEET_ROOM),
+    }
+}
+
 // The entries from one place up to another become 1.
 fn put_ones(low: &mut [u16], from: usize, to: usize)
-    requires { ⌜ (from ≤ to) × (to ≤ length (now low)) × (to ≤ «sheet-room») ⌝ }
+    requires { ⌜ (from ≤ to)
+        × (to ≤ length (now low))
+        × (to ≤ «sheet-room») ⌝ }
     ensures { λ r. ⌜ ((q : ℕ) → from ≤ q → q < to → getD (now (low .exit)) q 0 ≡ 1) ⌝ }
-    ensures { λ r. ⌜ ((q : ℕ) → q < from → getD (now (low .exit)) q 0 ≡ getD (now (low .entry)) q 0) × ((q : ℕ) → to ≤ q → getD (now (low .exit)) q 0 ≡ getD (now (low .entry)) q 0) ⌝ }
+    ensures { λ r. ⌜ ((q : ℕ) → q < from → getD (now (low .exit)) q 0 ≡ getD (now (low .entry)) q 0)
+        × ((q : ℕ) → to ≤ q → getD (now (low .exit)) q 0 ≡ getD (now (low .entry)) q 0) ⌝ }
 {
     let mut q = from;
     while q < to {
@@ -130,22 +134,18 @@ fn close_up(low: &mut [u16], new: usize, old: usize)
     }
 }
 
-// The table after a step at a place: what stood from `old` on stands from `new` on.
-pub fn renew(
-    low: &mut [u16],
-    from: usize,
-    old: usize,
-    new: usize,
-    place: usize,
-    inner: usize,
-    outer: usize,
-)
-    requires { ⌜ (length (now low) ≡ «sheet-room») × (from ≤ new) × (new ≤ old) × (old ≤ «sheet-room») ⌝ }
-    requires { ⌜ (place < «sheet-room») × (inner ≤ place) × (outer ≤ inner) ⌝ }
-    ensures { λ r. ⌜ Renewed from old new place inner outer (now (low .entry)) (now (low .exit)) ⌝ }
+// The table after a step: its entries move with their nodes, and those of the zone and of the three places are 1.
+pub fn renew(low: &mut [u16], plan: Plan)
+    requires { ⌜ length (now low) ≡ «sheet-room» ⌝ }
+    requires { ⌜ Planned plan ⌝ }
+    ensures { λ r. ⌜ Renewed plan (now (low .entry)) (now (low .exit)) ⌝ }
 {
-    close_up(low, new, old);
-    put_ones(low, from, new);
+    let zone = plan.zone;
+    let place = plan.place;
+    let inner = plan.inner;
+    let outer = plan.outer;
+    close_up(low, zone.new, zone.old);
+    put_ones(low, zone.from, zone.new);
     low[place] = 1;
     low[inner] = 1;
     low[outer] = 1;
@@ -153,9 +153,9 @@ pub fn renew(
 
 // The node at a place has a constant among its children: the number of an empty conjunction (kind 3) or disjunction (kind 4).
 fn has_constant(sheet: &[u16], sizes: &[u16], place: usize) -> bool
-    requires { ⌜ Formed (now sheet) × (place < «used-in» (now sheet)) ⌝ }
-    requires { ⌜ (length (now sizes) ≡ «sheet-room») × Sized 0 (drop 2 (now sheet)) (now sizes) ⌝ }
-    ensures { λ r. ⌜ (r ≡ false → Bare place («nodes-in» (now (sheet .entry)))) ⌝ }
+    requires { ⌜ Measured (now sheet) (now sizes) ⌝ }
+    requires { ⌜ place < «used-in» (now sheet) ⌝ }
+    ensures { λ r. ⌜ (r ≡ false → «Constant-free» place («nodes-in» (now (sheet .entry)))) ⌝ }
 {
     let k = spans::arity_of(numbers::wide16(sheet[2 + place]));
     let mut i = 0;
@@ -173,9 +173,9 @@ fn has_constant(sheet: &[u16], sizes: &[u16], place: usize) -> bool
 
 // The bounds of the places from one up to another that have a constant among their children go back to 1.
 pub fn set_back(sheet: &[u16], sizes: &[u16], low: &mut [u16], from: usize, to: usize)
-    requires { ⌜ Formed (now sheet) × (from ≤ to) × (to ≤ «used-in» (now sheet)) ⌝ }
-    requires { ⌜ (length (now sizes) ≡ «sheet-room») × Sized 0 (drop 2 (now sheet)) (now sizes) ⌝ }
+    requires { ⌜ Measured (now sheet) (now sizes) ⌝ }
     requires { ⌜ length (now low) ≡ «sheet-room» ⌝ }
+    requires { ⌜ (from ≤ to) × (to ≤ «used-in» (now sheet)) ⌝ }
     ensures { λ r. ⌜ «Set-back» from to («nodes-in» (now (sheet .entry))) (now (low .entry)) (now (low .exit)) ⌝ }
 {
     let mut place = from;

@@ -1,15 +1,11 @@
 // The core of a run: the strategy's steps on a sheet, as many as the budget allows or as there are.
 ghost use mathlib.Core.Path.{_≡_};
 ghost use mathlib.Core.Bool.{true, false};
-ghost use lib.ListN.{length, drop};
 ghost use Rattle.model.specs.Base.{maybe};
-ghost use Rattle.model.specs.Limits.{«sheet-room»};
-ghost use Rattle.model.specs.Sheet.{«used-in», «nodes-in»};
 ghost use Rattle.theory.specs.Reached.{Ends};
 ghost use Rattle.theory.specs.Sheets.{Formed};
-ghost use Rattle.sizes.specs.Tables.{Sized};
-ghost use Rattle.search.specs.Meaning.{nextOf};
-ghost use Rattle.bounds.specs.Tables.{Bounds, High};
+ghost use Rattle.search.specs.Redexes.{nextOf};
+ghost use Rattle.bounds.specs.BoundTables.{«Come-to»};
 use limits::SHEET_ROOM;
 use search::Next;
 
@@ -31,9 +27,7 @@ fn is_none(next: Next) -> bool
 
 // The strategy's steps on a sheet, by the sizes of its trees and the bounds of its places.
 fn run_by(sheet: &mut [u16], sizes: &mut [u16], low: &mut [u16], budget: u64) -> Ended
-    requires { ⌜ Formed (now sheet) ⌝ }
-    requires { ⌜ (length (now sizes) ≡ «sheet-room») × Sized 0 (drop 2 (now sheet)) (now sizes) ⌝ }
-    requires { ⌜ (length (now low) ≡ «sheet-room») × Bounds («nodes-in» (now sheet)) (now low) × High 1 0 («used-in» (now sheet)) (now low) ⌝ }
+    requires { ⌜ «Come-to» 1 0 (now sheet) (now sizes) (now low) ⌝ }
     ensures { λ r. ⌜ Ends (now (sheet .entry)) budget (r .settled) (r .count) (now (sheet .exit)) ⌝ }
 {
     let mut floor = 1;
@@ -41,13 +35,13 @@ fn run_by(sheet: &mut [u16], sizes: &mut [u16], low: &mut [u16], budget: u64) ->
     let mut count = 0;
     while count < budget {
         let next = bounds::next_redex(sheet, sizes, low, floor, cursor);
-        let Next::Redex(rule, place, i, j) = next else {
+        let Next::Redex(redex) = next else {
             return Ended {
                 settled: true,
                 count: count,
             };
         };
-        let ahead = advance::advance(sheet, sizes, low, rule, place, i, j);
+        let ahead = advance::advance(sheet, sizes, low, redex);
         floor = ahead.floor;
         cursor = ahead.cursor;
         count += 1;

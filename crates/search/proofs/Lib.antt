@@ -1,5 +1,4 @@
-pub mod Laws
-pub mod Inner
-pub mod Children
-pub mod Firsts
-pub mod Places
+pub mod SearchLevels
+pub mod InnerSearch
+pub mod FirstChildren
+pub mod LentStretch

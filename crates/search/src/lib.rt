@@ -2,17 +2,16 @@
 ghost use mathlib.Core.Path.{_≡_};
 ghost use Prim.Native.Nat.{ℕ, _≤_, _<_};
 ghost use lib.ListN.{length, getD, drop};
-ghost use Rattle.model.specs.Limits.{«sheet-room», «last-rule»};
+ghost use Rattle.model.specs.Limits.{«last-rule»};
 ghost use Rattle.model.specs.Code.{decode, children};
 ghost use Rattle.model.specs.Strategy.{«least-j», «least-i»};
 ghost use Rattle.model.specs.Sheet.{«used-in», «nodes-in»};
 ghost use Rattle.theory.specs.Spans.{«child-at»};
 ghost use Rattle.theory.specs.Stretches.{Stretch, «forest-in»};
 ghost use Rattle.theory.specs.Heads.{Headed};
-ghost use Rattle.theory.specs.Sheets.{Formed};
-ghost use Rattle.sizes.specs.Tables.{Sized};
+ghost use Rattle.sizes.specs.SizeTables.{«Sizes-of», Measured};
 ghost use Rattle.sizes.specs.FirstApplying.{«First-child»};
-ghost use Rattle.search.specs.Meaning.{spotOf};
+ghost use Rattle.search.specs.Redexes.{spotOf};
 
 // Where a rule applies to a node: the child and the inner child.
 pub enum Spot {
@@ -20,9 +19,17 @@ pub enum Spot {
     Nowhere,
 }
 
-// The strategy's step: rule, place, child and inner child.
+// A step: rule, place, child and inner child.
+pub struct Redex {
+    pub rule: usize,
+    pub place: usize,
+    pub i: usize,
+    pub j: usize,
+}
+
+// The strategy's step.
 pub enum Next {
-    Redex(usize, usize, usize, usize),
+    Redex(Redex),
     Nothing,
 }
 
@@ -32,7 +39,7 @@ fn least_lifted(part: &[u16], sizes: &[u16], rule: usize, i: usize, at: usize) -
     requires { ⌜ Stretch (now part) ⌝ }
     requires { ⌜ Headed rule (now part) ⌝ }
     requires { ⌜ (i < children (getD (now part) 0 0)) × (at ≡ «child-at» i (now part)) ⌝ }
-    requires { ⌜ (length (now sizes) ≡ length (now part)) × Sized 0 (now part) (now sizes) ⌝ }
+    requires { ⌜ «Sizes-of» (now part) (now sizes) ⌝ }
     ensures { λ r. ⌜ ((p : ℕ) → spotOf rule p r ≡ «least-j» rule p i («forest-in» (now (part .entry)))) ⌝ }
 {
     let head = numbers::wide16(part[at]);
@@ -73,7 +80,7 @@ fn least_factored(part: &[u16], sizes: &[u16], i: usize, at: usize) -> Spot
     requires { ⌜ Stretch (now part) ⌝ }
     requires { ⌜ Headed 14 (now part) ⌝ }
     requires { ⌜ (i < children (getD (now part) 0 0)) × (at ≡ «child-at» i (now part)) ⌝ }
-    requires { ⌜ (length (now sizes) ≡ length (now part)) × Sized 0 (now part) (now sizes) ⌝ }
+    requires { ⌜ «Sizes-of» (now part) (now sizes) ⌝ }
     ensures { λ r. ⌜ ((p : ℕ) → spotOf 14 p r ≡ «least-j» 14 p i («forest-in» (now (part .entry)))) ⌝ }
 {
     if at != 1 + i {
@@ -92,16 +99,14 @@ fn least_inner(part: &[u16], sizes: &[u16], rule: usize, i: usize, at: usize) ->
     requires { ⌜ Stretch (now part) ⌝ }
     requires { ⌜ Headed rule (now part) ⌝ }
     requires { ⌜ (i < children (getD (now part) 0 0)) × (at ≡ «child-at» i (now part)) ⌝ }
-    requires { ⌜ (length (now sizes) ≡ length (now part)) × Sized 0 (now part) (now sizes) ⌝ }
+    requires { ⌜ «Sizes-of» (now part) (now sizes) ⌝ }
     ensures { λ r. ⌜ ((p : ℕ) → spotOf rule p r ≡ «least-j» rule p i («forest-in» (now (part .entry)))) ⌝ }
 {
-    if rule == 14 {
-        return least_factored(part, sizes, i, at);
+    match rule {
+        11..=12 => least_lifted(part, sizes, rule, i, at),
+        13..=13 => least_merged(part, i, at),
+        _ => least_factored(part, sizes, i, at),
     }
-    if rule == 13 {
-        return least_merged(part, i, at);
-    }
-    least_lifted(part, sizes, rule, i, at)
 }
 
 // The least child and inner child for such a rule.
@@ -109,7 +114,7 @@ fn least_inside(part: &[u16], sizes: &[u16], rule: usize) -> Spot
     requires { ⌜ (11 ≤ rule) × (rule ≤ «last-rule») ⌝ }
     requires { ⌜ Stretch (now part) ⌝ }
     requires { ⌜ Headed rule (now part) ⌝ }
-    requires { ⌜ (length (now sizes) ≡ length (now part)) × Sized 0 (now part) (now sizes) ⌝ }
+    requires { ⌜ «Sizes-of» (now part) (now sizes) ⌝ }
     ensures { λ r. ⌜ ((p : ℕ) → spotOf rule p r ≡ «least-i» rule p («forest-in» (now (part .entry)))) ⌝ }
 {
     let k = nodes::children_of(numbers::wide16(part[0]));
@@ -131,7 +136,7 @@ fn first_constant(part: &[u16], sizes: &[u16], rule: usize) -> usize
     requires { ⌜ (1 ≤ rule) × (rule ≤ 6) ⌝ }
     requires { ⌜ Stretch (now part) ⌝ }
     requires { ⌜ Headed rule (now part) ⌝ }
-    requires { ⌜ (length (now sizes) ≡ length (now part)) × Sized 0 (now part) (now sizes) ⌝ }
+    requires { ⌜ «Sizes-of» (now part) (now sizes) ⌝ }
     ensures { λ r. ⌜ «First-child» rule r (now (part .entry)) ⌝ }
 {
     let constant = simplify::constant_for(rule);
@@ -148,21 +153,13 @@ fn first_constant(part: &[u16], sizes: &[u16], rule: usize) -> usize
     k
 }
 
-// The first child with which a rule of 1 to 10 applies, which looks at its children and into none of them: rules 7 and 8 apply to a
-// single child.
-fn first_beside(part: &[u16], sizes: &[u16], rule: usize) -> usize
-    requires { ⌜ (1 ≤ rule) × (rule ≤ 10) ⌝ }
+// The first child for rules 7 and 8, which apply to a single child.
+fn only_child(part: &[u16], rule: usize) -> usize
+    requires { ⌜ (7 ≤ rule) × (rule ≤ 8) ⌝ }
     requires { ⌜ Stretch (now part) ⌝ }
     requires { ⌜ Headed rule (now part) ⌝ }
-    requires { ⌜ (length (now sizes) ≡ length (now part)) × Sized 0 (now part) (now sizes) ⌝ }
     ensures { λ r. ⌜ «First-child» rule r (now (part .entry)) ⌝ }
 {
-    if rule <= 6 {
-        return first_constant(part, sizes, rule);
-    }
-    if 9 <= rule {
-        return recurring::first_recurring(part, sizes, rule);
-    }
     let k = nodes::children_of(numbers::wide16(part[0]));
     if k == 1 {
         return 0;
@@ -170,31 +167,50 @@ fn first_beside(part: &[u16], sizes: &[u16], rule: usize) -> usize
     k
 }
 
+// The first child with which a rule of 1 to 10 applies, which looks at its children and into none of them.
+fn first_beside(part: &[u16], sizes: &[u16], rule: usize) -> usize
+    requires { ⌜ (1 ≤ rule) × (rule ≤ 10) ⌝ }
+    requires { ⌜ Stretch (now part) ⌝ }
+    requires { ⌜ Headed rule (now part) ⌝ }
+    requires { ⌜ «Sizes-of» (now part) (now sizes) ⌝ }
+    ensures { λ r. ⌜ «First-child» rule r (now (part .entry)) ⌝ }
+{
+    match rule {
+        1..=6 => first_constant(part, sizes, rule),
+        7..=8 => only_child(part, rule),
+        _ => recurring::first_recurring(part, sizes, rule),
+    }
+}
+
 // The least child and inner child for a rule at the first tree of a stretch.
 pub fn least_child(part: &[u16], sizes: &[u16], rule: usize) -> Spot
-    requires { ⌜ (1 ≤ rule) × (rule ≤ «last-rule») × (1 ≤ length (now part)) ⌝ }
+    requires { ⌜ (1 ≤ rule)
+        × (rule ≤ «last-rule»)
+        × (1 ≤ length (now part)) ⌝ }
     requires { ⌜ Stretch (now part) ⌝ }
-    requires { ⌜ (length (now sizes) ≡ length (now part)) × Sized 0 (now part) (now sizes) ⌝ }
+    requires { ⌜ «Sizes-of» (now part) (now sizes) ⌝ }
     ensures { λ r. ⌜ ((p : ℕ) → spotOf rule p r ≡ «least-i» rule p («forest-in» (now (part .entry)))) ⌝ }
 {
     if !heads::is_headed(part, rule) {
         return Spot::Nowhere;
     }
-    if 11 <= rule {
-        return least_inside(part, sizes, rule);
+    match rule {
+        1..=10 => {
+            let i = first_beside(part, sizes, rule);
+            if i < nodes::children_of(numbers::wide16(part[0])) {
+                return Spot::At(i, 0);
+            }
+            Spot::Nowhere
+        }
+        _ => least_inside(part, sizes, rule),
     }
-    let i = first_beside(part, sizes, rule);
-    if i < nodes::children_of(numbers::wide16(part[0])) {
-        return Spot::At(i, 0);
-    }
-    Spot::Nowhere
 }
 
 // The same at a place of a sheet.
 pub fn least_at(sheet: &[u16], sizes: &[u16], rule: usize, place: usize) -> Spot
     requires { ⌜ (1 ≤ rule) × (rule ≤ «last-rule») ⌝ }
-    requires { ⌜ Formed (now sheet) × (place < «used-in» (now sheet)) ⌝ }
-    requires { ⌜ (length (now sizes) ≡ «sheet-room») × Sized 0 (drop 2 (now sheet)) (now sizes) ⌝ }
+    requires { ⌜ Measured (now sheet) (now sizes) ⌝ }
+    requires { ⌜ place < «used-in» (now sheet) ⌝ }
     ensures { λ r. ⌜ spotOf rule place r ≡ «least-i» rule place (decode (drop place («nodes-in» (now (sheet .entry))))) ⌝ }
 {
     let from = 2 + place;

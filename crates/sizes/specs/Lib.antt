@@ -1,2 +1,3 @@
-pub mod Tables
+pub mod SizeTables
+pub mod TreeHops
 pub mod FirstApplying

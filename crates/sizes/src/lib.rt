@@ -4,13 +4,16 @@ ghost use Prim.Native.Nat.{ℕ, _+_, _≤_, _<_};
 ghost use lib.ListN.{length, getD, drop};
 ghost use Rattle.model.specs.Limits.{«sheet-room»};
 ghost use Rattle.theory.specs.Spans.{span};
-ghost use Rattle.sizes.specs.Tables.{Sized};
+ghost use Rattle.sizes.specs.SizeTables.{«Sizes-from»};
 
 // The end of the tree at a place, by the sizes of those after it.
 fn end_at(s: &[u16], sizes: &[u16], place: usize) -> usize
-    requires { ⌜ (place < length (now s)) × (length (now s) ≤ «sheet-room») × (length (now sizes) ≡ length (now s)) ⌝ }
-    requires { ⌜ Sized (place + 1) (now s) (now sizes) ⌝ }
-    ensures { λ r. ⌜ (r ≡ place + span 1 (drop place (now (s .entry)))) × (r ≤ «sheet-room») ⌝ }
+    requires { ⌜ (place < length (now s))
+        × (length (now s) ≤ «sheet-room»)
+        × (length (now sizes) ≡ length (now s)) ⌝ }
+    requires { ⌜ «Sizes-from» (place + 1) (now s) (now sizes) ⌝ }
+    ensures { λ r. ⌜ (r ≡ place + span 1 (drop place (now (s .entry))))
+        × (r ≤ «sheet-room») ⌝ }
 {
     let mut pending = spans::arity_of(numbers::wide16(s[place]));
     let mut next = place + 1;
@@ -21,23 +24,14 @@ fn end_at(s: &[u16], sizes: &[u16], place: usize) -> usize
     next
 }
 
-// The sizes of all.
-pub fn fill(s: &[u16], sizes: &mut [u16])
-    requires { ⌜ (length (now s) ≤ «sheet-room») × (length (now sizes) ≡ length (now s)) ⌝ }
-    ensures { λ r. ⌜ Sized 0 (now (s .entry)) (now (sizes .exit)) ⌝ }
-{
-    let mut place = s.len();
-    while 0 < place {
-        place -= 1;
-        sizes[place] = (end_at(s, sizes, place) - place) as u16;
-    }
-}
-
 // The sizes from one place up to another, where those after them are right.
 pub fn refill(s: &[u16], sizes: &mut [u16], from: usize, to: usize)
-    requires { ⌜ (length (now s) ≤ «sheet-room») × (length (now sizes) ≡ length (now s)) × (from ≤ to) × (to ≤ length (now s)) ⌝ }
-    requires { ⌜ Sized to (now s) (now sizes) ⌝ }
-    ensures { λ r. ⌜ Sized from (now (s .entry)) (now (sizes .exit)) ⌝ }
+    requires { ⌜ (length (now s) ≤ «sheet-room»)
+        × (length (now sizes) ≡ length (now s))
+        × (from ≤ to)
+        × (to ≤ length (now s)) ⌝ }
+    requires { ⌜ «Sizes-from» to (now s) (now sizes) ⌝ }
+    ensures { λ r. ⌜ «Sizes-from» from (now (s .entry)) (now (sizes .exit)) ⌝ }
     ensures { λ r. ⌜ ((q : ℕ) → q < from → getD (now (sizes .exit)) q 0 ≡ getD (now (sizes .entry)) q 0) ⌝ }
 {
     let mut place = to;
@@ -47,10 +41,22 @@ pub fn refill(s: &[u16], sizes: &mut [u16], from: usize, to: usize)
     }
 }
 
+// The sizes of all.
+pub fn fill(s: &[u16], sizes: &mut [u16])
+    requires { ⌜ (length (now s) ≤ «sheet-room»)
+        × (length (now sizes) ≡ length (now s)) ⌝ }
+    ensures { λ r. ⌜ «Sizes-from» 0 (now (s .entry)) (now (sizes .exit)) ⌝ }
+{
+    refill(s, sizes, 0, s.len());
+}
+
 // The nearest place before another whose tree reaches past a place; that other place itself where there is none.
 pub fn holder(sizes: &[u16], below: usize, place: usize) -> usize
-    requires { ⌜ (below ≤ length (now sizes)) × (length (now sizes) ≤ «sheet-room») × (place ≤ «sheet-room») ⌝ }
-    ensures { λ r. ⌜ (r ≤ below) × (r < below → place < r + getD (now (sizes .entry)) r 0) ⌝ }
+    requires { ⌜ (below ≤ length (now sizes))
+        × (length (now sizes) ≤ «sheet-room»)
+        × (place ≤ «sheet-room») ⌝ }
+    ensures { λ r. ⌜ (r ≤ below)
+        × (r < below → place < r + getD (now (sizes .entry)) r 0) ⌝ }
     ensures { λ r. ⌜ ((q : ℕ) → q < below → place < q + getD (now (sizes .entry)) q 0 → (r < below) × (q ≤ r)) ⌝ }
 {
     let mut q = below;

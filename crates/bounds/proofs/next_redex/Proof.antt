@@ -1,49 +1,29 @@
--- `bounds::next_redex` meets its contract. Invariant: all bounds have come to the present rule, those before the start are
--- past it, and no rule before it gives a step.
-use mathlib.Core.Option.{none}
+-- `bounds::next_redex` meets its contract. Invariant: the search has come to the present rule and start.
 use mathlib.Core.Path.{_≡_, sym, ap, subst, _∙_}
-use Prim.Native.Nat.{ℕ, _+_, _-_, _≤_, _<_}
+use Prim.Native.Nat.{_+_, _-_, _≤_}
 use native.Mathlib.Omega.{arith}
 use borrow.Author.Needs.{needs}
-use lib.ListN.{length}
-use Rattle.model.specs.Limits.{sheet-room, no-rule}
-use Rattle.model.specs.Sheet.{nodes-in, used-in}
-use Rattle.model.specs.Strategy.{least-place}
-use Rattle.search.specs.Meaning.{nextOf}
-use Rattle.search.proofs.Laws.{below-more, r-found, r-none}
-use Rattle.search.proofs.Places.{nodes-counted}
-use Rattle.bounds.specs.Tables.{Bounds, High}
+use Rattle.model.specs.Limits.{no-rule}
+use Rattle.model.specs.Sheet.{nodes-in}
+use Rattle.search.specs.Redexes.{nextOf}
+use Rattle.search.proofs.SearchLevels.{r-found, r-none}
+use Rattle.bounds.specs.BoundTables.{Come-to}
 use Rattle.bounds.specs.Floors.{floorOf, placeOf}
-use Rattle.bounds.proofs.Laws.{high-none, rule-found}
+use Rattle.bounds.proofs.RisingBounds.{none-lower, come-first}
 use Rattle.bounds.proofs.next_redex.Statement.{statement}
 use Rattle.bounds.proofs.next_redex.Tie as tie
 
 abbrev Inv-loop : tie.InvT-loop
-Inv-loop sheet sizes low₀ floor cursor rule₀ start₀ low rule start =
-    (1 ≤ rule)
-    × (rule ≤ no-rule)
-    × (length low ≡ sheet-room)
-    × Bounds (nodes-in sheet) low
-    × High rule 0 (used-in sheet) low
-    × ((q : ℕ) → q < rule → 1 ≤ q → none ≡ least-place q (nodes-in sheet))
-    × ((start ≤ used-in sheet) × High (rule + 1) 0 start low)
+Inv-loop sheet sizes low₀ floor cursor rule₀ start₀ low rule start = Come-to rule start sheet sizes low
 
 abbrev μ-loop : tie.MeasureT-loop
 μ-loop sheet sizes low₀ floor cursor rule₀ start₀ low rule start = no-rule - rule
 
 loop-holds : tie.Need-loop-holds Inv-loop μ-loop
-loop-holds c =
-    let b = c .before .before .before in
-    let a = b .args in
-    let h = b .pre .1 .1 .1 .1 .0 in
-    let bounds = b .pre .1 .1 .1 .0 .1 in
-    (b .pre .0 .0, b .pre .0 .1, b .pre .1 .1 .1 .0 .0, bounds, h, (λ q l m. high-none q (nodes-in (a .sheet .now)) (a .low .now) m bounds (λ p from to. let x = h p from (omega (arith, nodes-counted (a .sheet .now) (b .pre .1 .0))) in omega arith)), b .pre .1 .1 .1 .1 .1)
+loop-holds c = c .before .before .before .pre
 
 least-place-requires : tie.Need-least-place-requires Inv-loop μ-loop
-least-place-requires c κs =
-    let n = c .before .before in
-    let b = n .before .before .before .before in
-    ((n .loop .inv .0, omega arith), (b .pre .1 .0, (b .pre .1 .1 .0, ((n .loop .inv .2, n .loop .inv .3), (n .loop .inv .4, n .loop .inv .6)))))
+least-place-requires c κs = (omega arith, c .before .before .loop .inv)
 
 enum-known-found : tie.Need-enum-known-found Inv-loop μ-loop
 enum-known-found c = search needs
@@ -51,23 +31,17 @@ enum-known-found c = search needs
 same-length : tie.Need-same-length Inv-loop μ-loop
 same-length c =
     let d = c .before .before .before .before .before in
-    let n = d .before .before .before in
-    let b = n .before .before .before .before in
-    d .least-place .kept .1 .1 .0 ∙ n .loop .inv .2 ∙ sym (b .pre .1 .1 .1 .0 .0)
+    d .least-place .ensures .1 .tables .long ∙ sym (d .before .before .before .before .before .before .before .pre .tables .long)
 
 returns : tie.Need-returns Inv-loop μ-loop
 returns c =
     let d = c .before .before .before .before .before in
     let n = d .before .before .before in
-    let b = n .before .before .before .before in
-    let a = b .args in
+    let a = n .before .before .before .before .args in
+    let i = n .loop .inv in
     let e = d .least-place .ensures in
     let told = c .before .found .given .1 in
-    let here = ap nextOf (sym told) ∙ e .0 in
-    let rule : c .before .found .given .0 .0 ≡ n .loop .rule = rule-found (n .loop .rule) (nodes-in (a .sheet .now)) (sym here) in
-    let high = subst (λ f. High (floorOf (n .loop .rule) f) 0 (used-in (a .sheet .now)) (d .least-place .last .1 .1 .0)) told (e .1 .0 .1) in
-    let past = subst (λ f. High (n .loop .rule + 1) 0 (placeOf f) (d .least-place .last .1 .1 .0)) told (e .1 .1) in
-    (r-found (nodes-in (a .sheet .now)) (n .loop .rule) (n .loop .inv .0) (omega arith) here (λ q m l. n .loop .inv .5 q l m), ((e .1 .0 .0, subst (λ k. High k 0 (used-in (a .sheet .now)) (d .least-place .last .1 .1 .0)) (sym rule) high), subst (λ k. High (k + 1) 0 (c .before .found .given .0 .1 .0) (d .least-place .last .1 .1 .0)) (sym rule) past))
+    (r-found (nodes-in (a .sheet .now)) (n .loop .rule) (i .some-rule) (omega arith) (ap nextOf (sym told) ∙ e .0) (none-lower i), subst (λ f. Come-to (floorOf (n .loop .rule + 1) f) (placeOf f) (a .sheet .now) (a .sizes .now) (d .least-place .last .1 .1 .0)) told (e .1))
 
 enum-told : tie.Need-enum-told Inv-loop μ-loop
 enum-told c = search needs
@@ -82,25 +56,19 @@ loop-again : tie.Need-loop-again Inv-loop μ-loop
 loop-again c =
     let d = c .before .before .before .before in
     let n = d .before .before .before in
-    let b = n .before .before .before .before in
-    let a = b .args in
-    let e = d .least-place .ensures in
-    let told = c .enum-told .given .1 in
-    let high = subst (λ f. High (floorOf (n .loop .rule) f) 0 (used-in (a .sheet .now)) (d .least-place .last .1 .1 .0)) told (e .1 .0 .1) in
-    (omega arith, omega arith, d .least-place .kept .1 .1 .0 ∙ n .loop .inv .2, e .1 .0 .0, high, below-more (n .loop .rule) (n .loop .inv .5) (λ m. ap nextOf (sym told) ∙ e .0), (omega arith, λ q from to. absurd (omega arith)))
+    let a = n .before .before .before .before .args in
+    subst (λ f. Come-to (floorOf (n .loop .rule + 1) f) (placeOf f) (a .sheet .now) (a .sizes .now) (d .least-place .last .1 .1 .0)) (c .enum-told .given .1) (d .least-place .ensures .1)
 
 same-length-2 : tie.Need-same-length-2 Inv-loop μ-loop
-same-length-2 c =
-    let n = c .before in
-    let b = n .before .before .before .before in
-    n .loop .inv .2 ∙ sym (b .pre .1 .1 .1 .0 .0)
+same-length-2 c = let n = c .before in n .loop .inv .tables .long ∙ sym (n .before .before .before .before .pre .tables .long)
 
 returns-2 : tie.Need-returns-2 Inv-loop μ-loop
 returns-2 c =
     let n = c .before in
     let a = n .before .before .before .before .args in
-    let done : n .loop .rule ≡ no-rule = omega arith in
-    (r-none (nodes-in (a .sheet .now)) (λ q l m. n .loop .inv .5 q (omega arith) l), ((n .loop .inv .3, subst (λ k. High k 0 (used-in (a .sheet .now)) (n .loop .low)) done (n .loop .inv .4)), λ q from to. absurd (omega arith)))
+    let i = n .loop .inv in
+    let done : n .loop .rule ≡ no-rule = omega (arith, i .past-all) in
+    (r-none (nodes-in (a .sheet .now)) (λ q l m. none-lower i q l (omega arith)), subst (λ k. Come-to k 0 (a .sheet .now) (a .sizes .now) (n .loop .low)) done (come-first i))
 
 pub next-redex-spec : {M : Type 1} → statement M
 next-redex-spec =

@@ -2,12 +2,8 @@
 use mathlib.Core.Path.{_≡_, sym, _∙_}
 use Prim.Native.Nat.{_-_, _≤_}
 use native.Mathlib.Omega.{arith}
-use lib.ListN.{length}
-use Rattle.model.specs.Limits.{sheet-room}
-use Rattle.model.specs.Sheet.{nodes-in}
-use Rattle.search.proofs.Places.{used-few}
-use Rattle.bounds.specs.Tables.{Bounds, High, Rises}
-use Rattle.bounds.proofs.Laws.{rises-same, rises-again, high-more, high-rises, high-lower}
+use Rattle.bounds.specs.BoundTables.{High, Raised}
+use Rattle.bounds.proofs.RisingBounds.{raised-same, raised-again, high-more, high-rises, high-lower}
 use Rattle.bounds.proofs.raise_all.Statement.{statement}
 use Rattle.bounds.proofs.raise_all.Tie as tie
 
@@ -15,10 +11,8 @@ abbrev Inv-loop : tie.InvT-loop
 Inv-loop sheet sizes low₀ from to limit floor₀ place₀ low floor place =
     ((1 ≤ floor) × (floor ≤ limit))
     × ((from ≤ place) × (place ≤ to))
-    × (length low ≡ sheet-room)
     × High floor from place low
-    × Bounds (nodes-in sheet) low
-    × Rises low₀ low
+    × Raised sheet sizes low₀ low
 
 abbrev μ-loop : tie.MeasureT-loop
 μ-loop sheet sizes low₀ from to limit floor₀ place₀ low floor place = to - place
@@ -26,20 +20,21 @@ abbrev μ-loop : tie.MeasureT-loop
 loop-holds : tie.Need-loop-holds Inv-loop μ-loop
 loop-holds c =
     let b = c .before .before .before in
-    ((b .pre .0 .0, omega arith), (omega arith, b .pre .1 .0 .1), b .pre .1 .1 .1 .0, (λ q from to. absurd (omega arith)), b .pre .1 .1 .1 .2, rises-same (b .args .low .now))
+    ((b .pre .0 .0, omega arith), (omega arith, b .pre .1 .1 .0 .0), (λ q from to. absurd (omega arith)), raised-same (b .pre .1 .0))
 
 raise-requires : tie.Need-raise-requires Inv-loop μ-loop
 raise-requires c κs =
     let n = c .before .before in
     let b = n .before .before .before .before in
-    let one = b .pre .1 .1 .1 .1 (n .loop .place) (n .loop .inv .1 .0) (omega arith) in
-    let up = n .loop .inv .5 (n .loop .place) in
-    ((n .loop .inv .0 .0, omega (arith, b .pre .0 .1, n .loop .inv .0 .1)), ((b .pre .1 .0 .0, omega (arith, b .pre .1 .0 .2)), (b .pre .1 .1 .0, (n .loop .inv .2, omega arith, n .loop .inv .4))))
+    let i = n .loop .inv in
+    let one = b .pre .1 .1 .1 (n .loop .place) (i .1 .0) (omega arith) in
+    let up = i .3 .rises (n .loop .place) in
+    ((i .0 .0, omega (arith, b .pre .0 .1, i .0 .1)), (i .3 .tables, (omega (arith, b .pre .1 .1 .0 .1), omega arith)))
 
 add-place : tie.Need-add-place Inv-loop μ-loop
 add-place c =
     let b = c .before .before .before .before .before .before .before .before .before in
-    omega (arith, b .pre .1 .0 .2, used-few (b .args .sheet .now) (b .pre .1 .0 .0))
+    omega (arith, b .pre .1 .1 .0 .1, b .pre .1 .0 .measured .sheet .used)
 
 loop-less : tie.Need-loop-less Inv-loop μ-loop
 loop-less c = omega arith
@@ -48,23 +43,23 @@ loop-again : tie.Need-loop-again Inv-loop μ-loop
 loop-again c =
     let d = c .before .before in
     let n = d .before .before .before in
-    let a = n .before .before .before .before .args in
+    let i = n .loop .inv in
     let e = d .raise .ensures in
     let new = d .raise .last .1 .1 .0 in
-    let high = high-more (n .loop .place) new (high-lower new (e .0 .1) (high-rises (n .loop .low) new (e .1 .1) (n .loop .inv .3))) (e .0 .2) in
-    ((e .0 .0, omega (arith, e .0 .1, n .loop .inv .0 .1)), (omega (arith, n .loop .inv .1 .0), omega arith), d .raise .kept .1 .1 .0 ∙ n .loop .inv .2, high, e .1 .0, rises-again (a .low .now) (n .loop .low) new (n .loop .inv .5) (e .1 .1))
+    let high = high-more (n .loop .place) new (high-lower new (e .0 .1) (high-rises (n .loop .low) new (e .1 .rises) (i .2))) (e .0 .2) in
+    ((e .0 .0, omega (arith, e .0 .1, i .0 .1)), (omega (arith, i .1 .0), omega arith), high, raised-again (i .3) (e .1))
 
 same-length : tie.Need-same-length Inv-loop μ-loop
 same-length c =
     let n = c .before in
-    let b = n .before .before .before .before in
-    n .loop .inv .2 ∙ sym (b .pre .1 .1 .1 .0)
+    n .loop .inv .3 .tables .long ∙ sym (n .before .before .before .before .pre .1 .0 .long)
 
 returns : tie.Need-returns Inv-loop μ-loop
 returns c =
     let n = c .before in
-    let done : n .loop .place ≡ n .before .before .before .before .args .to = omega (arith, n .loop .inv .1 .1) in
-    ((n .loop .inv .0 .0, n .loop .inv .0 .1, λ q from to. n .loop .inv .3 q from (omega arith)), (n .loop .inv .4, n .loop .inv .5))
+    let i = n .loop .inv in
+    let done : n .loop .place ≡ n .before .before .before .before .args .to = omega (arith, i .1 .1) in
+    ((i .0 .0, i .0 .1, λ q from to. i .2 q from (omega arith)), i .3)
 
 pub raise-all-spec : {M : Type 1} → statement M
 raise-all-spec =

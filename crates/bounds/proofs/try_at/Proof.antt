@@ -5,29 +5,27 @@ use Prim.Native.Nat.{_+_, _<_}
 use native.Mathlib.Omega.{arith}
 use borrow.Author.Needs.{needs}
 use lib.ListN.{length, getD}
+use lib.Seq.{getD-set-same}
 use Rattle.model.specs.Limits.{no-rule}
-use Rattle.model.specs.Sheet.{nodes-in}
 use Rattle.theory.specs.Logic.{none-some}
 use Rattle.theory.specs.Scan.{is-literal}
-use Rattle.theory.specs.Places.{sheet-long}
-use Rattle.search.specs.Meaning.{spotOf}
-use Rattle.search.proofs.Places.{nodes-counted, used-few}
-use Rattle.bounds.proofs.Laws.{rises-same, raised, raised-rises, raised-past, literal-none, literal-bounds, literal-rises, set-past}
+use Rattle.search.specs.Redexes.{spotOf}
+use Rattle.bounds.proofs.RisingBounds.{raised-same, entry-there, bound-tells, tells-more, raised-to, literal-none}
 use Rattle.bounds.proofs.try_at.Statement.{statement}
 use Rattle.bounds.proofs.try_at.Tie as tie
 
 -- The place has an entry.
 inside : (c : tie.Start) → c .args .place < length (c .args .low .now)
-inside c = omega (arith, c .pre .1 .0 .1, used-few (c .args .sheet .now) (c .pre .1 .0 .0), c .pre .1 .1 .1 .0)
+inside c = entry-there (c .pre .1 .0) (c .pre .1 .1 .0)
 
 -- Past the first test the bound has just come to the rule.
 come : (c : tie.Else1) → let a = c .before .before .before .before .before .before .args in getD (a .low .now) (a .place) 0 ≡ a .rule
 come c =
     let b = c .before .before .before .before .before .before in
-    omega (arith, c .before .wide16 .ensures .0, c .if1 .left, b .pre .1 .1 .1 .1)
+    omega (arith, c .before .wide16 .ensures .0, c .if1 .left, b .pre .1 .1 .1)
 
 mul-wide16 : tie.Need-mul-wide16
-mul-wide16 c = let b = c .before .before .before in omega (arith, inside b, b .pre .1 .1 .1 .0)
+mul-wide16 c = let b = c .before .before .before in omega (arith, inside b, b .pre .1 .0 .long)
 
 slice-read-wide16 : tie.Need-slice-read-wide16
 slice-read-wide16 c = inside (c .before .before .before .before)
@@ -40,20 +38,18 @@ returns c =
     let b = c .before .before .before .before .before .before in
     let a = b .args in
     let past : a .rule < getD (a .low .now) (a .place) 0 = omega (arith, c .before .wide16 .ensures .0, c .if1 .taken) in
-    let bounds = b .pre .1 .1 .1 .2 in
-    let within : a .place < length (nodes-in (a .sheet .now)) = omega (arith, b .pre .1 .0 .1, nodes-counted (a .sheet .now) (b .pre .1 .0 .0)) in
-    (bounds (a .place) (a .rule) within (b .pre .0 .0) past, ((bounds, rises-same (a .low .now)), λ e. past))
+    (bound-tells (b .pre .1 .0) (b .pre .1 .1 .0) (a .rule) (b .pre .0 .0) past, (raised-same (b .pre .1 .0), λ e. past))
 
 add-from : tie.Need-add-from
-add-from c = let b = c .before .before .before .before .before .before in omega (arith, inside b, b .pre .1 .1 .1 .0)
+add-from c = let b = c .before .before .before .before .before .before in omega (arith, inside b, b .pre .1 .0 .long)
 
 mul-wide16-2 : tie.Need-mul-wide16-2
-mul-wide16-2 c = let b = c .before .before .before .before .before .before in omega (arith, inside b, b .pre .1 .1 .1 .0)
+mul-wide16-2 c = let b = c .before .before .before .before .before .before in omega (arith, inside b, b .pre .1 .0 .long)
 
 shared-slice-read-wide16 : tie.Need-shared-slice-read-wide16
 shared-slice-read-wide16 c =
     let b = c .before .before .before .before .before .before .before in
-    omega (arith, inside b, b .pre .1 .1 .1 .0, sheet-long (b .args .sheet .now) (b .pre .1 .0 .0))
+    omega (arith, inside b, b .pre .1 .0 .long, b .pre .1 .0 .measured .sheet .whole)
 
 wide16-requires-2 : tie.Need-wide16-requires-2
 wide16-requires-2 c κs = search needs
@@ -64,7 +60,7 @@ is-literal-requires c κs = search needs
 mul-low : tie.Need-mul-low
 mul-low c =
     let b = c .before .before .before .before .before .before .before .before .before .before in
-    omega (arith, inside b, b .pre .1 .1 .1 .0)
+    omega (arith, inside b, b .pre .1 .0 .long)
 
 slice-write-low : tie.Need-slice-write-low
 slice-write-low c = inside (c .before .before .before .before .before .before .before .before .before .before)
@@ -78,8 +74,9 @@ returns-2 c =
     let b = e .before .before .before .before .before .before in
     let a = b .args in
     let it : is-literal (getD (a .sheet .now) (2 + a .place) 0) ≡ true = sym (c .before .is-literal .ensures ∙ ap is-literal (c .before .before .wide162 .ensures .0)) ∙ c .if2 .taken in
-    let here = come e in
-    (literal-none (a .sheet .now) (a .low .now) (b .pre .1 .0 .0) (a .place) no-rule (inside b) (b .pre .1 .0 .1) it (a .rule), ((literal-bounds (a .sheet .now) (a .low .now) (b .pre .1 .0 .0) (a .place) no-rule (inside b) (b .pre .1 .0 .1) it (b .pre .1 .1 .1 .2), literal-rises (a .sheet .now) (a .low .now) (b .pre .1 .0 .0) (a .place) no-rule (inside b) (b .pre .1 .0 .1) it (omega (arith, b .pre .0 .1))), λ k. set-past (a .low .now) (a .place) no-rule (a .rule) (inside b) (omega (arith, b .pre .0 .1))))
+    let none-here = literal-none (b .pre .1 .0 .measured .sheet) (a .place) (b .pre .1 .1 .0) it in
+    let new = getD-set-same (a .low .now) (a .place) no-rule 0 (inside b) in
+    (none-here (a .rule), (raised-to (b .pre .1 .0) (b .pre .1 .1 .0) (omega (arith, come e, b .pre .0 .1)) (λ r one lt. none-here r), λ k. omega (arith, new, b .pre .0 .1)))
 
 least-at-requires : tie.Need-least-at-requires
 least-at-requires c κs = search needs
@@ -92,7 +89,7 @@ returns-3 c =
     let d = c .before .before .before in
     let b = d .before .before .before .before .before .before .before .before .before .before .before in
     let a = b .args in
-    (ap (spotOf (a .rule) (a .place)) (sym (c .before .spot .given .1)) ∙ d .least-at .ensures, ((b .pre .1 .1 .1 .2, rises-same (a .low .now)), λ e. none-some (sym e)))
+    (ap (spotOf (a .rule) (a .place)) (sym (c .before .spot .given .1)) ∙ d .least-at .ensures, (raised-same (b .pre .1 .0), λ e. none-some (sym e)))
 
 enum-told : tie.Need-enum-told
 enum-told c = search needs
@@ -106,7 +103,7 @@ cast-low c = search needs
 mul-low-2 : tie.Need-mul-low-2
 mul-low-2 c =
     let b = c .before .before .before .before .before .before .before .before .before .before .before .before .before in
-    omega (arith, inside b, b .pre .1 .1 .1 .0)
+    omega (arith, inside b, b .pre .1 .0 .long)
 
 slice-write-low-2 : tie.Need-slice-write-low-2
 slice-write-low-2 c = inside (c .before .before .before .before .before .before .before .before .before .before .before .before .before)
@@ -120,9 +117,9 @@ returns-4 c =
     let e = d .before .before .before .before .before in
     let b = e .before .before .before .before .before .before in
     let a = b .args in
-    let ns = nodes-in (a .sheet .now) in
     let nothing = ap (spotOf (a .rule) (a .place)) (sym (c .enum-told .given .1)) ∙ d .least-at .ensures in
-    (nothing, ((raised ns (a .low .now) (a .rule) (a .place) (inside b) (come e) (b .pre .1 .1 .1 .2) nothing, raised-rises ns (a .low .now) (a .rule) (a .place) (inside b) (come e)), λ k. raised-past ns (a .low .now) (a .rule) (a .place) (inside b) (come e)))
+    let new = getD-set-same (a .low .now) (a .place) (a .rule + 1) 0 (inside b) in
+    (nothing, (raised-to (b .pre .1 .0) (b .pre .1 .1 .0) (omega (arith, come e)) (tells-more (b .pre .1 .0) (b .pre .1 .1 .0) (come e) nothing), λ k. omega (arith, new)))
 
 pub try-at-spec : {M : Type 1} → statement M
 try-at-spec =

@@ -12,7 +12,7 @@ use Rattle.commons.proofs.first_common.Tie as tie
 child : (c : tie.Start) → (1 + c .args .i < length (c .args .sizes .now)) × (length (c .args .sizes .now) ≤ sheet-room)
 child c =
     let w = counted-child (c .pre .0) (c .pre .1 .0) (c .pre .1 .1 .0) in
-    (omega (arith, w .1, c .pre .1 .1 .1 .0), omega (arith, w .2, c .pre .1 .1 .1 .0))
+    (omega (arith, w .1, c .pre .1 .1 .1 .long), omega (arith, w .2, c .pre .1 .1 .1 .long))
 
 shared-slice-read-if1 : tie.Need-shared-slice-read-if1
 shared-slice-read-if1 c = omega (arith, child (c .before .before .before))

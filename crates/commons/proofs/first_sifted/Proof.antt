@@ -3,8 +3,9 @@
 use mathlib.Core.Bool.{false}
 use mathlib.Core.Logic.{⊎-elim}
 use mathlib.Core.Path.{_≡_, sym, ap, _∙_}
-use Prim.Native.Nat.{ℕ, _+_, _-_, _≤_, _<_}
+use Prim.Native.Nat.{_+_, _-_, _≤_, _<_}
 use native.Mathlib.Omega.{arith}
+use borrow.Author.Count.{below-more}
 use borrow.Author.Needs.{needs}
 use borrow.Author.Tests.{eqb-true, eqb-false, not-true, not-false}
 use lib.Dec.{eqb}
@@ -13,22 +14,20 @@ use Rattle.model.specs.Base.{is-some}
 use Rattle.model.specs.Limits.{sheet-room}
 use Rattle.model.specs.Code.{kind, children}
 use Rattle.model.specs.Rules.{rewrite}
-use Rattle.theory.specs.Spans.{arity, span, child-at}
+use Rattle.theory.specs.Spans.{arity, child-at}
 use Rattle.theory.specs.Stretches.{forest-in}
 use Rattle.theory.specs.Children.{counted-child}
-use Rattle.sizes.proofs.Laws.{span-one}
-use Rattle.commons.proofs.Inner.{below-more, conjunction-arity, inner-first, inner-next, inner-room, other-none, past-none, few-none, barred-none, found-first, found-none}
+use Rattle.sizes.specs.TreeHops.{inner-at, Passed, passed-first, hop-within, passed-more}
+use Rattle.commons.proofs.FactorChildren.{conjunction-arity, inner-room, other-none, past-none, few-none, barred-none, found-first, found-none}
 use Rattle.commons.proofs.first_sifted.Statement.{statement}
 use Rattle.commons.proofs.first_sifted.Tie as tie
 
 abbrev Inv-loop : tie.InvT-loop
-Inv-loop part sizes i held groups head m j₀ from₀ j from =
-    (j ≤ m)
-    × (from ≡ 1 + i + child-at j (drop (1 + i) part))
-    × ((k : ℕ) → k < j → is-some (rewrite 14 i k (forest-in part)) ≡ false)
+Inv-loop part sizes i held groups at head m j₀ from₀ j from =
+    (j ≤ m) × Passed (λ k. is-some (rewrite 14 i k (forest-in part)) ≡ false) (1 + i + 1) part j from
 
 abbrev μ-loop : tie.MeasureT-loop
-μ-loop part sizes i held groups head m j₀ from₀ j from = m - j
+μ-loop part sizes i held groups at head m j₀ from₀ j from = m - j
 
 -- Child i begins within the stretch; how many children it announces.
 child : (c : tie.Start Inv-loop μ-loop) → (1 + c .args .i < length (c .args .part .now)) × (length (c .args .part .now) ≤ sheet-room)
@@ -37,8 +36,8 @@ child c = let w = counted-child (c .pre .0) (c .pre .1 .0) (c .pre .1 .1 .0) in 
 counted : (c : tie.After-arity-of Inv-loop μ-loop) → let a = c .before .before .before .before .before .before .args in c .arity-of .result ≡ arity (getD (a .part .now) (1 + a .i) 0)
 counted c = c .arity-of .ensures .0 ∙ ap arity (c .before .wide16 .ensures .0)
 
-add-wide16 : tie.Need-add-wide16 Inv-loop μ-loop
-add-wide16 c = omega (arith, child (c .before .before .before))
+add-at : tie.Need-add-at Inv-loop μ-loop
+add-at c = omega (arith, child (c .before .before .before))
 
 mul-wide16 : tie.Need-mul-wide16 Inv-loop μ-loop
 mul-wide16 c = omega (arith, child (c .before .before .before))
@@ -82,17 +81,20 @@ add-from : tie.Need-add-from Inv-loop μ-loop
 add-from c = omega (arith, child (c .before .before .before .before .before .before .before .before .before))
 
 loop-holds : tie.Need-loop-holds Inv-loop μ-loop
-loop-holds c =
-    let a = c .before .before .before .before .before .before .before .before .before .args in
-    (omega arith, omega (arith, inner-first (1 + a .i) (a .part .now)), λ k l. absurd (omega arith))
+loop-holds c = (omega arith, passed-first)
 
--- The place of inner child j is within the stretch.
+-- Inner child j, of which the conjunction has one, begins within the stretch.
+placed : (c : tie.At-loop Inv-loop μ-loop) → let a = c .before .before .before .before .before .before .before .before .before .before .args in c .loop .from ≡ 1 + a .i + child-at (c .loop .j) (drop (1 + a .i) (a .part .now))
+placed c =
+    let a = c .before .before .before .before .before .before .before .before .before .before .args in
+    c .loop .inv .1 .here ∙ sym (inner-at (1 + a .i) (c .loop .j) (a .part .now))
+
 inside : (c : tie.In-loop Inv-loop μ-loop) → let a = c .before .before .before .before .before .before .before .before .before .before .before .args in (c .before .loop .from < length (a .part .now)) × (length (a .part .now) ≤ sheet-room)
 inside c =
     let n = c .before in
     let s = n .before .before .before .before .before .before .before .before .before .before in
     let room = inner-room (s .pre .0) (s .pre .1 .0) (s .args .i) (s .pre .1 .1 .0) (conjunction (n .before)) (n .loop .j) (omega (arith, announced (n .before))) in
-    (omega (arith, room, n .loop .inv .1), child s .1)
+    (omega (arith, room, placed n), child s .1)
 
 mul-wide16-2 : tie.Need-mul-wide16-2 Inv-loop μ-loop
 mul-wide16-2 c = omega (arith, inside c)
@@ -106,9 +108,6 @@ wide16-requires-2 c κs = search needs
 may-share-requires : tie.Need-may-share-requires Inv-loop μ-loop
 may-share-requires c κs = c .before .before .before .before .before .before .before .before .before .before .before .before .before .pre .1 .1 .1 .1 .0
 
-add-asks : tie.Need-add-asks Inv-loop μ-loop
-add-asks c = omega (arith, child (c .before .before .before .before .before .before .before .before .before .before .before .before .before .before .before))
-
 asks-requires : tie.Need-asks-requires Inv-loop μ-loop
 asks-requires c κs =
     let s = c .before .before .before .before .before .before .before .before .before .before .before .before .before .before .before in
@@ -118,28 +117,23 @@ returns-2 : tie.Need-returns-2 Inv-loop μ-loop
 returns-2 c =
     let n = c .before .before .before .before .before .before .before in
     let s = n .before .before .before .before .before .before .before .before .before .before in
-    found-first (s .pre .0) (s .pre .1 .0) (s .args .i) (s .pre .1 .1 .0) (counted (n .before .before .before .before)) (n .loop .j) (n .loop .inv .0) (sym (c .before .asks .ensures) ∙ c .if4 .taken) (n .loop .inv .2)
+    found-first (s .pre .0) (s .pre .1 .0) (s .args .i) (s .pre .1 .1 .0) (counted (n .before .before .before .before)) (n .loop .j) (n .loop .inv .0) (sym (c .before .asks .ensures) ∙ c .if4 .taken) (n .loop .inv .1 .before)
 
 mul-wide16-3 : tie.Need-mul-wide16-3 Inv-loop μ-loop
 mul-wide16-3 c = omega (arith, inside (c .before .before .before .before))
 
 shared-slice-read-wide16-3 : tie.Need-shared-slice-read-wide16-3 Inv-loop μ-loop
-shared-slice-read-wide16-3 c = omega (arith, inside (c .before .before .before .before .before), c .before .before .before .before .before .before .before .before .before .before .before .before .before .before .before .before .pre .1 .1 .1 .0 .0)
+shared-slice-read-wide16-3 c = omega (arith, inside (c .before .before .before .before .before), c .before .before .before .before .before .before .before .before .before .before .before .before .before .before .before .before .pre .1 .1 .1 .0 .long)
 
 wide16-requires-3 : tie.Need-wide16-requires-3 Inv-loop μ-loop
 wide16-requires-3 c κs = search needs
 
--- One hop.
-hop : (c : tie.After-wide163 Inv-loop μ-loop) → let n = c .before .before .before .before .before .before .before in c .wide163 .result ≡ span 1 (drop (n .loop .from) (n .before .before .before .before .before .before .before .before .before .before .args .part .now))
-hop c =
-    let n = c .before .before .before .before .before .before .before in
-    c .wide163 .ensures .0 ∙ n .before .before .before .before .before .before .before .before .before .before .pre .1 .1 .1 .0 .1 (n .loop .from) (omega arith) (inside (c .before .before .before .before .before .before) .0)
-
 add-from-2 : tie.Need-add-from-2 Inv-loop μ-loop
 add-from-2 c =
-    let n = c .before .before .before .before .before .before .before in
-    let w = inside (c .before .before .before .before .before .before) in
-    omega (arith, hop c, span-one (n .loop .from) (n .before .before .before .before .before .before .before .before .before .before .args .part .now) (w .0) .1, w .1)
+    let m = c .before .before .before .before .before .before in
+    let s = m .before .before .before .before .before .before .before .before .before .before .before in
+    let w = inside m in
+    omega (arith, hop-within (s .pre .1 .1 .1 .0) (w .0) (c .wide163 .ensures .0), w .1)
 
 add-j : tie.Need-add-j Inv-loop μ-loop
 add-j c = omega arith
@@ -154,18 +148,14 @@ none-here c =
     let s = n .before .before .before .before .before .before .before .before .before .before in
     ⊎-elim
     (λ w. sym (w .1 .ensures) ∙ w .2 .left)
-    (λ w. barred-none (s .pre .0) (s .pre .1 .0) (s .args .i) (s .pre .1 .1 .0) (s .args .groups) (s .args .held .now) (s .pre .1 .1 .1 .1 .1) (n .loop .j) (c .before .before .wide162 .result) (c .before .before .wide162 .ensures .0) (n .loop .inv .1) (c .before .may-share .ensures) (w .left))
+    (λ w. barred-none (s .pre .0) (s .pre .1 .0) (s .args .i) (s .pre .1 .1 .0) (s .args .groups) (s .args .held .now) (s .pre .1 .1 .1 .1 .1) (n .loop .j) (c .before .before .wide162 .result) (c .before .before .wide162 .ensures .0) (placed n) (c .before .may-share .ensures) (w .left))
     (c .if3 .came)
 
 loop-again : tie.Need-loop-again Inv-loop μ-loop
 loop-again c =
-    let n = c .before .before .before .before .before .before .before in
-    let a = n .before .before .before .before .before .before .before .before .before .before .args in
-    let there = hop c ∙ ap (λ k. span 1 (drop k (a .part .now))) (n .loop .inv .1) in (
-      omega arith,
-      omega (arith, n .loop .inv .1, there, inner-next (1 + a .i) (n .loop .j) (a .part .now)),
-      below-more (n .loop .j) (n .loop .inv .2) (none-here (c .before .before)),
-    )
+    let m = c .before .before .before .before .before .before in
+    let s = m .before .before .before .before .before .before .before .before .before .before .before in
+    (omega arith, passed-more (s .pre .1 .1 .1 .0) (inside m .0) (c .wide163 .ensures .0) (m .before .loop .inv .1) (none-here (c .before .before)))
 
 add-result-2 : tie.Need-add-result-2 Inv-loop μ-loop
 add-result-2 c = omega (arith, c .before .before .before .before .before .arity-of .ensures .1)
@@ -176,7 +166,7 @@ returns-3 c =
     let s = n .before .before .before .before .before .before .before .before .before .before in
     let last : n .loop .j ≡ n .before .before .before .before .arity-of .result = omega arith in
     found-none (s .pre .0) (s .pre .1 .0) (s .args .i) (s .pre .1 .1 .0) (counted (n .before .before .before .before))
-    (rw last at (below-more (n .loop .j) (n .loop .inv .2) (past-none (s .pre .0) (s .pre .1 .0) (s .args .i) (s .pre .1 .1 .0) (n .loop .j) (omega (arith, announced (n .before))))))
+    (rw last at (below-more _ (n .loop .j) (n .loop .inv .1 .before) (past-none (s .pre .0) (s .pre .1 .0) (s .args .i) (s .pre .1 .1 .0) (n .loop .j) (omega (arith, announced (n .before))))))
 
 pub first-sifted-spec : {M : Type 1} → statement M
 first-sifted-spec =
@@ -184,7 +174,7 @@ first-sifted-spec =
     (tie.spec
     Inv-loop
     μ-loop
-    add-wide16
+    add-at
     mul-wide16
     shared-slice-read-wide16
     wide16-requires
@@ -198,7 +188,6 @@ first-sifted-spec =
     shared-slice-read-wide16-2
     wide16-requires-2
     may-share-requires
-    add-asks
     asks-requires
     returns-2
     mul-wide16-3

@@ -3,6 +3,7 @@ use mathlib.Core.Bool.{false}
 use mathlib.Core.Path.{_≡_, sym, ap, _∙_}
 use Prim.Native.Nat.{ℕ, _+_, _-_, _≤_, _<_}
 use native.Mathlib.Omega.{arith}
+use borrow.Author.Count.{below-more}
 use borrow.Author.Needs.{needs}
 use lib.ListN.{length, getD}
 use Rattle.model.specs.Base.{is-some}
@@ -11,7 +12,7 @@ use Rattle.model.specs.Rules.{rewrite}
 use Rattle.theory.specs.Spans.{arity}
 use Rattle.theory.specs.Stretches.{forest-in}
 use Rattle.theory.specs.Children.{counted-child}
-use Rattle.commons.proofs.Inner.{below-more, found-first, found-none}
+use Rattle.commons.proofs.FactorChildren.{found-first, found-none}
 use Rattle.commons.proofs.first_tried.Statement.{statement}
 use Rattle.commons.proofs.first_tried.Tie as tie
 
@@ -68,7 +69,7 @@ loop-less c = omega arith
 loop-again : tie.Need-loop-again Inv-loop μ-loop
 loop-again c =
     let n = c .before .before .before in
-    (omega arith, below-more (n .loop .j) (n .loop .inv .1) (sym (c .before .asks .ensures) ∙ c .if1 .left))
+    (omega arith, below-more _ (n .loop .j) (n .loop .inv .1) (sym (c .before .asks .ensures) ∙ c .if1 .left))
 
 add-result : tie.Need-add-result Inv-loop μ-loop
 add-result c = omega (arith, c .before .before .arity-of .ensures .1)

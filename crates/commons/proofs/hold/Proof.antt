@@ -11,7 +11,7 @@ use Rattle.model.specs.Code.{children}
 use Rattle.theory.specs.Scan.{is-literal}
 use Rattle.theory.specs.Spans.{span}
 use Rattle.commons.specs.Held.{literal-numbers}
-use Rattle.sizes.proofs.Laws.{span-one}
+use Rattle.sizes.specs.TreeHops.{span-one}
 use Rattle.commons.proofs.Held.{Holding, group-literal, group-inner, holding-more, holding-all}
 use Rattle.commons.proofs.hold.Statement.{statement}
 use Rattle.commons.proofs.hold.Tie as tie
@@ -88,7 +88,7 @@ hop : (c : tie.After-wide163 Inv-loop μ-loop) → let n = c .before .before .be
 hop c =
     let n = c .before .before .before .before .before .before .before .before .before .before in
     let s = n .before .before .before .before .before .before .before .before .before in
-    c .wide163 .ensures .0 ∙ s .pre .1 .0 .1 (n .loop .from) (omega arith) (omega (arith, ltb-true))
+    c .wide163 .ensures .0 ∙ s .pre .1 .0 .each (n .loop .from) (omega arith) (omega (arith, ltb-true))
 
 add-from-2 : tie.Need-add-from-2 Inv-loop μ-loop
 add-from-2 c =

@@ -9,7 +9,7 @@ use lib.ListN.{length, getD, drop}
 use Rattle.model.specs.Code.{kind, children}
 use Rattle.theory.specs.Spans.{span}
 use Rattle.commons.specs.Held.{literal-numbers}
-use Rattle.sizes.proofs.Laws.{span-one}
+use Rattle.sizes.specs.TreeHops.{span-one}
 use Rattle.commons.proofs.Held.{group-small}
 use Rattle.commons.proofs.Passing.{Passing, passing-none, passing-more, passing-all, passing-other}
 use Rattle.commons.proofs.hold_all.Statement.{statement}
@@ -77,7 +77,7 @@ wide16-requires-3 c κs = search needs
 hop : (c : tie.After-wide163 Inv-loop μ-loop) → let n = c .before .before .before .before .before .before .before .before .before .before .before .before in c .wide163 .result ≡ span 1 (drop (n .loop .at) (n .before .before .before .before .before .before .before .args .part .now))
 hop c =
     let n = c .before .before .before .before .before .before .before .before .before .before .before .before in
-    c .wide163 .ensures .0 ∙ n .before .before .before .before .before .before .before .pre .1 .0 .1 (n .loop .at) (omega arith) (omega (arith, ltb-true))
+    c .wide163 .ensures .0 ∙ n .before .before .before .before .before .before .before .pre .1 .0 .each (n .loop .at) (omega arith) (omega (arith, ltb-true))
 
 add-at : tie.Need-add-at Inv-loop μ-loop
 add-at c =

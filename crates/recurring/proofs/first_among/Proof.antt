@@ -1,17 +1,20 @@
 -- `recurring::first_among` meets its contract. Invariant: child i begins at the present place, and no literal before it recurs.
+use mathlib.Core.Bool.{false}
 use mathlib.Core.Path.{_≡_, sym, ap, _∙_}
 use Prim.Native.Nat.{_-_, _≤_, _<_}
 use native.Mathlib.Omega.{arith}
 use borrow.Author.Needs.{needs}
-use lib.ListN.{length, getD, drop}
+use lib.ListN.{length, getD}
 use Rattle.model.specs.Code.{children}
-use Rattle.theory.specs.Spans.{span}
-use Rattle.recurring.proofs.Hops.{Passed, passed-first, place-within, found-again, hop-within, passed-more, none-again}
+use Rattle.theory.specs.Spans.{child-at}
+use Rattle.spread.specs.Assigning.{spreads-from}
+use Rattle.sizes.specs.TreeHops.{Passed, passed-first, hop-within, passed-more}
+use Rattle.sizes.specs.FirstApplying.{first-here, first-past}
 use Rattle.recurring.proofs.first_among.Statement.{statement}
 use Rattle.recurring.proofs.first_among.Tie as tie
 
 abbrev Inv-loop : tie.InvT-loop
-Inv-loop part sizes end tally k i₀ at₀ i at = Passed end i at part
+Inv-loop part sizes end tally k i₀ at₀ i at = Passed (λ q. spreads-from (child-at q part) end part ≡ false) 1 part i at × (i ≤ k)
 
 abbrev μ-loop : tie.MeasureT-loop
 μ-loop part sizes end tally k i₀ at₀ i at = k - i
@@ -19,22 +22,20 @@ abbrev μ-loop : tie.MeasureT-loop
 counted : (c : tie.After-children-of Inv-loop μ-loop) → let a = c .before .before .before .before .before .before .args in c .children-of .result ≡ children (getD (a .part .now) 0 0)
 counted c = c .children-of .ensures ∙ ap children (c .before .wide16 .ensures .0)
 
--- Child i is there, and begins before the end.
-more : (c : tie.In-loop Inv-loop μ-loop) → let n = c .before in let a = n .before .before .before .before .before .before .before .args in n .loop .i < children (getD (a .part .now) 0 0)
-more c = omega (arith, counted (c .before .before))
-
+-- Child i begins before the end.
 inside : (c : tie.In-loop Inv-loop μ-loop) → let n = c .before in let a = n .before .before .before .before .before .before .before .args in (1 ≤ n .loop .at) × (n .loop .at < a .end) × (a .end ≤ length (a .part .now))
 inside c =
     let n = c .before in
-    let b = n .before .before .before .before .before .before .before in
-    place-within (b .pre .0) (n .loop .inv) (more c)
+    let e = n .before .before .before .before .before .before .before .pre .0 in
+    let here = n .loop .inv .0 .here in
+    (omega (arith, here), omega (arith, here, e .children (n .loop .i) (omega (arith, counted (n .before)))), e .within)
 
--- The table's entry there is the size of the child.
-hop : (c : tie.After-wide162 Inv-loop μ-loop) → let n = c .before .before .before .before .before in let a = n .before .before .before .before .before .before .before .args in c .wide162 .result ≡ span 1 (drop (n .loop .at) (a .part .now))
-hop c =
-    let m = c .before .before .before .before in
-    let b = m .before .before .before .before .before .before .before .before in
-    c .wide162 .ensures .0 ∙ b .pre .1 .0 .1 (m .before .loop .at) (omega arith) (omega (arith, inside m))
+-- Whether it is a literal whose option occurs again.
+told : (c : tie.After-recurs Inv-loop μ-loop) → let n = c .before .before in let a = n .before .before .before .before .before .before .before .args in spreads-from (child-at (n .loop .i) (a .part .now)) (a .end) (a .part .now) ≡ c .recurs .result
+told c =
+    let n = c .before .before in
+    let a = n .before .before .before .before .before .before .before .args in
+    ap (λ p. spreads-from p (a .end) (a .part .now)) (sym (n .loop .inv .0 .here)) ∙ sym (c .recurs .ensures)
 
 shared-slice-read-wide16 : tie.Need-shared-slice-read-wide16 Inv-loop μ-loop
 shared-slice-read-wide16 c = let e = c .before .before .before .before .pre .0 in omega (arith, e .some-head, e .within)
@@ -46,7 +47,7 @@ children-of-requires : tie.Need-children-of-requires Inv-loop μ-loop
 children-of-requires c κs = search needs
 
 loop-holds : tie.Need-loop-holds Inv-loop μ-loop
-loop-holds c = let a = c .before .before .before .before .before .before .args in passed-first (a .end) (a .part .now)
+loop-holds c = (passed-first, omega arith)
 
 recurs-requires : tie.Need-recurs-requires Inv-loop μ-loop
 recurs-requires c κs =
@@ -56,10 +57,8 @@ recurs-requires c κs =
 
 returns : tie.Need-returns Inv-loop μ-loop
 returns c =
-    let m = c .before .before in
-    let n = m .before in
-    let b = n .before .before .before .before .before .before .before in
-    found-again (b .pre .0) (n .loop .inv) (more m) (sym (c .before .recurs .ensures) ∙ c .if1 .taken)
+    let n = c .before .before .before in
+    first-here (omega (arith, counted (n .before))) (n .loop .inv .0 .before) (told (c .before) ∙ c .if1 .taken)
 
 mul-wide16 : tie.Need-mul-wide16 Inv-loop μ-loop
 mul-wide16 c =
@@ -71,7 +70,7 @@ shared-slice-read-wide16-2 : tie.Need-shared-slice-read-wide16-2 Inv-loop μ-loo
 shared-slice-read-wide16-2 c =
     let m = c .before .before .before in
     let b = m .before .before .before .before .before .before .before .before in
-    omega (arith, inside m, b .pre .1 .0 .0)
+    omega (arith, inside m, b .pre .1 .0 .long)
 
 wide16-requires-2 : tie.Need-wide16-requires-2 Inv-loop μ-loop
 wide16-requires-2 c κs = search needs
@@ -80,7 +79,7 @@ add-at : tie.Need-add-at Inv-loop μ-loop
 add-at c =
     let m = c .before .before .before .before in
     let b = m .before .before .before .before .before .before .before .before in
-    omega (arith, hop-within (b .pre .0) (m .before .loop .inv) (more m) (hop c), b .pre .0 .short)
+    omega (arith, hop-within (b .pre .1 .0) (omega (arith, inside m)) (c .wide162 .ensures .0), b .pre .0 .short)
 
 add-i : tie.Need-add-i Inv-loop μ-loop
 add-i c = omega arith
@@ -92,10 +91,14 @@ loop-again : tie.Need-loop-again Inv-loop μ-loop
 loop-again c =
     let m = c .before .before .before .before in
     let b = m .before .before .before .before .before .before .before .before in
-    passed-more (b .pre .0) (m .before .loop .inv) (more m) (hop c) (sym (c .before .before .before .recurs .ensures) ∙ c .before .before .if1 .left)
+    let none-here = told (c .before .before .before) ∙ c .before .before .if1 .left in
+    (passed-more (b .pre .1 .0) (omega (arith, inside m)) (c .wide162 .ensures .0) (m .before .loop .inv .0) none-here, omega arith)
 
 returns-2 : tie.Need-returns-2 Inv-loop μ-loop
-returns-2 c = none-again (c .before .loop .inv) (counted (c .before .before)) (omega arith)
+returns-2 c =
+    let n = c .before in
+    let all : n .loop .i ≡ n .before .children-of .result = omega arith in
+    first-past (counted (n .before)) (rw all at (n .loop .inv .0 .before))
 
 pub first-among-spec : {M : Type 1} → statement M
 first-among-spec =

@@ -4,8 +4,8 @@ use native.Mathlib.Omega.{arith}
 use borrow.Author.Needs.{needs}
 use lib.ListN.{drop}
 use Rattle.theory.specs.Spans.{span}
-use Rattle.recurring.specs.Recurring.{Ends}
-use Rattle.recurring.proofs.Trees.{first-number, tree-ends, again-applies}
+use Rattle.recurring.specs.Recurring.{Ends-at}
+use Rattle.recurring.proofs.SpreadTree.{first-number, tree-ends, again-applies}
 use Rattle.recurring.proofs.first_recurring.Statement.{statement}
 use Rattle.recurring.proofs.first_recurring.Tie as tie
 
@@ -13,15 +13,15 @@ use Rattle.recurring.proofs.first_recurring.Tie as tie
 whole : (c : tie.After-wide16) → let a = c .before .before .before .before .args in c .wide16 .result ≡ span 1 (drop 0 (a .part .now))
 whole c =
     let p = c .before .before .before .before .pre .1 in
-    c .wide16 .ensures .0 ∙ p .1 .1 .1 0 (omega arith) (first-number (p .0) (p .1 .0))
+    c .wide16 .ensures .0 ∙ p .1 .1 .each 0 (omega arith) (first-number (p .0) (p .1 .0))
 
-ended : (c : tie.After-wide16) → let a = c .before .before .before .before .args in Ends (c .wide16 .result) (a .part .now)
+ended : (c : tie.After-wide16) → let a = c .before .before .before .before .args in Ends-at (c .wide16 .result) (a .part .now)
 ended c = let p = c .before .before .before .before .pre .1 in tree-ends (p .0) (p .1 .0) (whole c)
 
 shared-slice-read-wide16 : tie.Need-shared-slice-read-wide16
 shared-slice-read-wide16 c =
     let p = c .before .before .before .pre .1 in
-    omega (arith, p .1 .1 .0, first-number (p .0) (p .1 .0))
+    omega (arith, p .1 .1 .long, first-number (p .0) (p .1 .0))
 
 wide16-requires : tie.Need-wide16-requires
 wide16-requires c κs = search needs

@@ -4,24 +4,26 @@ use Prim.Native.Nat.{_+_, _-_, _<_}
 use native.Mathlib.Omega.{arith}
 use borrow.Author.Needs.{needs}
 use borrow.Author.Tests.{eqb-false}
-use lib.ListN.{length, getD}
+use lib.ListN.{length, getD, drop, length-drop}
 use Rattle.model.specs.Limits.{sheet-room, sheet-length}
 use Rattle.theory.specs.Logic.{true-false}
 use Rattle.theory.specs.Spans.{arity}
 use Rattle.theory.specs.Places.{lend}
-use Rattle.run_bounds_after.proofs.ConstantChildren.{Passed, passed-first, passed-inside, passed-room, passed-more, passed-all}
+use Rattle.sizes.specs.TreeHops.{Passed, passed-first, hop-within, passed-more}
+use Rattle.sizes.proofs.SizeEntries.{sheet-sizes}
+use Rattle.run_bounds_after.proofs.ConstantChildren.{No-constant, passed-all, child-inside, no-constant}
 use Rattle.run_bounds_after.proofs.has_constant.Statement.{statement}
 use Rattle.run_bounds_after.proofs.has_constant.Tie as tie
 
 abbrev Inv-loop : tie.InvT-loop
-Inv-loop sheet sizes place k i₀ at₀ i at = Passed sheet place i at
+Inv-loop sheet sizes place k i₀ at₀ i at = Passed (No-constant sheet place) (place + 1) (drop 2 sheet) i at
 
 abbrev μ-loop : tie.MeasureT-loop
 μ-loop sheet sizes place k i₀ at₀ i at = k - i
 
 -- The place is within the sheet.
 placed : (c : tie.Start Inv-loop μ-loop) → (c .args .place < sheet-room) × (length (c .args .sheet .now) ≡ sheet-length)
-placed c = let w = lend (c .args .sheet .now) (c .pre .0 .0) (c .args .place) (c .pre .0 .1) in (w .within, w .whole)
+placed c = let w = lend (c .args .sheet .now) (c .pre .0 .sheet) (c .args .place) (c .pre .1) in (w .within, w .whole)
 
 counted : (c : tie.After-arity-of Inv-loop μ-loop) → let a = c .before .before .before .before .before .args in c .arity-of .result ≡ arity (getD (a .sheet .now) (2 + a .place) 0)
 counted c = c .arity-of .ensures .0 ∙ ap arity (c .before .wide16 .ensures .0)
@@ -33,7 +35,13 @@ here c = omega (arith, counted (c .before .before), c .loop-test .taken)
 inside : (c : tie.In-loop Inv-loop μ-loop) → c .before .loop .at < sheet-room
 inside c =
     let b = c .before .before .before .before .before .before .before in
-    passed-inside (b .args .sheet .now) (b .pre .0 .0) (b .args .place) (b .pre .0 .1) (c .before .loop .inv) (here c)
+    child-inside (b .pre .0 .sheet) (b .pre .1) (c .before .loop .inv .here) (here c)
+
+-- So the table has its size.
+entry : (c : tie.In-loop Inv-loop μ-loop) → let a = c .before .before .before .before .before .before .before .args in c .before .loop .at < length (drop 2 (a .sheet .now))
+entry c =
+    let b = c .before .before .before .before .before .before .before in
+    omega (arith, inside c, length-drop 2 (b .args .sheet .now), b .pre .0 .sheet .whole)
 
 add-wide16 : tie.Need-add-wide16 Inv-loop μ-loop
 add-wide16 c = let w = placed (c .before .before) in omega arith
@@ -54,9 +62,7 @@ add-at : tie.Need-add-at Inv-loop μ-loop
 add-at c = let w = placed (c .before .before .before .before .before) in omega arith
 
 loop-holds : tie.Need-loop-holds Inv-loop μ-loop
-loop-holds c =
-    let a = c .before .before .before .before .before .args in
-    passed-first (a .sheet .now) (a .place)
+loop-holds c = passed-first
 
 add-x : tie.Need-add-x Inv-loop μ-loop
 add-x c = let w = inside c in omega arith
@@ -78,7 +84,7 @@ shared-slice-read-wide16-2 : tie.Need-shared-slice-read-wide16-2 Inv-loop μ-loo
 shared-slice-read-wide16-2 c =
     let n = c .before .before .before .before in
     let b = n .before .before .before .before .before .before .before in
-    omega (arith, inside n, b .pre .1 .0)
+    omega (arith, inside n, b .pre .0 .long)
 
 wide16-requires-2 : tie.Need-wide16-requires-2 Inv-loop μ-loop
 wide16-requires-2 c κs = search needs
@@ -87,8 +93,8 @@ add-at-2 : tie.Need-add-at-2 Inv-loop μ-loop
 add-at-2 c =
     let n = c .before .before .before .before .before in
     let b = n .before .before .before .before .before .before .before in
-    let w = passed-room (b .args .sheet .now) (b .pre .0 .0) (b .args .place) (b .pre .0 .1) (n .before .loop .inv) (here n) (b .args .sizes .now) (b .pre .1 .1) (c .wide162 .ensures .0) in
-    omega arith
+    let w = hop-within (sheet-sizes (b .pre .0)) (entry n) (c .wide162 .ensures .0) in
+    omega (arith, length-drop 2 (b .args .sheet .now), b .pre .0 .sheet .whole)
 
 add-i : tie.Need-add-i Inv-loop μ-loop
 add-i c = omega arith
@@ -101,13 +107,14 @@ loop-again c =
     let n = c .before .before .before .before .before in
     let b = n .before .before .before .before .before .before .before in
     let other = eqb-false (getD (b .args .sheet .now) (2 + n .before .loop .at) 0) 16384 (c .before .before .if2 .left) in
-    passed-more (b .args .sheet .now) (b .pre .0 .0) (b .args .place) (b .pre .0 .1) (n .before .loop .inv) (here n) (b .args .sizes .now) (b .pre .1 .1) (c .wide162 .ensures .0) (c .before .before .before .if1 .left) other
+    let none-here = no-constant (b .pre .0 .sheet) (b .pre .1) (n .before .loop .inv .here) (here n) (c .before .before .before .if1 .left) other in
+    passed-more (sheet-sizes (b .pre .0)) (entry n) (c .wide162 .ensures .0) (n .before .loop .inv) none-here
 
 returns-2 : tie.Need-returns-2 Inv-loop μ-loop
 returns-2 c e =
     let n = c .before in
     let b = n .before .before .before .before .before .before in
-    passed-all (b .args .sheet .now) (b .pre .0 .0) (b .args .place) (b .pre .0 .1) (n .loop .inv) (omega (arith, counted (n .before), c .loop-test .left))
+    passed-all (b .pre .0 .sheet) (b .pre .1) (n .loop .inv .before) (omega (arith, counted (n .before)))
 
 pub has-constant-spec : {M : Type 1} → statement M
 has-constant-spec =

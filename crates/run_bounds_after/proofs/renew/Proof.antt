@@ -1,11 +1,10 @@
 -- `run_bounds_after::renew` meets its contract: entries go, ones are put, and three entries are set.
 use mathlib.Core.Path.{_≡_, sym, ap, _∙_}
 use Prim.Native.Nat.{_-_}
-use native.Mathlib.Omega.{arith}
 use borrow.Author.Needs.{needs}
 use lib.ListN.{length, getD, set, length-set}
 use Rattle.model.specs.Limits.{sheet-room}
-use Rattle.run_bounds_after.proofs.RenewedEntries.{Ones, gone, renewed}
+use Rattle.run_bounds_after.proofs.RenewedEntries.{Ones, gone, l1, l2, renewed}
 use Rattle.run_bounds_after.proofs.renew.Statement.{statement}
 use Rattle.run_bounds_after.proofs.renew.Tie as tie
 
@@ -13,10 +12,9 @@ use Rattle.run_bounds_after.proofs.renew.Tie as tie
 whole : (c : tie.After-put-ones) → length (c .put-ones .last .0) ≡ sheet-room
 whole c =
     let d = c .before .before .before .before in
-    let b = d .before .before .before in
-    c .put-ones .kept .0 ∙ d .close-up .kept .0 ∙ b .pre .0 .0
+    c .put-ones .kept .0 ∙ d .close-up .kept .0 ∙ d .before .before .before .before .pre .0
 
-ones : (c : tie.After-put-ones) → let a = c .before .before .before .before .before .before .before .args in Ones (a .from) (a .new) (gone (a .low .now) (a .new) (a .old - a .new)) (c .put-ones .last .0)
+ones : (c : tie.After-put-ones) → let a = c .before .before .before .before .before .before .before .before .args in let z = a .plan .zone in Ones (z .from) (z .new) (gone (a .low .now) (z .new) (z .old - z .new)) (c .put-ones .last .0)
 ones c =
     let d = c .before .before .before .before in
     let e = c .put-ones .ensures in
@@ -44,8 +42,8 @@ mul-low-2 c = search needs
 slice-write-low-2 : tie.Need-slice-write-low-2
 slice-write-low-2 c =
     let d = c .before .before in
-    let a = d .before .before .before .before .before .before .before .args in
-    omega (arith, whole d, length-set (d .put-ones .last .0) (a .place) 1)
+    let b = d .before .before .before .before .before .before .before .before in
+    l1 (b .args .plan) (b .pre .1) (b .args .low .now) (d .put-ones .last .0) (b .pre .0) (whole d)
 
 mul-low-3 : tie.Need-mul-low-3
 mul-low-3 c = search needs
@@ -53,23 +51,19 @@ mul-low-3 c = search needs
 slice-write-low-3 : tie.Need-slice-write-low-3
 slice-write-low-3 c =
     let d = c .before .before in
-    let a = d .before .before .before .before .before .before .before .args in
-    omega (arith, whole d, length-set (d .put-ones .last .0) (a .place) 1, length-set (set (d .put-ones .last .0) (a .place) 1) (a .inner) 1)
+    let b = d .before .before .before .before .before .before .before .before in
+    l2 (b .args .plan) (b .pre .1) (b .args .low .now) (d .put-ones .last .0) (b .pre .0) (whole d)
 
 same-length : tie.Need-same-length
 same-length c =
     let d = c .before .before in
-    let b = d .before .before .before .before .before .before .before in
-    let a = b .args in
-    let o = d .put-ones .last .0 in
-    length-set (set (set o (a .place) 1) (a .inner) 1) (a .outer) 1 ∙ length-set (set o (a .place) 1) (a .inner) 1 ∙ length-set o (a .place) 1 ∙ whole d ∙ sym (b .pre .0 .0)
+    simp length-set (whole d ∙ sym (d .before .before .before .before .before .before .before .before .pre .0))
 
 returns : tie.Need-returns
 returns c =
     let d = c .before .before in
-    let b = d .before .before .before .before .before .before .before in
-    let a = b .args in
-    renewed (a .low .now) (d .put-ones .last .0) (a .from) (a .old) (a .new) (a .place) (a .inner) (a .outer) (b .pre .0 .0) (whole d) (b .pre .0 .1) (b .pre .0 .2) (b .pre .0 .3) (b .pre .1 .0) (b .pre .1 .1) (b .pre .1 .2) (ones d)
+    let b = d .before .before .before .before .before .before .before .before in
+    renewed (b .args .plan) (b .pre .1) (b .args .low .now) (d .put-ones .last .0) (b .pre .0) (whole d) (ones d)
 
 pub renew-spec : {M : Type 1} → statement M
 renew-spec =

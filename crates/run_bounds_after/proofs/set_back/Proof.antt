@@ -22,17 +22,17 @@ abbrev μ-loop : tie.MeasureT-loop
 inside : (c : tie.In-loop Inv-loop μ-loop) → c .before .loop .place < sheet-room
 inside c =
     let b = c .before .before .before .before .before in
-    omega (arith, b .pre .0 .2, c .loop-test .taken, (b .pre .0 .0) .used)
+    omega (arith, b .pre .1 .1 .1, c .loop-test .taken, b .pre .0 .sheet .used)
 
 loop-holds : tie.Need-loop-holds Inv-loop μ-loop
 loop-holds c =
     let b = c .before .before .before in
-    ((omega arith, b .pre .0 .1), b .pre .1 .1, set-none (b .args .from) (nodes-in (b .args .sheet .now)) (b .args .low .now))
+    ((omega arith, b .pre .1 .1 .0), b .pre .1 .0, set-none (b .args .from) (nodes-in (b .args .sheet .now)) (b .args .low .now))
 
 has-constant-requires : tie.Need-has-constant-requires Inv-loop μ-loop
 has-constant-requires c κs =
     let b = c .before .before .before .before .before in
-    ((b .pre .0 .0, omega (arith, b .pre .0 .2, c .loop-test .taken)), b .pre .1 .0)
+    (b .pre .0, omega (arith, b .pre .1 .1 .1, c .loop-test .taken))
 
 mul-low : tie.Need-mul-low Inv-loop μ-loop
 mul-low c = let w = inside (c .before .before) in omega arith
@@ -65,7 +65,7 @@ same-length : tie.Need-same-length Inv-loop μ-loop
 same-length c =
     let n = c .before in
     let b = n .before .before .before .before in
-    n .loop .inv .1 ∙ sym (b .pre .1 .1)
+    n .loop .inv .1 ∙ sym (b .pre .1 .0)
 
 returns : tie.Need-returns Inv-loop μ-loop
 returns c =

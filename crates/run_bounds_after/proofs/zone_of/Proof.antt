@@ -1,108 +1,140 @@
 -- `run_bounds_after::zone_of` meets its contract: the rule's number says which zone it is.
-use mathlib.Core.Path.{_≡_, ap, _∙_}
+use mathlib.Core.Logic.{⊎-elim}
+use mathlib.Core.Path.{_≡_, refl, ap, _∙_}
 use Prim.Native.Nat.{_+_, _≤_, _<_}
 use native.Mathlib.Omega.{arith}
 use borrow.Author.Needs.{needs}
 use Rattle.model.specs.Limits.{sheet-room, last-rule}
 use Rattle.model.specs.Sheet.{nodes-in}
 use Rattle.locality.specs.Zones.{tree-end}
-use Rattle.run_bounds_after.proofs.SheetZones.{within, rules, child, end-by, zone-1, zone-4, zone-7, zone-14}
+use Rattle.run_bounds_after.proofs.SheetZones.{within, rules, child, end-by, zone-1, zone-4, zone-7, zone-9, zone-13, zone-14}
 use Rattle.run_bounds_after.proofs.zone_of.Statement.{statement}
 use Rattle.run_bounds_after.proofs.zone_of.Tie as tie
 
--- The place is one of the nodes.
-here : (c : tie.Start) → (c .args .place < sheet-room) × (1 ≤ c .args .rule) × (c .args .rule ≤ last-rule)
+-- The place is one of the nodes, and the rule one of the fourteen.
+here : (c : tie.Start) → (c .args .redex .place < sheet-room) × (1 ≤ c .args .redex .rule) × (c .args .redex .rule ≤ last-rule)
 here c =
     let a = c .args in
-    let w = within (a .sheet .now) (c .pre .0) (a .rule) (a .place) (a .i) (a .j) (c .pre .1 .0) in
-    let r = rules (a .sheet .now) (c .pre .0) (a .rule) (a .place) (a .i) (a .j) (c .pre .1 .0) in
-    (omega (arith, w, (c .pre .0) .used), r .0, r .1)
+    let h = c .pre .0 .sheet in
+    let r = rules (a .sheet .now) h (a .redex) (c .pre .1) in
+    (omega (arith, within (a .sheet .now) h (a .redex) (c .pre .1), h .used), r .0, r .1)
 
-ended : (c : tie.After-wide16) → let a = c .before .before .before .before .before .args in a .place + c .wide16 .result ≡ tree-end (a .place) (nodes-in (a .sheet .now))
+-- Where the tree at the place ends.
+ended : (c : tie.After-wide16) → let a = c .before .before .before .before .args in a .redex .place + c .wide16 .result ≡ tree-end (a .redex .place) (nodes-in (a .sheet .now))
 ended c =
-    let b = c .before .before .before .before .before in
+    let b = c .before .before .before .before in
     let a = b .args in
-    ap (λ n. a .place + n) (c .wide16 .ensures .0) ∙ end-by (a .sheet .now) (b .pre .0) (a .rule) (a .place) (a .i) (a .j) (b .pre .1 .0) (a .sizes .now) (b .pre .1 .1 .1)
+    ap (λ n. a .redex .place + n) (c .wide16 .ensures .0) ∙ end-by (a .sheet .now) (b .pre .0 .sheet) (a .redex) (b .pre .1) (a .sizes .now) (b .pre .0 .each)
 
-returns : tie.Need-returns
-returns c =
-    let b = c .before .before .before in
-    let a = b .args in
-    zone-14 (a .sheet .now) (b .pre .0) (a .rule) (a .place) (a .i) (a .j) (b .pre .1 .0) (c .if1 .taken)
+-- Past 13 and the ranges the rule is the last one.
+last : (c : tie.Joined1) → c .before .before .before .before .before .before .args .redex .rule ≡ 14
+last c =
+    let w = here (c .before .before .before .before .before .before) in
+    let other = c .before .match .rest .1 in
+    ⊎-elim (λ v. omega arith) (λ v. omega (arith, other)) (c .if1 .came)
 
 mul-wide16 : tie.Need-mul-wide16
-mul-wide16 c = let w = here (c .before .before .before) in omega arith
+mul-wide16 c = let w = here (c .before .before) in omega arith
 
 shared-slice-read-wide16 : tie.Need-shared-slice-read-wide16
-shared-slice-read-wide16 c = let b = c .before .before .before .before in let w = here b in omega (arith, b .pre .1 .1 .0)
+shared-slice-read-wide16 c = let b = c .before .before .before in let w = here b in omega (arith, b .pre .0 .long)
 
 wide16-requires : tie.Need-wide16-requires
 wide16-requires c κs = search needs
 
 add-end : tie.Need-add-end
-add-end c = let w = here (c .before .before .before .before .before) in omega arith
-
-add-t14 : tie.Need-add-t14
-add-t14 c = let w = here (c .before .before .before .before .before .before) in omega arith
-
-returns-2 : tie.Need-returns-2
-returns-2 c =
-    let b = c .before .before .before .before .before .before in
-    let a = b .args in
-    rw (ended (c .before)) (zone-1 (a .sheet .now) (b .pre .0) (a .rule) (a .place) (a .i) (a .j) (b .pre .1 .0) (c .if2 .taken))
-
-late-zone-requires : tie.Need-late-zone-requires
-late-zone-requires c κs =
-    let b = c .before .before .before .before .before .before .before in
-    let w = here b in
-    let other = c .before .before .before .before .if1 .left in
-    ((c .if3 .taken, omega arith), (b .pre .0, (b .pre .1 .0, ended (c .before .before))))
-
-returns-3 : tie.Need-returns-3
-returns-3 c = search needs
-
-add-t15 : tie.Need-add-t15
-add-t15 c = let w = here (c .before .before .before .before .before .before .before .before) in omega arith
-
-returns-4 : tie.Need-returns-4
-returns-4 c =
-    let b = c .before .before .before .before .before .before .before .before in
-    let a = b .args in
-    let high = c .before .if3 .left in
-    zone-7 (a .sheet .now) (b .pre .0) (a .rule) (a .place) (a .i) (a .j) (b .pre .1 .0) (c .if4 .taken) (omega arith)
+add-end c = let w = here (c .before .before .before .before) in omega arith
 
 child-place-requires : tie.Need-child-place-requires
 child-place-requires c κs =
-    let b = c .before .before .before .before .before .before .before .before in
-    let a = b .args in
-    (b .pre .0, child (a .sheet .now) (b .pre .0) (a .rule) (a .place) (a .i) (a .j) (b .pre .1 .0))
+    let b = c .before .before .before .before .before in
+    (b .pre .0 .sheet, child (b .args .sheet .now) (b .pre .0 .sheet) (b .args .redex) (b .pre .1))
 
-add-t10 : tie.Need-add-t10
-add-t10 c = search needs
+node-gone-requires : tie.Need-node-gone-requires
+node-gone-requires c κs = search needs
+
+add-t14 : tie.Need-add-t14
+add-t14 c = let w = here (c .before .before .before .before .before .before .before) in omega arith
+
+child-place-requires-2 : tie.Need-child-place-requires-2
+child-place-requires-2 c κs =
+    let b = c .before .before .before .before .before .before .before .before in
+    (b .pre .0 .sheet, child (b .args .sheet .now) (b .pre .0 .sheet) (b .args .redex) (b .pre .1))
+
+node-gone-requires-2 : tie.Need-node-gone-requires-2
+node-gone-requires-2 c κs = search needs
+
+node-gone-requires-3 : tie.Need-node-gone-requires-3
+node-gone-requires-3 c κs = here (c .before .before .before .before .before .before .before .before .before) .0
+
+unmoved-requires : tie.Need-unmoved-requires
+unmoved-requires c κs = search needs
+
+lifted-zone-requires : tie.Need-lifted-zone-requires
+lifted-zone-requires c κs = search needs
+
+unmoved-requires-2 : tie.Need-unmoved-requires-2
+unmoved-requires-2 c κs = search needs
+
+returns : tie.Need-returns
+returns c =
+    let b = c .before .before .before .before .before .before .before in
+    zone-13 (b .args .sheet .now) (b .pre .0 .sheet) (b .args .redex) (b .pre .1) (c .node-gone .ensures) (c .before .before .match .keys1) (c .before .child-place .ensures .0)
+
+returns-2 : tie.Need-returns-2
+returns-2 c =
+    let e = c .before .before .before in
+    let b = e .before .before .before .before in
+    zone-1 (b .args .sheet .now) (b .pre .0 .sheet) (b .args .redex) (b .pre .1) (omega arith) refl (ended e) refl
+
+returns-3 : tie.Need-returns-3
+returns-3 c =
+    let t = c .before .before in
+    let b = t .before .before .before .before .before .before .before .before in
+    zone-4 (b .args .sheet .now) (b .pre .0 .sheet) (b .args .redex) (b .pre .1) (c .node-gone2 .ensures) (omega (arith, t .before .if2 .left)) (omega (arith, t .if3 .taken)) (c .before .child-place2 .ensures .0)
+
+returns-4 : tie.Need-returns-4
+returns-4 c =
+    let t = c .before in
+    let b = t .before .before .before .before .before .before .before .before .before in
+    zone-7 (b .args .sheet .now) (b .pre .0 .sheet) (b .args .redex) (b .pre .1) (c .node-gone3 .ensures) (omega (arith, t .before .if3 .left)) (omega (arith, t .if4 .taken)) refl
 
 returns-5 : tie.Need-returns-5
 returns-5 c =
-    let b = c .before .before .before .before .before .before .before .before .before in
-    let a = b .args in
-    let low = c .before .before .before .if2 .left in
-    let high = c .before .if4 .left in
-    rw (c .child-place .ensures .0) (zone-4 (a .sheet .now) (b .pre .0) (a .rule) (a .place) (a .i) (a .j) (b .pre .1 .0) (omega arith) (omega arith))
+    let t = c .before in
+    let e = t .before .before .before .before .before .before in
+    let b = e .before .before .before .before in
+    zone-9 (b .args .sheet .now) (b .pre .0 .sheet) (b .args .redex) (b .pre .1) (c .unmoved .ensures) (omega (arith, t .before .if4 .left)) (omega (arith, t .if5 .taken)) (ended e)
+
+returns-6 : tie.Need-returns-6
+returns-6 c = search needs
+
+returns-7 : tie.Need-returns-7
+returns-7 c =
+    let b = c .before .before .before .before .before .before .before in
+    zone-14 (b .args .sheet .now) (b .pre .0 .sheet) (b .args .redex) (b .pre .1) (c .unmoved2 .ensures) (last (c .before)) refl
 
 pub zone-of-spec : {M : Type 1} → statement M
 zone-of-spec =
     tie.close
     (tie.spec
-    returns
     mul-wide16
     shared-slice-read-wide16
     wide16-requires
     add-end
-    add-t14
-    returns-2
-    late-zone-requires
-    returns-3
-    add-t15
-    returns-4
     child-place-requires
-    add-t10
-    returns-5)
+    node-gone-requires
+    add-t14
+    child-place-requires-2
+    node-gone-requires-2
+    node-gone-requires-3
+    unmoved-requires
+    lifted-zone-requires
+    unmoved-requires-2
+    returns
+    returns-2
+    returns-3
+    returns-4
+    returns-5
+    returns-6
+    returns-7)

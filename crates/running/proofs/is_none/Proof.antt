@@ -2,7 +2,7 @@
 use mathlib.Core.Path.{ap}
 use borrow.Author.Needs.{needs}
 use Rattle.model.specs.Base.{maybe}
-use Rattle.search.specs.Meaning.{nextOf}
+use Rattle.search.specs.Redexes.{nextOf}
 use Rattle.running.proofs.is_none.Statement.{statement}
 use Rattle.running.proofs.is_none.Tie as tie
 

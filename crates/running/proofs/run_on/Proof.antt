@@ -1,13 +1,12 @@
 -- `running::run_on` meets its contract: the run with tables made for it.
-use mathlib.Core.Path.{_≡_, refl, subst}
+use mathlib.Core.Path.{_≡_, subst}
 use native.Mathlib.Omega.{arith}
 use borrow.Author.Needs.{needs}
 use lib.ListN.{length, length-drop}
 use Rattle.lists.proofs.Lent.{lent-part}
 use Rattle.model.specs.Limits.{sheet-length}
-use Rattle.model.specs.Sheet.{nodes-in, used-in}
-use Rattle.sizes.specs.Tables.{Sized}
-use Rattle.running.proofs.Laws.{ones-bounds, ones-high}
+use Rattle.sizes.specs.SizeTables.{Sizes-from}
+use Rattle.running.proofs.StartAndEnd.{come-to-start}
 use Rattle.running.proofs.run_on.Statement.{statement}
 use Rattle.running.proofs.run_on.Tie as tie
 
@@ -43,8 +42,8 @@ run-by-requires c κs =
     let f = c .before .before .before .before in
     let a = f .before .before .before .before .before in
     let s = a .args .sheet .now in
-    let facts = (a .pre) in
-    (a .pre, ((f .fill .kept .1 .0, subst (λ l. Sized 0 l (f .fill .last .1 .0)) (lent-part 2 s) (f .fill .ensures)), (refl, ones-bounds (nodes-in s) (omega (arith, facts .count, facts .used)), ones-high (used-in s) (facts .used))))
+    let each = subst (λ l. Sizes-from 0 l (f .fill .last .1 .0)) (lent-part 2 s) (f .fill .ensures) in
+    come-to-start (record { sheet = a .pre; long = f .fill .kept .1 .0; each = each })
 
 same-length : tie.Need-same-length
 same-length c = search needs

@@ -1,21 +1,27 @@
 -- `search::first_constant` meets its contract. Invariant: child i begins at the present place, and none before it is the constant.
-use mathlib.Core.Path.{_≡_, ap, _∙_}
+use mathlib.Core.Bool.{false}
+use mathlib.Core.Path.{_≡_, sym, ap, _∙_}
 use Prim.Native.Nat.{_-_, _≤_, _<_}
 use native.Mathlib.Omega.{arith}
 use borrow.Author.Needs.{needs}
-use lib.ListN.{length, getD, drop}
-use Rattle.model.specs.Limits.{sheet-room}
+use borrow.Author.Tests.{eq-eqb, ne-eqb}
+use lib.Dec.{eqb}
+use lib.ListN.{length, getD}
+use Rattle.model.specs.Base.{is-some}
 use Rattle.model.specs.Code.{children}
-use Rattle.theory.specs.Spans.{span}
-use Rattle.theory.specs.Children.{headed-group, group-long}
-use Rattle.sizes.proofs.Laws.{span-one}
-use Rattle.search.proofs.Children.{child-inside}
-use Rattle.search.proofs.Firsts.{Passed, passed-first, passed-found, passed-more, passed-all}
+use Rattle.model.specs.Limits.{sheet-room}
+use Rattle.model.specs.Rules.{rewrite}
+use Rattle.theory.specs.Stretches.{forest-in}
+use Rattle.theory.specs.Children.{headed-group, group-long, counted-child}
+use Rattle.sizes.specs.TreeHops.{Passed, passed-first, hop-within, passed-more}
+use Rattle.sizes.specs.FirstApplying.{first-here, first-past}
+use Rattle.search.proofs.FirstChildren.{constant-asked}
 use Rattle.search.proofs.first_constant.Statement.{statement}
 use Rattle.search.proofs.first_constant.Tie as tie
 
 abbrev Inv-loop : tie.InvT-loop
-Inv-loop part sizes rule constant k i₀ at₀ i at = Passed rule i at part
+Inv-loop part sizes rule constant k i₀ at₀ i at =
+    Passed (λ q. is-some (rewrite rule q 0 (forest-in part)) ≡ false) 1 part i at × (i ≤ k)
 
 abbrev μ-loop : tie.MeasureT-loop
 μ-loop part sizes rule constant k i₀ at₀ i at = k - i
@@ -30,7 +36,14 @@ here c = omega (arith, counted (c .before .before), c .loop-test .taken)
 inside : (c : tie.In-loop Inv-loop μ-loop) → let a = c .before .before .before .before .before .before .before .before .args in (c .before .loop .at < length (a .part .now)) × (length (a .part .now) ≤ sheet-room)
 inside c =
     let b = c .before .before .before .before .before .before .before .before in
-    child-inside (b .pre .1 .0) (b .pre .1 .1 .0) (here c) (c .before .loop .inv .here)
+    let w = counted-child (b .pre .1 .0) (b .pre .1 .1 .0) (here c, c .before .loop .inv .0 .here) in
+    (w .1, w .2)
+
+-- Its number says what the rule asks.
+asked : (c : tie.In-loop Inv-loop μ-loop) → let b = c .before .before .before .before .before .before .before .before in let l = b .args .part .now in eqb (getD l (c .before .loop .at) 0) (c .before .before .before .before .before .constant-for .result) ≡ is-some (rewrite (b .args .rule) (c .before .loop .i) 0 (forest-in l))
+asked c =
+    let b = c .before .before .before .before .before .before .before .before in
+    constant-asked (b .pre .1 .0) (b .pre .1 .1 .0) (b .pre .0 .1) (here c) (c .before .loop .inv .0 .here) (c .before .before .before .before .before .constant-for .ensures)
 
 constant-for-requires : tie.Need-constant-for-requires Inv-loop μ-loop
 constant-for-requires c κs = search needs
@@ -47,9 +60,7 @@ children-of-requires : tie.Need-children-of-requires Inv-loop μ-loop
 children-of-requires c κs = search needs
 
 loop-holds : tie.Need-loop-holds Inv-loop μ-loop
-loop-holds c =
-    let a = c .before .before .before .before .before .before .args in
-    passed-first (a .rule) (a .part .now)
+loop-holds c = (passed-first, omega arith)
 
 mul-if1 : tie.Need-mul-if1 Inv-loop μ-loop
 mul-if1 c = let w = inside c in omega arith
@@ -60,9 +71,7 @@ shared-slice-read-if1 c = inside (c .before) .0
 returns : tie.Need-returns Inv-loop μ-loop
 returns c =
     let n = c .before .before in
-    let b = n .before .before .before .before .before .before .before .before in
-    let f = n .before .before .before .before .before in
-    passed-found (b .pre .1 .0) (b .pre .1 .1 .0) (b .pre .0 .1) (n .before .loop .inv) (here n) (f .constant-for .ensures) (c .if1 .taken)
+    first-here (omega (arith, here n)) (n .before .loop .inv .0 .before) (sym (asked n) ∙ eq-eqb _ _ (c .if1 .taken))
 
 mul-wide16 : tie.Need-mul-wide16 Inv-loop μ-loop
 mul-wide16 c = let w = inside (c .before .before) in omega arith
@@ -71,24 +80,17 @@ shared-slice-read-wide16-2 : tie.Need-shared-slice-read-wide16-2 Inv-loop μ-loo
 shared-slice-read-wide16-2 c =
     let n = c .before .before .before in
     let b = n .before .before .before .before .before .before .before .before in
-    omega (arith, inside n .0, b .pre .1 .1 .1 .0)
+    omega (arith, inside n .0, b .pre .1 .1 .1 .long)
 
 wide16-requires-2 : tie.Need-wide16-requires-2 Inv-loop μ-loop
 wide16-requires-2 c κs = search needs
 
--- One hop.
-hop : (c : tie.After-wide162 Inv-loop μ-loop) → let n = c .before .before .before .before .before in let a = n .before .before .before .before .before .before .before .args in c .wide162 .result ≡ span 1 (drop (n .loop .at) (a .part .now))
-hop c =
-    let n = c .before .before .before .before .before in
-    let b = n .before .before .before .before .before .before .before in
-    c .wide162 .ensures .0 ∙ b .pre .1 .1 .1 .1 (n .loop .at) (omega arith) (inside (c .before .before .before .before) .0)
-
 add-at : tie.Need-add-at Inv-loop μ-loop
 add-at c =
-    let n = c .before .before .before .before .before in
-    let a = n .before .before .before .before .before .before .before .args in
-    let w = inside (c .before .before .before .before) in
-    omega (arith, hop c, span-one (n .loop .at) (a .part .now) (w .0) .1)
+    let n = c .before .before .before .before in
+    let b = n .before .before .before .before .before .before .before .before in
+    let w = inside n in
+    omega (arith, hop-within (b .pre .1 .1 .1) (w .0) (c .wide162 .ensures .0))
 
 add-i : tie.Need-add-i Inv-loop μ-loop
 add-i c = omega arith
@@ -98,14 +100,16 @@ loop-less c = omega arith
 
 loop-again : tie.Need-loop-again Inv-loop μ-loop
 loop-again c =
-    let t = c .before .before .before .before in
-    let n = t .before in
-    let b = n .before .before .before .before .before .before .before in
-    let f = n .before .before .before .before in
-    passed-more (b .pre .1 .0) (b .pre .1 .1 .0) (b .pre .0 .1) (n .loop .inv) (here t) (f .constant-for .ensures) (c .before .before .if1 .left) (hop c)
+    let n = c .before .before .before .before in
+    let b = n .before .before .before .before .before .before .before .before in
+    let none-here = sym (asked n) ∙ ne-eqb _ _ (c .before .before .if1 .left) in
+    (passed-more (b .pre .1 .1 .1) (inside n .0) (c .wide162 .ensures .0) (n .before .loop .inv .0) none-here, omega arith)
 
 returns-2 : tie.Need-returns-2 Inv-loop μ-loop
-returns-2 c = passed-all (c .before .loop .inv) (counted (c .before .before)) (omega arith)
+returns-2 c =
+    let n = c .before in
+    let all : n .loop .i ≡ n .before .children-of .result = omega arith in
+    first-past (counted (n .before)) (rw all at (n .loop .inv .0 .before))
 
 pub first-constant-spec : {M : Type 1} → statement M
 first-constant-spec =

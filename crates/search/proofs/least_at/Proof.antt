@@ -3,14 +3,14 @@ use mathlib.Core.Path.{ap, _∙_}
 use native.Mathlib.Omega.{arith}
 use borrow.Author.Needs.{needs}
 use Rattle.model.specs.Strategy.{least-i}
-use Rattle.search.proofs.Places.{Lent-at, lent-at}
+use Rattle.search.proofs.LentStretch.{Lent-at, lent-at}
 use Rattle.search.proofs.least_at.Statement.{statement}
 use Rattle.search.proofs.least_at.Tie as tie
 
 known : (c : tie.Start) → let a = c .args in Lent-at (a .sheet .now) (a .sizes .now) (a .place)
 known c =
     let a = c .args in
-    lent-at (a .sheet .now) (a .sizes .now) (a .place) (c .pre .1 .0 .0) (c .pre .1 .0 .1) (c .pre .1 .1 .0) (c .pre .1 .1 .1)
+    lent-at (a .place) (c .pre .1 .0) (c .pre .1 .1)
 
 add-from : tie.Need-add-from
 add-from c = omega (arith, known (c .before .before) .within)
@@ -31,10 +31,10 @@ mul-least-child-2 : tie.Need-mul-least-child-2
 mul-least-child-2 c = omega (arith, known (c .before .before .before) .within)
 
 sub-least-child-2 : tie.Need-sub-least-child-2
-sub-least-child-2 c = let b = c .before .before .before in omega (arith, known b .within, b .pre .1 .1 .0)
+sub-least-child-2 c = let b = c .before .before .before in omega (arith, known b .within, b .pre .1 .0 .long)
 
 part-least-child-start-2 : tie.Need-part-least-child-start-2
-part-least-child-start-2 c = let b = c .before .before .before in omega (arith, known b .within, b .pre .1 .1 .0)
+part-least-child-start-2 c = let b = c .before .before .before in omega (arith, known b .within, b .pre .1 .0 .long)
 
 part-least-child-end-2 : tie.Need-part-least-child-end-2
 part-least-child-end-2 c = search needs
@@ -43,7 +43,7 @@ least-child-requires : tie.Need-least-child-requires
 least-child-requires c κs =
     let b = c .before .before .before .before in
     let k = known b in
-    rw (k .lent, k .lent-table) ((b .pre .0 .0, b .pre .0 .1, k .long), (k .stretch, (k .same-length, k .sized)))
+    rw (k .lent, k .lent-table) ((b .pre .0 .0, b .pre .0 .1, k .long), (k .stretch, k .sizes))
 
 returns : tie.Need-returns
 returns c =

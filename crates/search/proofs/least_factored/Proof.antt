@@ -7,7 +7,7 @@ use lib.ListN.{length, getD}
 use Rattle.model.specs.Limits.{sheet-room}
 use Rattle.theory.specs.Spans.{arity}
 use Rattle.theory.specs.Children.{counted-child, headed-group, group-few}
-use Rattle.search.proofs.Firsts.{late-none, inner-found, inner-over}
+use Rattle.search.proofs.FirstChildren.{late-none, inner-found, inner-over}
 use Rattle.search.proofs.least_factored.Statement.{statement}
 use Rattle.search.proofs.least_factored.Tie as tie
 

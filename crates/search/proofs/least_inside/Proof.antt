@@ -4,23 +4,22 @@ use mathlib.Core.Path.{_≡_, sym, ap, _∙_}
 use Prim.Native.Nat.{ℕ, _-_, _≤_, _<_}
 use native.Mathlib.Omega.{arith}
 use borrow.Author.Needs.{needs}
-use lib.ListN.{length, getD, drop}
+use lib.ListN.{length, getD}
 use Rattle.model.specs.Limits.{sheet-room}
 use Rattle.model.specs.Code.{children}
 use Rattle.model.specs.Strategy.{least-j}
-use Rattle.theory.specs.Spans.{child-at, span}
 use Rattle.theory.specs.Stretches.{forest-in}
-use Rattle.theory.specs.Children.{headed-group, group-long}
-use Rattle.sizes.proofs.Laws.{span-one, child-next}
-use Rattle.search.proofs.Laws.{below-more, i-found, i-none}
-use Rattle.search.proofs.Children.{child-first, child-inside, children-counted}
-use Rattle.search.specs.Meaning.{spotOf}
+use Rattle.theory.specs.Children.{headed-group, group-long, counted-child}
+use Rattle.sizes.specs.TreeHops.{Passed, passed-first, hop-within, passed-more}
+use Rattle.search.proofs.SearchLevels.{i-found, i-none}
+use Rattle.search.proofs.FirstChildren.{children-counted}
+use Rattle.search.specs.Redexes.{spotOf}
 use Rattle.search.proofs.least_inside.Statement.{statement}
 use Rattle.search.proofs.least_inside.Tie as tie
 
 abbrev Inv-loop : tie.InvT-loop
 Inv-loop part sizes rule k i₀ at₀ i at =
-    (i ≤ k) × (at ≡ child-at i part) × ((q : ℕ) → q < i → (p : ℕ) → none ≡ least-j rule p q (forest-in part))
+    Passed (λ q. (p : ℕ) → none ≡ least-j rule p q (forest-in part)) 1 part i at
 
 abbrev μ-loop : tie.MeasureT-loop
 μ-loop part sizes rule k i₀ at₀ i at = k - i
@@ -40,16 +39,14 @@ children-of-requires : tie.Need-children-of-requires Inv-loop μ-loop
 children-of-requires c κs = search needs
 
 loop-holds : tie.Need-loop-holds Inv-loop μ-loop
-loop-holds c =
-    let a = c .before .before .before .before .before .args in
-    (omega arith, sym (child-first (a .part .now)), λ q l. absurd (omega arith))
+loop-holds c = passed-first
 
 least-inner-requires : tie.Need-least-inner-requires Inv-loop μ-loop
 least-inner-requires c κs =
     let n = c .before in
     let v = n .before in
     let b = v .before .before .before .before .before in
-    (b .pre .0, (b .pre .1 .0, (b .pre .1 .1 .0, ((omega (arith, counted v), n .loop .inv .1), b .pre .1 .1 .1))))
+    (b .pre .0, (b .pre .1 .0, (b .pre .1 .1 .0, ((omega (arith, counted v), n .loop .inv .here), b .pre .1 .1 .1))))
 
 enum-known-spot : tie.Need-enum-known-spot Inv-loop μ-loop
 enum-known-spot c = search needs
@@ -61,24 +58,18 @@ returns c =
     let v = n .before in
     let b = v .before .before .before .before .before in
     let a = b .args in
-    λ p. i-found (a .rule) p (forest-in (a .part .now)) (n .loop .i) (omega (arith, counted v, children-counted (b .pre .1 .0) (b .pre .1 .1 .0))) (ap (spotOf (a .rule) p) (sym (c .before .spot .given .1)) ∙ d .least-inner .ensures p) (λ q l. n .loop .inv .2 q l p)
+    λ p. i-found (a .rule) p (forest-in (a .part .now)) (n .loop .i) (omega (arith, counted v, children-counted (b .pre .1 .0) (b .pre .1 .1 .0))) (ap (spotOf (a .rule) p) (sym (c .before .spot .given .1)) ∙ d .least-inner .ensures p) (λ q l. n .loop .inv .before q l p)
 
 enum-told : tie.Need-enum-told Inv-loop μ-loop
 enum-told c = search needs
 
--- Child i begins within the stretch, and one hop leads to the next.
+-- Child i begins within the stretch.
 inside : (c : tie.In-loop Inv-loop μ-loop) → let a = c .before .before .before .before .before .before .before .args in (c .before .loop .at < length (a .part .now)) × (length (a .part .now) ≤ sheet-room)
 inside c =
     let n = c .before in
-    let v = n .before in
-    let b = v .before .before .before .before .before in
-    child-inside (b .pre .1 .0) (b .pre .1 .1 .0) (omega (arith, counted v)) (n .loop .inv .1)
-
-hop : (c : tie.After-wide162 Inv-loop μ-loop) → let n = c .before .before .before .before .before .before in let a = n .before .before .before .before .before .before .args in c .wide162 .result ≡ span 1 (drop (n .loop .at) (a .part .now))
-hop c =
-    let n = c .before .before .before .before .before .before in
     let b = n .before .before .before .before .before .before in
-    c .wide162 .ensures .0 ∙ b .pre .1 .1 .1 .1 (n .loop .at) (omega arith) (inside (c .before .before .before .before .before) .0)
+    let w = counted-child (b .pre .1 .0) (b .pre .1 .1 .0) (omega (arith, counted (n .before)), n .loop .inv .here) in
+    (w .1, w .2)
 
 mul-wide16 : tie.Need-mul-wide16 Inv-loop μ-loop
 mul-wide16 c = let w = inside (c .before .before .before) in omega arith
@@ -87,17 +78,17 @@ shared-slice-read-wide16-2 : tie.Need-shared-slice-read-wide16-2 Inv-loop μ-loo
 shared-slice-read-wide16-2 c =
     let n = c .before .before .before .before in
     let b = n .before .before .before .before .before .before .before in
-    omega (arith, inside n .0, b .pre .1 .1 .1 .0)
+    omega (arith, inside n .0, b .pre .1 .1 .1 .long)
 
 wide16-requires-2 : tie.Need-wide16-requires-2 Inv-loop μ-loop
 wide16-requires-2 c κs = search needs
 
 add-at : tie.Need-add-at Inv-loop μ-loop
 add-at c =
-    let n = c .before .before .before .before .before .before in
-    let a = n .before .before .before .before .before .before .args in
-    let w = inside (c .before .before .before .before .before) in
-    omega (arith, hop c, span-one (n .loop .at) (a .part .now) (w .0) .1)
+    let n = c .before .before .before .before .before in
+    let b = n .before .before .before .before .before .before .before in
+    let w = inside n in
+    omega (arith, hop-within (b .pre .1 .1 .1) (w .0) (c .wide162 .ensures .0))
 
 add-i : tie.Need-add-i Inv-loop μ-loop
 add-i c = omega arith
@@ -107,12 +98,12 @@ loop-less c = omega arith
 
 loop-again : tie.Need-loop-again Inv-loop μ-loop
 loop-again c =
-    let n = c .before .before .before .before .before .before in
-    let a = n .before .before .before .before .before .before .args in
-    let there = hop c ∙ ap (λ k. span 1 (drop k (a .part .now))) (n .loop .inv .1) in
+    let n = c .before .before .before .before .before in
+    let b = n .before .before .before .before .before .before .before in
+    let rule = b .args .rule in
     let found = c .before .before .before .before in
-    let nothing : (p : ℕ) → none ≡ least-j (a .rule) p (n .loop .i) (forest-in (a .part .now)) = λ p. ap (spotOf (a .rule) p) (sym (c .before .before .enum-told .given .1)) ∙ found .least-inner .ensures p in
-    (omega arith, omega (arith, n .loop .inv .1, there, child-next (n .loop .i) (a .part .now)), below-more (n .loop .i) (n .loop .inv .2) nothing)
+    passed-more (b .pre .1 .1 .1) (inside n .0) (c .wide162 .ensures .0) (n .before .loop .inv)
+    (λ p. ap (spotOf rule p) (sym (c .before .before .enum-told .given .1)) ∙ found .least-inner .ensures p)
 
 returns-2 : tie.Need-returns-2 Inv-loop μ-loop
 returns-2 c =
@@ -120,7 +111,7 @@ returns-2 c =
     let v = n .before in
     let b = v .before .before .before .before .before in
     let a = b .args in
-    λ p. i-none (a .rule) p (forest-in (a .part .now)) (λ q l. n .loop .inv .2 q (omega (arith, counted v, children-counted (b .pre .1 .0) (b .pre .1 .1 .0))) p)
+    λ p. i-none (a .rule) p (forest-in (a .part .now)) (λ q l. n .loop .inv .before q (omega (arith, counted v, children-counted (b .pre .1 .0) (b .pre .1 .1 .0))) p)
 
 pub least-inside-spec : {M : Type 1} → statement M
 least-inside-spec =

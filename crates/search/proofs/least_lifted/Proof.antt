@@ -10,21 +10,18 @@ use Rattle.model.specs.Limits.{sheet-room}
 use Rattle.model.specs.Code.{kind, children}
 use Rattle.model.specs.Rules.{rewrite}
 use Rattle.theory.specs.Scan.{is-literal}
-use Rattle.theory.specs.Spans.{child-at, span}
+use Rattle.theory.specs.Spans.{child-at}
 use Rattle.theory.specs.Stretches.{forest-in}
 use Rattle.theory.specs.Children.{counted-child}
-use Rattle.sizes.proofs.Laws.{span-one}
-use Rattle.commons.proofs.Inner.{inner-first, inner-next}
-use Rattle.search.proofs.Laws.{below-more, j-found}
-use Rattle.search.proofs.Inner.{lifts-nothing, inner-room, inner-test, inner-none}
+use Rattle.sizes.specs.TreeHops.{inner-at, Passed, passed-first, hop-within, passed-more}
+use Rattle.search.proofs.SearchLevels.{j-found}
+use Rattle.search.proofs.InnerSearch.{lifts-nothing, inner-room, inner-test, inner-none}
 use Rattle.search.proofs.least_lifted.Statement.{statement}
 use Rattle.search.proofs.least_lifted.Tie as tie
 
 abbrev Inv-loop : tie.InvT-loop
 Inv-loop part sizes rule i at head m j₀ from₀ j from =
-    (j ≤ m)
-    × (from ≡ at + child-at j (drop at part))
-    × ((k : ℕ) → k < j → is-some (rewrite rule i k (forest-in part)) ≡ false)
+    Passed (λ k. is-some (rewrite rule i k (forest-in part)) ≡ false) (at + 1) part j from
 
 abbrev μ-loop : tie.MeasureT-loop
 μ-loop part sizes rule i at head m j₀ from₀ j from = m - j
@@ -65,9 +62,13 @@ add-from : tie.Need-add-from Inv-loop μ-loop
 add-from c = let w = child (c .before .before .before .before .before .before .before) in omega arith
 
 loop-holds : tie.Need-loop-holds Inv-loop μ-loop
-loop-holds c =
-    let a = c .before .before .before .before .before .before .before .args in
-    (omega arith, sym (inner-first (a .at) (a .part .now)), λ k l. absurd (omega arith))
+loop-holds c = passed-first
+
+-- Where inner child j begins, as the rule's laws say it.
+placed : (c : tie.At-loop Inv-loop μ-loop) → let a = c .before .before .before .before .before .before .before .before .args in c .loop .from ≡ a .at + child-at (c .loop .j) (drop (a .at) (a .part .now))
+placed c =
+    let a = c .before .before .before .before .before .before .before .before .args in
+    c .loop .inv .here ∙ sym (inner-at (a .at) (c .loop .j) (a .part .now))
 
 -- The place of inner child j is within the stretch, and its number says what the rule asks.
 inside : (c : tie.In-loop Inv-loop μ-loop) → let a = c .before .before .before .before .before .before .before .before .before .args in (c .before .loop .from < length (a .part .now)) × (length (a .part .now) ≤ sheet-room)
@@ -75,14 +76,14 @@ inside c =
     let v = c .before .before in
     let b = v .before .before .before .before .before .before .before in
     let room = inner-room (b .pre .1 .0) (b .pre .1 .1 .0) (b .args .i) (b .pre .0 .0) (b .pre .0 .1) (b .pre .1 .1 .1 .0 .0) (b .pre .1 .1 .1 .0 .1) (conjunction (v .before)) (c .before .loop .j) (omega (arith, counted v)) in
-    (omega (arith, room), child b .1)
+    (omega (arith, room, placed (c .before)), child b .1)
 
 tested : (c : tie.After-is-literal Inv-loop μ-loop) → let n = c .before .before .before .before in let a = n .before .before .before .before .before .before .before .before .args in c .is-literal .result ≡ is-some (rewrite (a .rule) (a .i) (n .loop .j) (forest-in (a .part .now)))
 tested c =
     let n = c .before .before .before .before in
     let v = n .before in
     let b = v .before .before .before .before .before .before .before in
-    let read = c .is-literal .ensures ∙ ap is-literal (c .before .wide162 .ensures .0 ∙ ap (λ k. getD (b .args .part .now) k 0) (n .loop .inv .1)) in
+    let read = c .is-literal .ensures ∙ ap is-literal (c .before .wide162 .ensures .0 ∙ ap (λ k. getD (b .args .part .now) k 0) (placed n)) in
     read
     ∙ inner-test (b .pre .1 .0) (b .pre .1 .1 .0) (b .args .i) (b .pre .0 .0) (b .pre .0 .1) (b .pre .1 .1 .1 .0 .0) (b .pre .1 .1 .1 .0 .1) (conjunction (v .before)) (n .loop .j) (omega (arith, counted v))
 
@@ -102,7 +103,7 @@ returns-2 : tie.Need-returns-2 Inv-loop μ-loop
 returns-2 c =
     let n = c .before .before .before .before .before in
     let a = n .before .before .before .before .before .before .before .before .args in
-    λ p. j-found (a .rule) p (forest-in (a .part .now)) (a .i) (n .loop .j) (sym (tested (c .before)) ∙ c .if2 .taken) (n .loop .inv .2)
+    λ p. j-found (a .rule) p (forest-in (a .part .now)) (a .i) (n .loop .j) (sym (tested (c .before)) ∙ c .if2 .taken) (n .loop .inv .before)
 
 mul-wide16-3 : tie.Need-mul-wide16-3 Inv-loop μ-loop
 mul-wide16-3 c = let w = inside (c .before .before .before .before) in omega arith
@@ -111,24 +112,17 @@ shared-slice-read-wide16-3 : tie.Need-shared-slice-read-wide16-3 Inv-loop μ-loo
 shared-slice-read-wide16-3 c =
     let n = c .before .before .before .before .before in
     let b = n .before .before .before .before .before .before .before .before .before in
-    omega (arith, inside n .0, b .pre .1 .1 .1 .1 .0)
+    omega (arith, inside n .0, b .pre .1 .1 .1 .1 .long)
 
 wide16-requires-3 : tie.Need-wide16-requires-3 Inv-loop μ-loop
 wide16-requires-3 c κs = search needs
 
--- One hop.
-hop : (c : tie.After-wide163 Inv-loop μ-loop) → let n = c .before .before .before .before .before .before .before in let a = n .before .before .before .before .before .before .before .before .args in c .wide163 .result ≡ span 1 (drop (n .loop .from) (a .part .now))
-hop c =
-    let n = c .before .before .before .before .before .before .before in
-    let b = n .before .before .before .before .before .before .before .before in
-    c .wide163 .ensures .0 ∙ b .pre .1 .1 .1 .1 .1 (n .loop .from) (omega arith) (inside (c .before .before .before .before .before .before) .0)
-
 add-from-2 : tie.Need-add-from-2 Inv-loop μ-loop
 add-from-2 c =
-    let n = c .before .before .before .before .before .before .before in
-    let w = inside (c .before .before .before .before .before .before) in
-    let a = n .before .before .before .before .before .before .before .before .args in
-    omega (arith, hop c, span-one (n .loop .from) (a .part .now) (w .0) .1)
+    let n = c .before .before .before .before .before .before in
+    let b = n .before .before .before .before .before .before .before .before .before in
+    let w = inside n in
+    omega (arith, hop-within (b .pre .1 .1 .1 .1) (w .0) (c .wide163 .ensures .0))
 
 add-j : tie.Need-add-j Inv-loop μ-loop
 add-j c = omega arith
@@ -138,20 +132,17 @@ loop-less c = omega arith
 
 loop-again : tie.Need-loop-again Inv-loop μ-loop
 loop-again c =
-    let n = c .before .before .before .before .before .before .before in
-    let a = n .before .before .before .before .before .before .before .before .args in
-    let there = hop c ∙ ap (λ k. span 1 (drop k (a .part .now))) (n .loop .inv .1) in (
-      omega arith,
-      omega (arith, n .loop .inv .1, there, inner-next (a .at) (n .loop .j) (a .part .now)),
-      below-more (n .loop .j) (n .loop .inv .2) (sym (tested (c .before .before .before)) ∙ c .before .before .if2 .left),
-    )
+    let n = c .before .before .before .before .before .before in
+    let b = n .before .before .before .before .before .before .before .before .before in
+    let none-here = sym (tested (c .before .before .before)) ∙ c .before .before .if2 .left in
+    passed-more (b .pre .1 .1 .1 .1) (inside n .0) (c .wide163 .ensures .0) (n .before .loop .inv) none-here
 
 returns-3 : tie.Need-returns-3 Inv-loop μ-loop
 returns-3 c =
     let n = c .before in
     let v = n .before in
     let b = v .before .before .before .before .before .before .before in
-    inner-none (b .pre .1 .0) (b .pre .1 .1 .0) (b .args .i) (b .pre .0 .0) (b .pre .0 .1) (b .pre .1 .1 .1 .0 .0) (b .pre .1 .1 .1 .0 .1) (conjunction (v .before)) (λ j l. n .loop .inv .2 j (omega (arith, counted v)))
+    inner-none (b .pre .1 .0) (b .pre .1 .1 .0) (b .args .i) (b .pre .0 .0) (b .pre .0 .1) (b .pre .1 .1 .1 .0 .0) (b .pre .1 .1 .1 .0 .1) (conjunction (v .before)) (λ j l. n .loop .inv .before j (omega (arith, counted v)))
 
 pub least-lifted-spec : {M : Type 1} → statement M
 least-lifted-spec =

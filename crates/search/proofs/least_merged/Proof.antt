@@ -3,8 +3,8 @@ use mathlib.Core.Logic.{inr}
 use mathlib.Core.Path.{refl, sym, _∙_}
 use native.Mathlib.Omega.{arith}
 use Rattle.theory.specs.Children.{counted-child, headed-group, group-few}
-use Rattle.search.proofs.Inner.{flat-found, flat-none}
-use Rattle.search.proofs.Firsts.{merged-late}
+use Rattle.search.proofs.InnerSearch.{flat-found, flat-none}
+use Rattle.search.proofs.FirstChildren.{merged-late}
 use Rattle.search.proofs.least_merged.Statement.{statement}
 use Rattle.search.proofs.least_merged.Tie as tie
 

@@ -6,7 +6,7 @@ use borrow.Author.Needs.{needs}
 use borrow.Author.Tests.{ltb-true, ltb-false}
 use lib.ListN.{length, getD, drop}
 use Rattle.theory.specs.Spans.{arity, span, span-none, span-end}
-use Rattle.sizes.proofs.Laws.{span-tree, span-one, span-hop}
+use Rattle.sizes.specs.TreeHops.{span-tree, span-one, span-hop}
 use Rattle.sizes.proofs.end_at.Statement.{statement}
 use Rattle.sizes.proofs.end_at.Tie as tie
 

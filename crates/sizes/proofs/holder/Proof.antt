@@ -3,7 +3,7 @@ use Prim.Native.Nat.{ℕ, _+_, _-_, _≤_, _<_}
 use native.Mathlib.Omega.{arith}
 use borrow.Author.Needs.{needs}
 use lib.ListN.{getD}
-use Rattle.sizes.proofs.Laws.{nearest, one-more}
+use Rattle.sizes.proofs.SizeEntries.{nearest, one-more}
 use Rattle.sizes.proofs.holder.Statement.{statement}
 use Rattle.sizes.proofs.holder.Tie as tie
 

@@ -5,8 +5,8 @@ use native.Mathlib.Omega.{arith}
 use lib.ListN.{length, getD, drop, length-set}
 use lib.Seq.{getD-set-other}
 use Rattle.theory.specs.Spans.{span}
-use Rattle.sizes.specs.Tables.{Sized}
-use Rattle.sizes.proofs.Laws.{sized-more}
+use Rattle.sizes.specs.SizeTables.{Sizes-from}
+use Rattle.sizes.proofs.SizeEntries.{sized-more}
 use Rattle.sizes.proofs.refill.Statement.{statement}
 use Rattle.sizes.proofs.refill.Tie as tie
 
@@ -14,7 +14,7 @@ abbrev Inv-loop : tie.InvT-loop
 Inv-loop s sizes₀ from to place₀ sizes place =
     ((from ≤ place) × (place ≤ to))
     × (length sizes ≡ length s)
-    × Sized place s sizes
+    × Sizes-from place s sizes
     × ((q : ℕ) → q < from → getD sizes q 0 ≡ getD sizes₀ q 0)
 
 abbrev μ-loop : tie.MeasureT-loop

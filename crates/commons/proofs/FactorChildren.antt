@@ -16,22 +16,16 @@ use Rattle.model.specs.Rules.{rewrite}
 use Rattle.theory.specs.Logic.{true-false, either, fails-if}
 use Rattle.theory.specs.Forests.{size-after}
 use Rattle.theory.specs.Scan.{is-literal}
-use Rattle.theory.specs.Spans.{arity, arity-leaf, arity-head, arity-inner, span, span-none, child-at}
+use Rattle.theory.specs.Spans.{arity, arity-leaf, arity-head, arity-inner, span, child-at}
 use Rattle.theory.specs.Flat.{spell, Fits, fits-lit, fits-tree}
 use Rattle.theory.specs.Stretches.{Stretch, forest-in}
 use Rattle.theory.specs.Heads.{Headed}
 use Rattle.theory.specs.Children.{headed-group, group-children, first-left, child-stands, child-fits}
-use Rattle.sizes.proofs.Laws.{child-next}
-use Rattle.sizes.specs.FirstApplying.{First-inner}
+use Rattle.sizes.specs.FirstApplying.{First-inner, first-here, first-past}
 use Rattle.factor.specs.Walks.{unit-place, unit-of, sharing}
 use Rattle.factor.proofs.Here.{unit-past, unit-inner, unit-again, unit-new}
 use Rattle.factor.proofs.Asking.{asks-nothing, asks-other, asks-shared, conjunction-there, conjunction-room}
 use Rattle.commons.specs.Held.{Filter, Barred}
-
--- What holds below a number and at it holds below the next.
-pub below-more : {P : ℕ → Type 0} (n : ℕ) → ((k : ℕ) → k < n → P k) → P n → (k : ℕ) → k < n + 1 → P k
-below-more {P} n h here k l =
-    ⊎-elim (λ t. h k (ltb-true k n t)) (λ t. let same : n ≡ k = omega (arith, ltb-false k n t) in subst P same here) (either (ltb k n))
 
 -- The number of a child announces its own children.
 first-arity : (z : ℕ) (f g : Forest) → 1 ≤ size g → Fits (g ⊕ f) → arity (getD (spell (g ⊕ f) z) 0 0) ≡ size (kids g)
@@ -55,13 +49,6 @@ child-arity {r} {l} s h i there e =
 pub conjunction-arity : (x : ℕ) → kind x ≡ 3 → arity x ≡ children x
 unfolding is-literal
 conjunction-arity x e = arity-inner x (rw e)
-
--- Where the inner children begin, and the next one.
-pub inner-first : (at : ℕ) (l : List ℕ) → at + child-at 0 (drop at l) ≡ at + 1
-inner-first at l = omega (arith, span-none (drop 1 (drop at l)))
-
-pub inner-next : (at j : ℕ) (l : List ℕ) → let from = at + child-at j (drop at l) in at + child-at (j + 1) (drop at l) ≡ from + span 1 (drop from l)
-inner-next at j l = rw (child-next j (drop at l), drop-drop (child-at j (drop at l)) at l) (omega arith)
 
 -- A number that a group offers is that of its child j, a literal.
 unit-literal : (j : ℕ) (l : List ℕ) → (unit-of j l ≡ 0 → ⊥) → (j < children (getD l 0 0)) × (is-literal (getD l (child-at j l) 0) ≡ true) × (unit-of j l ≡ getD l (child-at j l) 0)
@@ -153,17 +140,7 @@ module _ {l : List ℕ} (s : Stretch l) (h : Headed 14 l) (i : ℕ) (there : (i 
   -- The answer: an inner child with which the rule applies, or one more than there are.
   module _ {m : ℕ} (counted : m ≡ arity (getD l (1 + i) 0)) where
     pub found-first : (j : ℕ) → j ≤ m → is-some (rewrite 14 i j (forest-in l)) ≡ true → ((k : ℕ) → k < j → is-some (rewrite 14 i k (forest-in l)) ≡ false) → First-inner 14 i j l
-    found-first j few t none =
-        record {
-          few = omega (arith, child-arity s h i (there .0) (there .1));
-          before = none;
-          there = λ b. t;
-        }
+    found-first j few t none = first-here (omega (arith, child-arity s h i (there .0) (there .1))) none t
 
     pub found-none : ((k : ℕ) → k < m + 1 → is-some (rewrite 14 i k (forest-in l)) ≡ false) → First-inner 14 i (m + 1) l
-    found-none none =
-        record {
-          few = omega (arith, child-arity s h i (there .0) (there .1));
-          before = none;
-          there = λ b. absurd (omega (arith, child-arity s h i (there .0) (there .1)));
-        }
+    found-none none = first-past (omega (arith, child-arity s h i (there .0) (there .1))) none

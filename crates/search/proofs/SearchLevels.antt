@@ -18,7 +18,6 @@ use Rattle.model.specs.Strategy.{Redex, redex, least-j, least-i, least-place, n
 use Rattle.theory.specs.Logic.{either, is-some-of, only-true}
 use Rattle.theory.specs.Least.{least-is, least-none}
 use Rattle.theory.specs.Bounds.{rewrite-within, past-last}
-pub use Rattle.commons.proofs.Inner.{below-more}
 
 only-false : {A : Type 0} {b : _} (a : A) → b ≡ false → only-if b a ≡ none
 unfolding only-if

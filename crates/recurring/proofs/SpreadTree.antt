@@ -14,12 +14,11 @@ use Rattle.theory.specs.Spans.{child-at, span, arity, arity-head}
 use Rattle.theory.specs.Stretches.{Stretch, forest-in}
 use Rattle.theory.specs.Heads.{Headed}
 use Rattle.theory.specs.Children.{Group, headed-group, group-head, group-children, group-long, child-room}
-use Rattle.sizes.proofs.Laws.{span-tree}
+use Rattle.sizes.specs.TreeHops.{span-tree}
 use Rattle.spread.specs.Assigning.{spreads-from}
-use Rattle.theory.specs.Children.{child-inside}
-use Rattle.spread.proofs.Spreading.{asks-around}
-use Rattle.sizes.specs.FirstApplying.{First-child}
-use Rattle.recurring.specs.Recurring.{Ends, First-again}
+use Rattle.spread.proofs.Laws.{child-inside, asks-around}
+use Rattle.sizes.specs.FirstApplying.{First-child, first-same}
+use Rattle.recurring.specs.Recurring.{Ends-at, First-again}
 
 module _ {r : ℕ} {l : List ℕ} (s : Stretch l) (h : Headed r l) where
   group : Group l (h .conn) (h .children) (h .rest) (h .zeros)
@@ -38,7 +37,7 @@ module _ {r : ℕ} {l : List ℕ} (s : Stretch l) (h : Headed r l) where
     end-place : end ≡ child-at (size (h .children)) l
     end-place = tree ∙ omega (arith, span-tree 0 l first-number) ∙ ap (λ k. child-at k l) head-arity
 
-    pub tree-ends : Ends end l
+    pub tree-ends : Ends-at end l
     tree-ends =
         record {
           some-head = omega (arith, end-place);
@@ -53,9 +52,4 @@ module _ {r : ℕ} {l : List ℕ} (s : Stretch l) (h : Headed r l) where
       applies i m = rw end-place (asks-around s h i 0 lo hi refl (omega (arith, group-children group)))
 
       pub again-applies : {i : ℕ} → First-again end i l → First-child r i l
-      again-applies {i} w =
-          record {
-            few = w .few;
-            before = λ k m. sym (applies k (omega (arith, w .few))) ∙ w .before k m;
-            there = λ m. sym (applies i m) ∙ w .there m;
-          }
+      again-applies = first-same applies

@@ -15,7 +15,7 @@ use Rattle.theory.specs.Logic.{true-false, either, or-split, pick-true, pick-fa
 use Rattle.theory.specs.Scan.{is-literal}
 use Rattle.theory.specs.Spans.{span, span-none, span-end}
 use Rattle.theory.specs.Children.{first-left}
-use Rattle.sizes.proofs.Laws.{span-hop}
+use Rattle.sizes.specs.TreeHops.{span-hop}
 use Rattle.factor.specs.Walks.{unit-place, among, group-here}
 use Rattle.factor.proofs.Walk.{unit-further}
 use Rattle.factor.proofs.Here.{shares-group}

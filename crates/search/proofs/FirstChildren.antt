@@ -1,4 +1,4 @@
--- The first child with which a rule applies, as the search's answer, and the way to the first that is a constant.
+-- The first child with which a rule applies, and how it is the search's answer.
 use mathlib.Core.Bool.{true, false}
 use mathlib.Core.List.{List, [], _∷_}
 use mathlib.Core.Logic.{inl, inr}
@@ -13,7 +13,7 @@ use lib.ListN.{length, getD, take, drop, length-drop}
 use lib.Seq.{slice}
 use Rattle.model.specs.Base.{all, is-some}
 use Rattle.model.specs.Code.{children}
-use Rattle.model.specs.Forest.{size}
+use Rattle.model.specs.Forest.{size, kids}
 use Rattle.model.specs.Rules.{rewrite}
 use Rattle.model.specs.Strategy.{redex, least-j, least-i}
 use Rattle.theory.specs.Logic.{and-split, fails-if}
@@ -22,79 +22,48 @@ use Rattle.theory.specs.Spans.{arity, arity-literal, span, span-none, span-more
 use Rattle.theory.specs.Stretches.{Stretch, forest-in}
 use Rattle.theory.specs.Heads.{Headed}
 use Rattle.theory.specs.Children.{headed-group, group-children, group-long, child-room, child-later}
-use Rattle.sizes.proofs.Laws.{child-next}
 use Rattle.simplify.specs.Constants.{constantFor}
 use Rattle.simplify.proofs.Simplifying.{asks-single, asks-constant}
 use Rattle.lift.specs.Asked.{othersLiteral}
 use Rattle.lift.proofs.Lifting.{conjunction-there, asks-others}
 use Rattle.factor.proofs.Asking.{asks-late}
-use Rattle.commons.proofs.Inner.{child-arity}
-use Rattle.sizes.specs.FirstApplying.{First-child, First-inner}
-use Rattle.search.proofs.Laws.{below-more, j-found, j-none, i-found, i-none}
-use Rattle.search.proofs.Children.{child-first, children-counted}
-use Rattle.search.proofs.Inner.{flat-found, flat-none}
+use Rattle.commons.proofs.FactorChildren.{child-arity}
+use Rattle.sizes.specs.FirstApplying.{First-child, First-inner, first-here, first-past}
+use Rattle.search.proofs.SearchLevels.{j-found, j-none, i-found, i-none}
+use Rattle.search.proofs.InnerSearch.{flat-found, flat-none}
 
 module _ {r : ℕ} {l : List ℕ} (s : Stretch l) (h : Headed r l) where
+  pub children-counted : children (getD l 0 0) ≡ size (kids (forest-in l))
+  unfolding kids
+  children-counted = rw (h .forest) (group-children (headed-group s h))
+
   -- A rule of 1 to 10, which has no use for inner children.
   module _ (low : r ≤ 10) {i : ℕ} (w : First-child r i l) where
     pub first-found : i < children (getD l 0 0) → (p : ℕ) → some (redex r p i 0) ≡ least-i r p (forest-in l)
     first-found lt p =
-        i-found r p (forest-in l) i (omega (arith, children-counted s h)) (flat-found s h i (inl low) (w .there lt) p) (λ k m. flat-none s h k (inl low) (w .before k m) p)
+        i-found r p (forest-in l) i (omega (arith, children-counted)) (flat-found s h i (inl low) (w .there lt) p) (λ k m. flat-none s h k (inl low) (w .before k m) p)
 
     pub first-none : children (getD l 0 0) ≤ i → (p : ℕ) → none ≡ least-i r p (forest-in l)
     first-none le p =
-        i-none r p (forest-in l) (λ k m. flat-none s h k (inl low) (w .before k (omega (arith, children-counted s h))) p)
+        i-none r p (forest-in l) (λ k m. flat-none s h k (inl low) (w .before k (omega (arith, children-counted))) p)
 
   -- Rules 7 and 8: a single child.
   pub single-first : 7 ≤ r → r ≤ 8 → children (getD l 0 0) ≡ 1 → First-child r 0 l
   single-first a b e =
       let count = group-children (headed-group s h) in
-      record {
-        few = omega arith;
-        before = λ k m. absurd (omega arith);
-        there = λ m. sym (asks-single s h 0 0 a b refl (omega (arith, count))) ∙ eq-eqb (size (h .children)) 1 (sym count ∙ e);
-      }
+      first-here (omega arith) (λ k m. absurd (omega arith)) (sym (asks-single s h 0 0 a b refl (omega (arith, count))) ∙ eq-eqb (size (h .children)) 1 (sym count ∙ e))
 
-  pub single-none : 7 ≤ r → r ≤ 8 → (children (getD l 0 0) ≡ 1 → ⊥) → First-child r (children (getD l 0 0)) l
-  single-none a b n =
+  pub single-none : 7 ≤ r → r ≤ 8 → {n : ℕ} → n ≡ children (getD l 0 0) → (n ≡ 1 → ⊥) → First-child r n l
+  single-none a b c n =
       let count = group-children (headed-group s h) in
-      record {
-        few = omega arith;
-        before = λ k m. sym (asks-single s h k 0 a b refl (omega (arith, count))) ∙ ne-eqb (size (h .children)) 1 (λ e. n (count ∙ e));
-        there = λ m. absurd (omega arith);
-      }
+      first-past c (λ k m. sym (asks-single s h k 0 a b refl (omega (arith, count))) ∙ ne-eqb (size (h .children)) 1 (λ e. n (c ∙ count ∙ e)))
 
--- On the way to the first constant: child i begins at a place, and with none before it the rule applies.
-pub record Passed (r i at : ℕ) (l : List ℕ) : Type 0 where
-  pub few : i ≤ children (getD l 0 0)
-  pub here : at ≡ child-at i l
-  pub none-yet : (k : ℕ) → k < i → is-some (rewrite r k 0 (forest-in l)) ≡ false
-
-pub passed-first : (r : ℕ) (l : List ℕ) → Passed r 0 1 l
-passed-first r l = record { few = omega arith; here = sym (child-first l); none-yet = λ k m. absurd (omega arith) }
-
-module _ {r i at : ℕ} {l : List ℕ} (s : Stretch l) (h : Headed r l) (low : r ≤ 6) (w : Passed r i at l) (lt : i < children (getD l 0 0)) {x : ℕ} (looked : x ≡ constantFor r) where
-  asked : eqb (getD l at 0) x ≡ is-some (rewrite r i 0 (forest-in l))
-  asked =
-      ap (λ n. eqb (getD l n 0) x) (w .here)
+  -- Rules 1 to 6: whether child i is the constant that the rule looks for.
+  pub constant-asked : r ≤ 6 → {i at x : ℕ} → i < children (getD l 0 0) → at ≡ child-at i l → x ≡ constantFor r → eqb (getD l at 0) x ≡ is-some (rewrite r i 0 (forest-in l))
+  constant-asked low {i} {at} {x} lt here looked =
+      ap (λ n. eqb (getD l n 0) x) here
       ∙ ap (eqb (getD l (child-at i l) 0)) looked
       ∙ asks-constant s h i 0 low refl (omega (arith, group-children (headed-group s h)))
-
-  pub passed-found : getD l at 0 ≡ x → First-child r i l
-  passed-found e =
-      record { few = w .few; before = w .none-yet; there = λ m. sym asked ∙ eq-eqb (getD l at 0) x e }
-
-  pub passed-more : (getD l at 0 ≡ x → ⊥) → {n : ℕ} → n ≡ span 1 (drop at l) → Passed r (i + 1) (at + n) l
-  passed-more n hop =
-      record {
-        few = omega arith;
-        here = omega (arith, w .here, hop ∙ ap (λ k. span 1 (drop k l)) (w .here), child-next i l);
-        none-yet = below-more i (w .none-yet) (sym asked ∙ ne-eqb (getD l at 0) x n);
-      }
-
-pub passed-all : {r i at k : ℕ} {l : List ℕ} → Passed r i at l → k ≡ children (getD l 0 0) → k ≤ i → First-child r k l
-passed-all w e le =
-    record { few = omega (arith, e); before = λ q m. w .none-yet q (omega arith); there = λ m. absurd (omega (arith, e)) }
 
 -- Rule 14: the first inner child as the search's answer, and where child i stands too far on.
 module _ {l : List ℕ} (s : Stretch l) (h : Headed 14 l) (i : ℕ) {at : ℕ} (there : i < children (getD l 0 0)) (e : at ≡ child-at i l) where

@@ -20,11 +20,11 @@ use Rattle.theory.specs.Scan.{is-literal}
 use Rattle.theory.specs.Spans.{child-at}
 use Rattle.theory.specs.Stretches.{Stretch, forest-in}
 use Rattle.theory.specs.Heads.{Headed}
-use Rattle.theory.specs.Children.{Group, headed-group, group-children, first-left, child-room, child-conjunction, conjunction-group}
+use Rattle.theory.specs.Children.{Group, headed-group, group-children, first-left, child-room, child-conjunction}
 use Rattle.theory.specs.Turns.{family-at, family-asks}
 use Rattle.lift.specs.Asked.{literalChild}
-use Rattle.lift.proofs.Lifting.{asks-nothing, asks-literal}
-use Rattle.search.proofs.Laws.{j-found, j-none}
+use Rattle.lift.proofs.Laws.{asks-nothing, conjunction-group, asks-literal}
+use Rattle.search.proofs.SearchLevels.{j-found, j-none}
 
 -- But for rules 11, 12 and 14 an inner child other than 0 gives nothing.
 abbrev Flat : Family → Type 0
@@ -84,7 +84,7 @@ module _ {r : ℕ} {l : List ℕ} (s : Stretch l) (h : Headed r l) (i : ℕ) whe
 
       inner : Group (drop at l) and (found .0) (after (suc i) (h .children) ⊕ h .rest) (h .zeros)
       inner =
-          subst (λ n. Group (drop n l) and (found .0) (after (suc i) (h .children) ⊕ h .rest) (h .zeros)) (sym e) (conjunction-group s h i (found .1))
+          subst (λ n. Group (drop n l) and (found .0) (after (suc i) (h .children) ⊕ h .rest) (h .zeros)) (sym e) (conjunction-group s h i 0 (found .1))
 
       count : children (getD (drop at l) 0 0) ≡ children (getD l at 0)
       count = ap children (first-left at l)
