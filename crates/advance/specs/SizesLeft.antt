@@ -17,6 +17,6 @@ pub record Sizes-left (rule most : ℕ) (z : Zone) (s t : List ℕ) : Type 0 whe
   pub within : z .new ≤ sheet-room
   pub same : 9 ≤ rule → rule ≤ 10 → Sizes-from 0 (drop 2 s) t
   pub outside : 11 ≤ rule → rule ≤ 12 → (q : ℕ) → q < length (drop 2 s) → (q < z .from) ⊎ (z .new ≤ q) →
-    getD t q 0 ≡ span 1 (drop q (drop 2 s))
+      getD t q 0 ≡ span 1 (drop q (drop 2 s))
   pub few : most ≤ sheet-room
   pub past : Sizes-from most (drop 2 s) t

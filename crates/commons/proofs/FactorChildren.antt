@@ -8,7 +8,7 @@ use native.Mathlib.Omega.{arith}
 use borrow.Author.Tests.{eqb-true, eqb-false, leb-true, leb-false, ltb-true, ltb-false}
 use lib.Dec.{eqb, ltb, leb}
 use lib.ListN.{length, getD, drop, length-drop}
-use lib.Seq.{drop-drop, getD-drop}
+use lib.Seq.{getD-drop}
 use Rattle.model.specs.Base.{is-some}
 use Rattle.model.specs.Forest.{Forest, nil, lit, node, _⊕_, size, after, kids}
 use Rattle.model.specs.Code.{encode, kind, children}

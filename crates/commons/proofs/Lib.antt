@@ -1,3 +1,3 @@
-pub mod Held
+pub mod HeldNotes
 pub mod Passing
 pub mod FactorChildren

@@ -7,7 +7,7 @@ use Prim.Native.Nat.{ℕ, zero, suc, _+_, _≤_, _<_}
 use native.Mathlib.Omega.{arith}
 use borrow.Author.Tests.{ne-eqb, ltb-true, ltb-false}
 use lib.Dec.{eqb, ltb}
-use lib.ListN.{length, getD, drop, length-drop}
+use lib.ListN.{getD, drop, length-drop}
 use lib.Seq.{drop-drop, getD-drop}
 use Rattle.model.specs.Limits.{sheet-room}
 use Rattle.model.specs.Forest.{Conn, and, or, root, Forest, nil, lit, node, size, after, kids, constant-at}
@@ -59,8 +59,8 @@ announced (node c k f) z h = arity-head c (size k) (fits-tree c k f h .0)
 abbrev children : List ℕ → ℕ → Forest
 children s p = kids (decode (drop p (nodes-in s)))
 
-abbrev pub No-constant : List ℕ → ℕ → ℕ → Type 0
-No-constant s p i = (d : Conn) → constant-at d (after i (children s p)) ≡ false
+abbrev pub Plain-child : List ℕ → ℕ → ℕ → Type 0
+Plain-child s p i = (d : Conn) → constant-at d (after i (children s p)) ≡ false
 
 module _ {s : List ℕ} (h : Formed s) {p : ℕ} (lt : p < used-in s) where
   -- How many children the node there announces.
@@ -70,7 +70,7 @@ module _ {s : List ℕ} (h : Formed s) {p : ℕ} (lt : p < used-in s) where
       ap arity (sym (first-left (2 + p) s) ∙ ap (λ l. getD l 0 0) (w .1)) ∙ announced (decode (drop p (nodes-in s))) (w .0) (w .2)
 
   -- Past the last child no child is a constant.
-  pub passed-all : {i : ℕ} → ((j : ℕ) → j < i → No-constant s p j) → arity (getD s (2 + p) 0) ≤ i → Constant-free p (nodes-in s)
+  pub passed-all : {i : ℕ} → ((j : ℕ) → j < i → Plain-child s p j) → arity (getD s (2 + p) 0) ≤ i → Constant-free p (nodes-in s)
   unfolding constant-at
   passed-all {i} none le d c =
       ⊎-elim
@@ -104,8 +104,8 @@ module _ {s : List ℕ} (h : Formed s) {p : ℕ} (lt : p < used-in s) where
         ap (λ x. eqb x (number (conn-kind d) 0)) there ∙ child-constant (group-here .2) i left d
 
     -- An empty conjunction and an empty disjunction are all the constants that it could be.
-    pub no-constant : (getD s (2 + at) 0 ≡ 12288 → ⊥) → (getD s (2 + at) 0 ≡ 16384 → ⊥) → No-constant s p i
+    pub plain-child : (getD s (2 + at) 0 ≡ 12288 → ⊥) → (getD s (2 + at) 0 ≡ 16384 → ⊥) → Plain-child s p i
     unfolding number conn-kind
-    no-constant a o and = sym (asked and) ∙ ne-eqb (getD s (2 + at) 0) 12288 a
-    no-constant a o or = sym (asked or) ∙ ne-eqb (getD s (2 + at) 0) 16384 o
-    no-constant a o root = no-empty-root i (children s p) (below-place p (nodes-in s) (shaped-rooted (h .shaped)))
+    plain-child a o and = sym (asked and) ∙ ne-eqb (getD s (2 + at) 0) 12288 a
+    plain-child a o or = sym (asked or) ∙ ne-eqb (getD s (2 + at) 0) 16384 o
+    plain-child a o root = no-empty-root i (children s p) (below-place p (nodes-in s) (shaped-rooted (h .shaped)))

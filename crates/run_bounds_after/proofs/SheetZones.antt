@@ -1,11 +1,11 @@
 -- The zone of a step on a sheet, family by family.
 use mathlib.Core.List.{List}
 use mathlib.Core.Option.{some}
-use mathlib.Core.Path.{_≡_, refl, sym, ap, subst, _∙_}
+use mathlib.Core.Path.{_≡_, sym, ap, subst, _∙_}
 use Prim.Native.Nat.{ℕ, suc, _+_, _-_, _≤_, _<_}
 use native.Mathlib.Omega.{arith}
 use lib.ListN.{length, getD, drop, length-drop}
-use Rattle.model.specs.Base.{pick, is-some, maybe}
+use Rattle.model.specs.Base.{pick, maybe}
 use Rattle.model.specs.Limits.{sheet-room, last-rule}
 use Rattle.model.specs.Literal.{Literal}
 use Rattle.model.specs.Forest.{and, Forest, node, lit, size, after, kids, _⊕_, conjunction-at, literal-at}

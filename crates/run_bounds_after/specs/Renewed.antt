@@ -4,7 +4,6 @@ use mathlib.Core.Path.{_≡_}
 use Prim.Native.Nat.{ℕ, _+_, _-_, _≤_, _<_}
 use lib.ListN.{getD, take, drop, replicate}
 use Rattle.model.specs.Limits.{sheet-room}
-use Rattle.run_bounds_after.specs.declared.Zone.{Zone}
 use Rattle.run_bounds_after.specs.declared.Plan.{Plan}
 
 -- A zone and three places that lie in a table.

@@ -20,8 +20,8 @@ span-add p q l = go p l
     go (suc p) [] = rw (span-over (suc p + q), span-over (suc p), span-over q)
     go (suc p) (x ∷ l) =
         let turned : p + q + arity x ≡ p + arity x + q = omega arith in
-        rw (suc-add p q, span-more (p + q) x l, span-more p x l, turned, suc-add (span (p + arity x) l) (span q (drop (span (p + arity x) l) l)))
-        (ap suc (go (p + arity x) l))
+        let n = span (p + arity x) l in
+        rw (suc-add p q, span-more (p + q) x l, span-more p x l, turned, suc-add n (span q (drop n l))) (ap suc (go (p + arity x) l))
 
 -- One tree further.
 pub span-hop : (p i : ℕ) (s : List ℕ) → 0 < p → let n = i + span 1 (drop i s) in i + span p (drop i s) ≡ n + span (p - 1) (drop n s)

@@ -9,9 +9,13 @@ use Rattle.advance.proofs.Bounding.{high-all, high-ahead}
 use Rattle.advance.proofs.advance.Statement.{statement}
 use Rattle.advance.proofs.advance.Tie as tie
 
-counted : (c : tie.After-wide16) → let m = c .before .before .before .before .before .before .before .before in c .wide16 .result ≡ used-in (m .move-on .last .0)
+-- Back to the step.
+abbrev moved : tie.After-wide16 → tie.After-move-on
+moved c = let d = c .before .before .before .before in d .before .before .before .before
+
+counted : (c : tie.After-wide16) → let m = moved c in c .wide16 .result ≡ used-in (m .move-on .last .0)
 counted c =
-    let m = c .before .before .before .before .before .before .before .before in
+    let m = moved c in
     c .wide16 .ensures .0 ∙ sym (used-here (m .move-on .last .0))
 
 move-on-requires : tie.Need-move-on-requires
@@ -35,7 +39,7 @@ raise-all-requires : tie.Need-raise-all-requires
 raise-all-requires c κs =
     let l2 = c .before .before .before in
     let w = l2 .before .before in
-    let m = w .before .before .before .before .before .before .before .before in
+    let m = moved w in
     let b = m .before .before .before .before .before .before .before in
     let after = m .move-on .ensures .1 in
     let to = l2 .before .lesser .ensures .1 in
@@ -56,7 +60,7 @@ returns c =
     let l2 = r .before .before .before .before in
     let l1 = l2 .before in
     let w = l1 .before in
-    let m = w .before .before .before .before .before .before .before .before in
+    let m = moved w in
     let b = m .before .before .before .before .before .before .before in
     let reach = m .move-on .result in
     let old = m .move-on .last .1 .1 .0 in

@@ -27,10 +27,14 @@ counted c =
 counted-after : (c : tie.After-wide162) → c .wide162 .result ≡ used-in (c .before .before .before .before .apply .last .0)
 counted-after c = c .wide162 .ensures .0 ∙ sym (used-here (c .before .before .before .before .apply .last .0))
 
+-- From the sizes back to the step.
+abbrev applied : tie.After-resize → tie.After-apply
+applied c = let m = c .before .before .before in m .before .before .before .before .before
+
 -- The sizes that were made are those of the sheet.
-measured : (c : tie.After-resize) → let d = c .before .before .before .before .before .before .before .before in Measured (d .apply .last .0) (c .resize .last .1 .0)
+measured : (c : tie.After-resize) → let d = applied c in Measured (d .apply .last .0) (c .resize .last .1 .0)
 measured c =
-    let d = c .before .before .before .before .before .before .before .before in
+    let d = applied c in
     let k = d .before .before .before .before .before in
     let b = k .before .before .before .before .before .before in
     record { sheet = made d; long = c .resize .kept .1 .0 ∙ b .pre .0 .tables .measured .long; each = c .resize .ensures }
@@ -77,8 +81,7 @@ resize-requires c κs =
 follow-requires : tie.Need-follow-requires
 follow-requires c κs =
     let g = c .before .before .before .before .before in
-    let m = g .before .before .before in
-    let d = m .before .before .before .before .before in
+    let d = applied g in
     let k = d .before .before .before .before .before in
     let b = k .before .before .before .before .before .before in
     (measured g, (b .pre .0 .tables .long, (planned (b .pre .0) (b .pre .1) (k .look-ahead .ensures) (d .apply .ensures), spread-zone (b .pre .0) (b .pre .1) (k .look-ahead .ensures) (d .apply .ensures))))
@@ -88,7 +91,7 @@ add-greater : tie.Need-add-greater
 add-greater c =
     let n = c .before .before in
     let g = n .before .before .before .before .before .before in
-    let d = g .before .before .before .before .before .before .before .before in
+    let d = applied g in
     let k = d .before .before .before .before .before in
     let b = k .before .before .before .before .before .before in
     let h = b .pre .0 .tables .measured .sheet in
@@ -101,7 +104,7 @@ same-length : tie.Need-same-length
 same-length c =
     let n = c .before .before .before in
     let g = n .before .before .before .before .before .before in
-    g .before .before .before .before .before .before .before .before .apply .kept .0
+    applied g .apply .kept .0
 
 same-length-2 : tie.Need-same-length-2
 same-length-2 c = let n = c .before .before .before in n .before .before .before .before .before .before .resize .kept .1 .0
@@ -113,8 +116,7 @@ returns : tie.Need-returns
 returns c =
     let n = c .before .before .before in
     let g = n .before .before .before .before .before .before in
-    let m = g .before .before .before in
-    let d = m .before .before .before .before .before in
+    let d = applied g in
     let k = d .before .before .before .before .before in
     let b = k .before .before .before .before .before .before in
     let far = c .greater2 .ensures in

@@ -1,11 +1,8 @@
 -- `bounds::least_place` meets its contract. Invariant: before the present place the rule applies nowhere, and all bounds there are past it.
-use mathlib.Core.Option.{none}
 use mathlib.Core.Path.{_≡_, sym, ap, _∙_}
-use Prim.Native.Nat.{_+_, _-_, _≤_, _<_}
+use Prim.Native.Nat.{_-_, _<_}
 use native.Mathlib.Omega.{arith}
 use borrow.Author.Needs.{needs}
-use lib.ListN.{length}
-use Rattle.model.specs.Limits.{sheet-room}
 use Rattle.model.specs.Sheet.{nodes-in, used-in}
 use Rattle.theory.specs.Places.{used-here}
 use Rattle.search.specs.Redexes.{spotOf}
@@ -48,7 +45,8 @@ enum-known-spot c = search needs
 same-length : tie.Need-same-length Inv-loop μ-loop
 same-length c =
     let d = c .before .before .before .before .before in
-    let b = d .before .before .before .before .before .before .before .before .before in
+    let n = d .before .before .before in
+    let b = n .before .before .before .before .before .before in
     d .try-at .ensures .1 .0 .tables .long ∙ sym (b .pre .1 .tables .long)
 
 returns : tie.Need-returns Inv-loop μ-loop

@@ -1,5 +1,5 @@
 -- `bounds::raise` meets its contract. Invariant: the place's bound has come to the present rule.
-use mathlib.Core.Path.{_≡_, sym, ap, _∙_}
+use mathlib.Core.Path.{sym, ap, _∙_}
 use Prim.Native.Nat.{_-_, _≤_, _<_}
 use native.Mathlib.Omega.{arith}
 use borrow.Author.Needs.{needs}
@@ -70,7 +70,9 @@ returns-2 c =
     ((i .0, i .1, omega (arith, i .2, e .rises (a .place))), raised-again (i .3) e)
 
 add-rule : tie.Need-add-rule Inv-loop μ-loop
-add-rule c = let b = c .before .before .before .before .before .before .before .before .before .before .before .before .before .before in omega (arith, b .pre .0 .1)
+add-rule c =
+    let n = c .before .before .before .before .before .before .before in
+    omega (arith, n .before .before .before .before .before .before .before .pre .0 .1)
 
 loop-less : tie.Need-loop-less Inv-loop μ-loop
 loop-less c = omega arith

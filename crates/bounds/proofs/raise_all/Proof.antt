@@ -33,7 +33,8 @@ raise-requires c κs =
 
 add-place : tie.Need-add-place Inv-loop μ-loop
 add-place c =
-    let b = c .before .before .before .before .before .before .before .before .before in
+    let n = c .before .before .before .before .before in
+    let b = n .before .before .before .before in
     omega (arith, b .pre .1 .1 .0 .1, b .pre .1 .0 .measured .sheet .used)
 
 loop-less : tie.Need-loop-less Inv-loop μ-loop

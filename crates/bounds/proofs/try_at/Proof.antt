@@ -24,6 +24,10 @@ come c =
     let b = c .before .before .before .before .before .before in
     omega (arith, c .before .wide16 .ensures .0, c .if1 .left, b .pre .1 .1 .1)
 
+-- Back to where the function starts.
+abbrev start : tie.Else1 → tie.Start
+start c = let d = c .before .before .before in d .before .before .before
+
 mul-wide16 : tie.Need-mul-wide16
 mul-wide16 c = let b = c .before .before .before in omega (arith, inside b, b .pre .1 .0 .long)
 
@@ -59,11 +63,11 @@ is-literal-requires c κs = search needs
 
 mul-low : tie.Need-mul-low
 mul-low c =
-    let b = c .before .before .before .before .before .before .before .before .before .before in
+    let b = start (c .before .before .before .before) in
     omega (arith, inside b, b .pre .1 .0 .long)
 
 slice-write-low : tie.Need-slice-write-low
-slice-write-low c = inside (c .before .before .before .before .before .before .before .before .before .before)
+slice-write-low c = inside (start (c .before .before .before .before))
 
 same-length : tie.Need-same-length
 same-length c = search needs
@@ -87,7 +91,7 @@ enum-known-spot c = search needs
 returns-3 : tie.Need-returns-3
 returns-3 c =
     let d = c .before .before .before in
-    let b = d .before .before .before .before .before .before .before .before .before .before .before in
+    let b = start (d .before .before .before .before .before) in
     let a = b .args in
     (ap (spotOf (a .rule) (a .place)) (sym (c .before .spot .given .1)) ∙ d .least-at .ensures, (raised-same (b .pre .1 .0), λ e. none-some (sym e)))
 
@@ -102,11 +106,11 @@ cast-low c = search needs
 
 mul-low-2 : tie.Need-mul-low-2
 mul-low-2 c =
-    let b = c .before .before .before .before .before .before .before .before .before .before .before .before .before in
+    let b = start (c .before .before .before .before .before .before .before) in
     omega (arith, inside b, b .pre .1 .0 .long)
 
 slice-write-low-2 : tie.Need-slice-write-low-2
-slice-write-low-2 c = inside (c .before .before .before .before .before .before .before .before .before .before .before .before .before)
+slice-write-low-2 c = inside (start (c .before .before .before .before .before .before .before))
 
 same-length-2 : tie.Need-same-length-2
 same-length-2 c = search needs

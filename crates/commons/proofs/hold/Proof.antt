@@ -12,7 +12,7 @@ use Rattle.theory.specs.Scan.{is-literal}
 use Rattle.theory.specs.Spans.{span}
 use Rattle.commons.specs.Held.{literal-numbers}
 use Rattle.sizes.specs.TreeHops.{span-one}
-use Rattle.commons.proofs.Held.{Holding, group-literal, group-inner, holding-more, holding-all}
+use Rattle.commons.proofs.HeldNotes.{Holding, group-literal, group-inner, holding-more, holding-all}
 use Rattle.commons.proofs.hold.Statement.{statement}
 use Rattle.commons.proofs.hold.Tie as tie
 
@@ -24,6 +24,14 @@ Inv-loop part sizes at groups held₀ head left₀ from₀ held left from =
 
 abbrev μ-loop : tie.MeasureT-loop
 μ-loop part sizes at groups held₀ head left₀ from₀ held left from = left
+
+-- Back to where the function starts.
+abbrev start : tie.At-loop Inv-loop μ-loop → tie.Start Inv-loop μ-loop
+start c = let d = c .before .before .before .before .before in d .before .before .before .before
+
+-- Back to where the turn of the loop begins.
+abbrev turn : tie.After-wide163 Inv-loop μ-loop → tie.At-loop Inv-loop μ-loop
+turn c = let d = c .before .before .before .before .before in d .before .before .before .before .before
 
 mul-wide16 : tie.Need-mul-wide16 Inv-loop μ-loop
 mul-wide16 c = search needs
@@ -55,7 +63,8 @@ add-from c = search needs
 
 loop-holds : tie.Need-loop-holds Inv-loop μ-loop
 loop-holds c =
-    let s = c .before .before .before .before .before .before .before .before in
+    let d = c .before .before .before .before in
+    let s = d .before .before .before .before in
     let counted = c .children-of .ensures ∙ ap children (c .before .before .before .wide16 .ensures .0) in
     (omega arith, s .pre .1 .1, λ x lit there reached. rw counted (inr (reached, there)))
 
@@ -71,7 +80,7 @@ wide16-requires-2 c κs = search needs
 note-requires : tie.Need-note-requires Inv-loop μ-loop
 note-requires c κs =
     let n = c .before .before .before .before .before in
-    let s = n .before .before .before .before .before .before .before .before .before in
+    let s = start n in
     (n .loop .inv .1, s .pre .0 .2)
 
 mul-wide16-3 : tie.Need-mul-wide16-3 Inv-loop μ-loop
@@ -84,16 +93,16 @@ wide16-requires-3 : tie.Need-wide16-requires-3 Inv-loop μ-loop
 wide16-requires-3 c κs = search needs
 
 -- One hop.
-hop : (c : tie.After-wide163 Inv-loop μ-loop) → let n = c .before .before .before .before .before .before .before .before .before .before in let l = n .before .before .before .before .before .before .before .before .before .args .part .now in c .wide163 .result ≡ span 1 (drop (n .loop .from) l)
+hop : (c : tie.After-wide163 Inv-loop μ-loop) → let n = turn c in let l = start n .args .part .now in c .wide163 .result ≡ span 1 (drop (n .loop .from) l)
 hop c =
-    let n = c .before .before .before .before .before .before .before .before .before .before in
-    let s = n .before .before .before .before .before .before .before .before .before in
+    let n = turn c in
+    let s = start n in
     c .wide163 .ensures .0 ∙ s .pre .1 .0 .each (n .loop .from) (omega arith) (omega (arith, ltb-true))
 
 add-from-2 : tie.Need-add-from-2 Inv-loop μ-loop
 add-from-2 c =
-    let n = c .before .before .before .before .before .before .before .before .before .before in
-    let l = n .before .before .before .before .before .before .before .before .before .args .part .now in
+    let n = turn c in
+    let l = start n .args .part .now in
     omega (arith, hop c, span-one (n .loop .from) l (omega (arith, ltb-true)))
 
 sub-left : tie.Need-sub-left Inv-loop μ-loop
@@ -104,8 +113,8 @@ loop-less c = search needs
 
 loop-again : tie.Need-loop-again Inv-loop μ-loop
 loop-again c =
-    let n = c .before .before .before .before .before .before .before .before .before .before in
-    let a = n .before .before .before .before .before .before .before .before .before .args in
+    let n = turn c in
+    let a = start n .args in
     let l = a .part .now in
     let from = n .loop .from in
     let call = c .before .before .before .before .note in
@@ -118,20 +127,20 @@ add-result c = search needs
 
 same-length : tie.Need-same-length Inv-loop μ-loop
 same-length c =
-    let s = c .before .before .before .before .before .before .before .before .before .before in
+    let s = start (c .before) in
     c .before .loop .inv .1 ∙ sym (s .pre .1 .1)
 
 -- No child is left.
-over : (c : tie.Left-loop Inv-loop μ-loop) → let n = c .before in (n .loop .left ≡ 0) ⊎ (length (n .before .before .before .before .before .before .before .before .before .args .part .now) ≤ n .loop .from)
+over : (c : tie.Left-loop Inv-loop μ-loop) → let n = c .before in (n .loop .left ≡ 0) ⊎ (length (start n .args .part .now) ≤ n .loop .from)
 over c =
     let n = c .before in
-    let l = n .before .before .before .before .before .before .before .before .before .args .part .now in
+    let l = start n .args .part .now in
     ⊎-elim (λ w. inr (ltb-false (n .loop .from) (length l) (w .1 .left))) (λ w. inl (omega (arith, w .left))) (c .loop-test .came)
 
 returns-2 : tie.Need-returns-2 Inv-loop μ-loop
 returns-2 c =
     let n = c .before in
-    let a = n .before .before .before .before .before .before .before .before .before .args in
+    let a = start n .args in
     let l = a .part .now in
     let group = inner (n .before .before) in
     (omega (arith, group-inner (getD l (a .at) 0) group), holding-all (a .groups) (a .at) l (a .held .now) (n .loop .held) (n .loop .left) (n .loop .from) group (n .loop .inv .2) (over c))

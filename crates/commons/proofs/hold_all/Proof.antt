@@ -10,7 +10,7 @@ use Rattle.model.specs.Code.{kind, children}
 use Rattle.theory.specs.Spans.{span}
 use Rattle.commons.specs.Held.{literal-numbers}
 use Rattle.sizes.specs.TreeHops.{span-one}
-use Rattle.commons.proofs.Held.{group-small}
+use Rattle.commons.proofs.HeldNotes.{group-small}
 use Rattle.commons.proofs.Passing.{Passing, passing-none, passing-more, passing-all, passing-other}
 use Rattle.commons.proofs.hold_all.Statement.{statement}
 use Rattle.commons.proofs.hold_all.Tie as tie
@@ -73,15 +73,19 @@ shared-slice-read-wide16-3 c = omega (arith, ltb-true)
 wide16-requires-3 : tie.Need-wide16-requires-3 Inv-loop μ-loop
 wide16-requires-3 c κs = search needs
 
+-- Back to where the turn of the loop begins.
+abbrev turn : tie.After-wide163 Inv-loop μ-loop → tie.At-loop Inv-loop μ-loop
+turn c = let d = c .before .before .before .before .before .before in d .before .before .before .before .before .before
+
 -- One hop.
-hop : (c : tie.After-wide163 Inv-loop μ-loop) → let n = c .before .before .before .before .before .before .before .before .before .before .before .before in c .wide163 .result ≡ span 1 (drop (n .loop .at) (n .before .before .before .before .before .before .before .args .part .now))
+hop : (c : tie.After-wide163 Inv-loop μ-loop) → let n = turn c in c .wide163 .result ≡ span 1 (drop (n .loop .at) (n .before .before .before .before .before .before .before .args .part .now))
 hop c =
-    let n = c .before .before .before .before .before .before .before .before .before .before .before .before in
+    let n = turn c in
     c .wide163 .ensures .0 ∙ n .before .before .before .before .before .before .before .pre .1 .0 .each (n .loop .at) (omega arith) (omega (arith, ltb-true))
 
 add-at : tie.Need-add-at Inv-loop μ-loop
 add-at c =
-    let n = c .before .before .before .before .before .before .before .before .before .before .before .before in
+    let n = turn c in
     omega (arith, hop c, span-one (n .loop .at) (n .before .before .before .before .before .before .before .args .part .now) (omega (arith, ltb-true)))
 
 sub-left : tie.Need-sub-left Inv-loop μ-loop
@@ -92,7 +96,7 @@ loop-less c = search needs
 
 loop-again : tie.Need-loop-again Inv-loop μ-loop
 loop-again c =
-    let n = c .before .before .before .before .before .before .before .before .before .before .before .before in
+    let n = turn c in
     let l = n .before .before .before .before .before .before .before .args .part .now in
     let from = n .loop .at in
     let call = c .before .before .before .before .hold in

@@ -6,7 +6,7 @@ use borrow.Author.Needs.{needs}
 use Rattle.model.specs.Limits.{kind-factor}
 use Rattle.theory.specs.Logic.{true-false}
 use Rattle.theory.specs.Scan.{is-literal}
-use Rattle.commons.proofs.Held.{literal-bounds}
+use Rattle.commons.proofs.HeldNotes.{literal-bounds}
 use Rattle.commons.proofs.may_share.Statement.{statement}
 use Rattle.commons.proofs.may_share.Tie as tie
 

@@ -7,7 +7,7 @@ use borrow.Author.Needs.{needs}
 use borrow.Author.Tests.{not-true, not-false}
 use Rattle.model.specs.Limits.{kind-factor}
 use Rattle.theory.specs.Scan.{is-literal}
-use Rattle.commons.proofs.Held.{literal-bounds, noted-other, noted-literal}
+use Rattle.commons.proofs.HeldNotes.{literal-bounds, noted-other, noted-literal}
 use Rattle.commons.proofs.note.Statement.{statement}
 use Rattle.commons.proofs.note.Tie as tie
 

@@ -19,22 +19,26 @@ Inv-loop part sizes end tally k i₀ at₀ i at = Passed (λ q. spreads-from (ch
 abbrev μ-loop : tie.MeasureT-loop
 μ-loop part sizes end tally k i₀ at₀ i at = k - i
 
+-- Back to where the function starts.
+abbrev start : tie.In-loop Inv-loop μ-loop → tie.Start Inv-loop μ-loop
+start c = let d = c .before .before .before .before in d .before .before .before .before
+
 counted : (c : tie.After-children-of Inv-loop μ-loop) → let a = c .before .before .before .before .before .before .args in c .children-of .result ≡ children (getD (a .part .now) 0 0)
 counted c = c .children-of .ensures ∙ ap children (c .before .wide16 .ensures .0)
 
 -- Child i begins before the end.
-inside : (c : tie.In-loop Inv-loop μ-loop) → let n = c .before in let a = n .before .before .before .before .before .before .before .args in (1 ≤ n .loop .at) × (n .loop .at < a .end) × (a .end ≤ length (a .part .now))
+inside : (c : tie.In-loop Inv-loop μ-loop) → let n = c .before in let a = start c .args in (1 ≤ n .loop .at) × (n .loop .at < a .end) × (a .end ≤ length (a .part .now))
 inside c =
     let n = c .before in
-    let e = n .before .before .before .before .before .before .before .pre .0 in
+    let e = start c .pre .0 in
     let here = n .loop .inv .0 .here in
     (omega (arith, here), omega (arith, here, e .children (n .loop .i) (omega (arith, counted (n .before)))), e .within)
 
 -- Whether it is a literal whose option occurs again.
-told : (c : tie.After-recurs Inv-loop μ-loop) → let n = c .before .before in let a = n .before .before .before .before .before .before .before .args in spreads-from (child-at (n .loop .i) (a .part .now)) (a .end) (a .part .now) ≡ c .recurs .result
+told : (c : tie.After-recurs Inv-loop μ-loop) → let n = c .before .before in let a = start (c .before) .args in spreads-from (child-at (n .loop .i) (a .part .now)) (a .end) (a .part .now) ≡ c .recurs .result
 told c =
     let n = c .before .before in
-    let a = n .before .before .before .before .before .before .before .args in
+    let a = start (c .before) .args in
     ap (λ p. spreads-from p (a .end) (a .part .now)) (sym (n .loop .inv .0 .here)) ∙ sym (c .recurs .ensures)
 
 shared-slice-read-wide16 : tie.Need-shared-slice-read-wide16 Inv-loop μ-loop
@@ -51,7 +55,7 @@ loop-holds c = (passed-first, omega arith)
 
 recurs-requires : tie.Need-recurs-requires Inv-loop μ-loop
 recurs-requires c κs =
-    let b = c .before .before .before .before .before .before .before .before in
+    let b = start c in
     let w = inside c in
     ((w .0, w .1, w .2, b .pre .0 .short), b .pre .1 .1)
 
@@ -63,13 +67,13 @@ returns c =
 mul-wide16 : tie.Need-mul-wide16 Inv-loop μ-loop
 mul-wide16 c =
     let m = c .before .before in
-    let b = m .before .before .before .before .before .before .before .before in
+    let b = start m in
     omega (arith, inside m, b .pre .0 .short)
 
 shared-slice-read-wide16-2 : tie.Need-shared-slice-read-wide16-2 Inv-loop μ-loop
 shared-slice-read-wide16-2 c =
     let m = c .before .before .before in
-    let b = m .before .before .before .before .before .before .before .before in
+    let b = start m in
     omega (arith, inside m, b .pre .1 .0 .long)
 
 wide16-requires-2 : tie.Need-wide16-requires-2 Inv-loop μ-loop
@@ -78,7 +82,7 @@ wide16-requires-2 c κs = search needs
 add-at : tie.Need-add-at Inv-loop μ-loop
 add-at c =
     let m = c .before .before .before .before in
-    let b = m .before .before .before .before .before .before .before .before in
+    let b = start m in
     omega (arith, hop-within (b .pre .1 .0) (omega (arith, inside m)) (c .wide162 .ensures .0), b .pre .0 .short)
 
 add-i : tie.Need-add-i Inv-loop μ-loop
@@ -90,7 +94,7 @@ loop-less c = omega arith
 loop-again : tie.Need-loop-again Inv-loop μ-loop
 loop-again c =
     let m = c .before .before .before .before in
-    let b = m .before .before .before .before .before .before .before .before in
+    let b = start m in
     let none-here = told (c .before .before .before) ∙ c .before .before .if1 .left in
     (passed-more (b .pre .1 .0) (omega (arith, inside m)) (c .wide162 .ensures .0) (m .before .loop .inv .0) none-here, omega arith)
 

@@ -11,12 +11,12 @@ use Rattle.theory.specs.Spans.{arity}
 use Rattle.theory.specs.Places.{lend}
 use Rattle.sizes.specs.TreeHops.{Passed, passed-first, hop-within, passed-more}
 use Rattle.sizes.proofs.SizeEntries.{sheet-sizes}
-use Rattle.run_bounds_after.proofs.ConstantChildren.{No-constant, passed-all, child-inside, no-constant}
+use Rattle.run_bounds_after.proofs.ConstantChildren.{Plain-child, passed-all, child-inside, plain-child}
 use Rattle.run_bounds_after.proofs.has_constant.Statement.{statement}
 use Rattle.run_bounds_after.proofs.has_constant.Tie as tie
 
 abbrev Inv-loop : tie.InvT-loop
-Inv-loop sheet sizes place k i₀ at₀ i at = Passed (No-constant sheet place) (place + 1) (drop 2 sheet) i at
+Inv-loop sheet sizes place k i₀ at₀ i at = Passed (Plain-child sheet place) (place + 1) (drop 2 sheet) i at
 
 abbrev μ-loop : tie.MeasureT-loop
 μ-loop sheet sizes place k i₀ at₀ i at = k - i
@@ -72,7 +72,8 @@ mul-x c = let w = inside c in omega arith
 
 shared-slice-read-x : tie.Need-shared-slice-read-x Inv-loop μ-loop
 shared-slice-read-x c =
-    omega (arith, inside (c .before), placed (c .before .before .before .before .before .before .before .before) .1)
+    let n = c .before .before in
+    omega (arith, inside (c .before), placed (n .before .before .before .before .before .before) .1)
 
 returns : tie.Need-returns Inv-loop μ-loop
 returns c = λ e. true-false e
@@ -107,7 +108,7 @@ loop-again c =
     let n = c .before .before .before .before .before in
     let b = n .before .before .before .before .before .before .before in
     let other = eqb-false (getD (b .args .sheet .now) (2 + n .before .loop .at) 0) 16384 (c .before .before .if2 .left) in
-    let none-here = no-constant (b .pre .0 .sheet) (b .pre .1) (n .before .loop .inv .here) (here n) (c .before .before .before .if1 .left) other in
+    let none-here = plain-child (b .pre .0 .sheet) (b .pre .1) (n .before .loop .inv .here) (here n) (c .before .before .before .if1 .left) other in
     passed-more (sheet-sizes (b .pre .0)) (entry n) (c .wide162 .ensures .0) (n .before .loop .inv) none-here
 
 returns-2 : tie.Need-returns-2 Inv-loop μ-loop

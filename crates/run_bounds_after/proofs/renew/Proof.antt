@@ -2,11 +2,15 @@
 use mathlib.Core.Path.{_≡_, sym, ap, _∙_}
 use Prim.Native.Nat.{_-_}
 use borrow.Author.Needs.{needs}
-use lib.ListN.{length, getD, set, length-set}
+use lib.ListN.{length, getD, length-set}
 use Rattle.model.specs.Limits.{sheet-room}
 use Rattle.run_bounds_after.proofs.RenewedEntries.{Ones, gone, l1, l2, renewed}
 use Rattle.run_bounds_after.proofs.renew.Statement.{statement}
 use Rattle.run_bounds_after.proofs.renew.Tie as tie
+
+-- Back to where the function starts.
+abbrev start : tie.After-put-ones → tie.Start
+start c = let d = c .before .before .before .before in d .before .before .before .before
 
 -- The table with the ones is as long as before, and they stand where they should.
 whole : (c : tie.After-put-ones) → length (c .put-ones .last .0) ≡ sheet-room
@@ -14,7 +18,7 @@ whole c =
     let d = c .before .before .before .before in
     c .put-ones .kept .0 ∙ d .close-up .kept .0 ∙ d .before .before .before .before .pre .0
 
-ones : (c : tie.After-put-ones) → let a = c .before .before .before .before .before .before .before .before .args in let z = a .plan .zone in Ones (z .from) (z .new) (gone (a .low .now) (z .new) (z .old - z .new)) (c .put-ones .last .0)
+ones : (c : tie.After-put-ones) → let a = start c .args in let z = a .plan .zone in Ones (z .from) (z .new) (gone (a .low .now) (z .new) (z .old - z .new)) (c .put-ones .last .0)
 ones c =
     let d = c .before .before .before .before in
     let e = c .put-ones .ensures in
@@ -42,7 +46,7 @@ mul-low-2 c = search needs
 slice-write-low-2 : tie.Need-slice-write-low-2
 slice-write-low-2 c =
     let d = c .before .before in
-    let b = d .before .before .before .before .before .before .before .before in
+    let b = start d in
     l1 (b .args .plan) (b .pre .1) (b .args .low .now) (d .put-ones .last .0) (b .pre .0) (whole d)
 
 mul-low-3 : tie.Need-mul-low-3
@@ -51,18 +55,18 @@ mul-low-3 c = search needs
 slice-write-low-3 : tie.Need-slice-write-low-3
 slice-write-low-3 c =
     let d = c .before .before in
-    let b = d .before .before .before .before .before .before .before .before in
+    let b = start d in
     l2 (b .args .plan) (b .pre .1) (b .args .low .now) (d .put-ones .last .0) (b .pre .0) (whole d)
 
 same-length : tie.Need-same-length
 same-length c =
     let d = c .before .before in
-    simp length-set (whole d ∙ sym (d .before .before .before .before .before .before .before .before .pre .0))
+    simp length-set (whole d ∙ sym (start d .pre .0))
 
 returns : tie.Need-returns
 returns c =
     let d = c .before .before in
-    let b = d .before .before .before .before .before .before .before .before in
+    let b = start d in
     renewed (b .args .plan) (b .pre .1) (b .args .low .now) (d .put-ones .last .0) (b .pre .0) (whole d) (ones d)
 
 pub renew-spec : {M : Type 1} → statement M

@@ -33,6 +33,10 @@ last c =
     let other = c .before .match .rest .1 in
     ⊎-elim (λ v. omega arith) (λ v. omega (arith, other)) (c .if1 .came)
 
+-- Back to where the function starts.
+abbrev start : tie.After-wide16 → tie.Start
+start c = let d = c .before .before in d .before .before
+
 mul-wide16 : tie.Need-mul-wide16
 mul-wide16 c = let w = here (c .before .before) in omega arith
 
@@ -58,14 +62,14 @@ add-t14 c = let w = here (c .before .before .before .before .before .before .bef
 
 child-place-requires-2 : tie.Need-child-place-requires-2
 child-place-requires-2 c κs =
-    let b = c .before .before .before .before .before .before .before .before in
+    let b = start (c .before .before .before .before) in
     (b .pre .0 .sheet, child (b .args .sheet .now) (b .pre .0 .sheet) (b .args .redex) (b .pre .1))
 
 node-gone-requires-2 : tie.Need-node-gone-requires-2
 node-gone-requires-2 c κs = search needs
 
 node-gone-requires-3 : tie.Need-node-gone-requires-3
-node-gone-requires-3 c κs = here (c .before .before .before .before .before .before .before .before .before) .0
+node-gone-requires-3 c κs = here (start (c .before .before .before .before .before)) .0
 
 unmoved-requires : tie.Need-unmoved-requires
 unmoved-requires c κs = search needs
@@ -90,13 +94,13 @@ returns-2 c =
 returns-3 : tie.Need-returns-3
 returns-3 c =
     let t = c .before .before in
-    let b = t .before .before .before .before .before .before .before .before in
+    let b = start (t .before .before .before .before) in
     zone-4 (b .args .sheet .now) (b .pre .0 .sheet) (b .args .redex) (b .pre .1) (c .node-gone2 .ensures) (omega (arith, t .before .if2 .left)) (omega (arith, t .if3 .taken)) (c .before .child-place2 .ensures .0)
 
 returns-4 : tie.Need-returns-4
 returns-4 c =
     let t = c .before in
-    let b = t .before .before .before .before .before .before .before .before .before in
+    let b = start (t .before .before .before .before .before) in
     zone-7 (b .args .sheet .now) (b .pre .0 .sheet) (b .args .redex) (b .pre .1) (c .node-gone3 .ensures) (omega (arith, t .before .if3 .left)) (omega (arith, t .if4 .taken)) refl
 
 returns-5 : tie.Need-returns-5

@@ -76,7 +76,8 @@ advance-requires c κs =
 add-count : tie.Need-add-count Inv-loop μ-loop
 add-count c =
     let a = c .before .before .before .before .before .before in
-    let d = a .before .before .before .before .before .before .before .before .before in
+    let k = a .before .before .before .before in
+    let d = k .before .before .before .before .before in
     let n = d .before .before .before .before .before in
     omega (arith, n .before .before .before .before .fits .budget .fits)
 

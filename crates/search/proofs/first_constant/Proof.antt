@@ -29,20 +29,24 @@ abbrev μ-loop : tie.MeasureT-loop
 counted : (c : tie.After-children-of Inv-loop μ-loop) → let a = c .before .before .before .before .before .before .args in c .children-of .result ≡ children (getD (a .part .now) 0 0)
 counted c = c .children-of .ensures ∙ ap children (c .before .wide16 .ensures .0)
 
+-- Back to where the function starts.
+abbrev start : tie.In-loop Inv-loop μ-loop → tie.Start Inv-loop μ-loop
+start c = let d = c .before .before .before .before in d .before .before .before .before
+
 -- Child i is there, and begins within the stretch.
-here : (c : tie.In-loop Inv-loop μ-loop) → let a = c .before .before .before .before .before .before .before .before .args in c .before .loop .i < children (getD (a .part .now) 0 0)
+here : (c : tie.In-loop Inv-loop μ-loop) → let a = start c .args in c .before .loop .i < children (getD (a .part .now) 0 0)
 here c = omega (arith, counted (c .before .before), c .loop-test .taken)
 
-inside : (c : tie.In-loop Inv-loop μ-loop) → let a = c .before .before .before .before .before .before .before .before .args in (c .before .loop .at < length (a .part .now)) × (length (a .part .now) ≤ sheet-room)
+inside : (c : tie.In-loop Inv-loop μ-loop) → let a = start c .args in (c .before .loop .at < length (a .part .now)) × (length (a .part .now) ≤ sheet-room)
 inside c =
-    let b = c .before .before .before .before .before .before .before .before in
+    let b = start c in
     let w = counted-child (b .pre .1 .0) (b .pre .1 .1 .0) (here c, c .before .loop .inv .0 .here) in
     (w .1, w .2)
 
 -- Its number says what the rule asks.
-asked : (c : tie.In-loop Inv-loop μ-loop) → let b = c .before .before .before .before .before .before .before .before in let l = b .args .part .now in eqb (getD l (c .before .loop .at) 0) (c .before .before .before .before .before .constant-for .result) ≡ is-some (rewrite (b .args .rule) (c .before .loop .i) 0 (forest-in l))
+asked : (c : tie.In-loop Inv-loop μ-loop) → let b = start c in let l = b .args .part .now in eqb (getD l (c .before .loop .at) 0) (c .before .before .before .before .before .constant-for .result) ≡ is-some (rewrite (b .args .rule) (c .before .loop .i) 0 (forest-in l))
 asked c =
-    let b = c .before .before .before .before .before .before .before .before in
+    let b = start c in
     constant-asked (b .pre .1 .0) (b .pre .1 .1 .0) (b .pre .0 .1) (here c) (c .before .loop .inv .0 .here) (c .before .before .before .before .before .constant-for .ensures)
 
 constant-for-requires : tie.Need-constant-for-requires Inv-loop μ-loop
@@ -79,7 +83,7 @@ mul-wide16 c = let w = inside (c .before .before) in omega arith
 shared-slice-read-wide16-2 : tie.Need-shared-slice-read-wide16-2 Inv-loop μ-loop
 shared-slice-read-wide16-2 c =
     let n = c .before .before .before in
-    let b = n .before .before .before .before .before .before .before .before in
+    let b = start n in
     omega (arith, inside n .0, b .pre .1 .1 .1 .long)
 
 wide16-requires-2 : tie.Need-wide16-requires-2 Inv-loop μ-loop
@@ -88,7 +92,7 @@ wide16-requires-2 c κs = search needs
 add-at : tie.Need-add-at Inv-loop μ-loop
 add-at c =
     let n = c .before .before .before .before in
-    let b = n .before .before .before .before .before .before .before .before in
+    let b = start n in
     let w = inside n in
     omega (arith, hop-within (b .pre .1 .1 .1) (w .0) (c .wide162 .ensures .0))
 
@@ -101,7 +105,7 @@ loop-less c = omega arith
 loop-again : tie.Need-loop-again Inv-loop μ-loop
 loop-again c =
     let n = c .before .before .before .before in
-    let b = n .before .before .before .before .before .before .before .before in
+    let b = start n in
     let none-here = sym (asked n) ∙ ne-eqb _ _ (c .before .before .if1 .left) in
     (passed-more (b .pre .1 .1 .1) (inside n .0) (c .wide162 .ensures .0) (n .before .loop .inv .0) none-here, omega arith)
 

@@ -36,7 +36,7 @@ first-beside-requires c κs =
     ((b .pre .0 .0, omega arith), (b .pre .1 .0, (right e, b .pre .1 .1)))
 
 shared-slice-read-wide16 : tie.Need-shared-slice-read-wide16
-shared-slice-read-wide16 c = c .before .before .before .before .before .before .before .before .pre .0 .2
+shared-slice-read-wide16 c = let d = c .before .before .before .before in d .before .before .before .before .pre .0 .2
 
 wide16-requires : tie.Need-wide16-requires
 wide16-requires c κs = search needs
@@ -45,7 +45,7 @@ children-of-requires : tie.Need-children-of-requires
 children-of-requires c κs = search needs
 
 -- What the first child with which the rule applies is to the search, by the number of the children.
-counted : (c : tie.After-children-of) → let a = c .before .before .before .before .before .before .before .before .before .before .args in c .children-of .result ≡ children (getD (a .part .now) 0 0)
+counted : (c : tie.After-children-of) → let d = c .before .before .before .before .before in let a = d .before .before .before .before .before .args in c .children-of .result ≡ children (getD (a .part .now) 0 0)
 counted c = c .children-of .ensures ∙ ap children (c .before .wide16 .ensures .0)
 
 returns-2 : tie.Need-returns-2

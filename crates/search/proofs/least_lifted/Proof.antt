@@ -1,7 +1,7 @@
 -- `search::least_lifted` meets its contract. Invariant: inner child j begins at the present place, and none before it is a literal.
 use mathlib.Core.Bool.{false}
 use mathlib.Core.Path.{_≡_, sym, ap, _∙_}
-use Prim.Native.Nat.{ℕ, _+_, _-_, _≤_, _<_}
+use Prim.Native.Nat.{_+_, _-_, _≤_, _<_}
 use native.Mathlib.Omega.{arith}
 use borrow.Author.Needs.{needs}
 use lib.ListN.{length, getD, drop}
@@ -64,21 +64,25 @@ add-from c = let w = child (c .before .before .before .before .before .before .b
 loop-holds : tie.Need-loop-holds Inv-loop μ-loop
 loop-holds c = passed-first
 
+-- Back to where the function starts.
+abbrev start : tie.At-loop Inv-loop μ-loop → tie.Start Inv-loop μ-loop
+start c = let d = c .before .before .before .before in d .before .before .before .before
+
 -- Where inner child j begins, as the rule's laws say it.
-placed : (c : tie.At-loop Inv-loop μ-loop) → let a = c .before .before .before .before .before .before .before .before .args in c .loop .from ≡ a .at + child-at (c .loop .j) (drop (a .at) (a .part .now))
+placed : (c : tie.At-loop Inv-loop μ-loop) → let a = start c .args in c .loop .from ≡ a .at + child-at (c .loop .j) (drop (a .at) (a .part .now))
 placed c =
-    let a = c .before .before .before .before .before .before .before .before .args in
+    let a = start c .args in
     c .loop .inv .here ∙ sym (inner-at (a .at) (c .loop .j) (a .part .now))
 
 -- The place of inner child j is within the stretch, and its number says what the rule asks.
-inside : (c : tie.In-loop Inv-loop μ-loop) → let a = c .before .before .before .before .before .before .before .before .before .args in (c .before .loop .from < length (a .part .now)) × (length (a .part .now) ≤ sheet-room)
+inside : (c : tie.In-loop Inv-loop μ-loop) → let a = start (c .before) .args in (c .before .loop .from < length (a .part .now)) × (length (a .part .now) ≤ sheet-room)
 inside c =
     let v = c .before .before in
     let b = v .before .before .before .before .before .before .before in
     let room = inner-room (b .pre .1 .0) (b .pre .1 .1 .0) (b .args .i) (b .pre .0 .0) (b .pre .0 .1) (b .pre .1 .1 .1 .0 .0) (b .pre .1 .1 .1 .0 .1) (conjunction (v .before)) (c .before .loop .j) (omega (arith, counted v)) in
     (omega (arith, room, placed (c .before)), child b .1)
 
-tested : (c : tie.After-is-literal Inv-loop μ-loop) → let n = c .before .before .before .before in let a = n .before .before .before .before .before .before .before .before .args in c .is-literal .result ≡ is-some (rewrite (a .rule) (a .i) (n .loop .j) (forest-in (a .part .now)))
+tested : (c : tie.After-is-literal Inv-loop μ-loop) → let n = c .before .before .before .before in let a = start n .args in c .is-literal .result ≡ is-some (rewrite (a .rule) (a .i) (n .loop .j) (forest-in (a .part .now)))
 tested c =
     let n = c .before .before .before .before in
     let v = n .before in
@@ -102,7 +106,7 @@ is-literal-requires c κs = search needs
 returns-2 : tie.Need-returns-2 Inv-loop μ-loop
 returns-2 c =
     let n = c .before .before .before .before .before in
-    let a = n .before .before .before .before .before .before .before .before .args in
+    let a = start n .args in
     λ p. j-found (a .rule) p (forest-in (a .part .now)) (a .i) (n .loop .j) (sym (tested (c .before)) ∙ c .if2 .taken) (n .loop .inv .before)
 
 mul-wide16-3 : tie.Need-mul-wide16-3 Inv-loop μ-loop
@@ -111,7 +115,7 @@ mul-wide16-3 c = let w = inside (c .before .before .before .before) in omega ari
 shared-slice-read-wide16-3 : tie.Need-shared-slice-read-wide16-3 Inv-loop μ-loop
 shared-slice-read-wide16-3 c =
     let n = c .before .before .before .before .before in
-    let b = n .before .before .before .before .before .before .before .before .before in
+    let b = start (n .before) in
     omega (arith, inside n .0, b .pre .1 .1 .1 .1 .long)
 
 wide16-requires-3 : tie.Need-wide16-requires-3 Inv-loop μ-loop
@@ -120,7 +124,7 @@ wide16-requires-3 c κs = search needs
 add-from-2 : tie.Need-add-from-2 Inv-loop μ-loop
 add-from-2 c =
     let n = c .before .before .before .before .before .before in
-    let b = n .before .before .before .before .before .before .before .before .before in
+    let b = start (n .before) in
     let w = inside n in
     omega (arith, hop-within (b .pre .1 .1 .1 .1) (w .0) (c .wide163 .ensures .0))
 
@@ -133,7 +137,7 @@ loop-less c = omega arith
 loop-again : tie.Need-loop-again Inv-loop μ-loop
 loop-again c =
     let n = c .before .before .before .before .before .before in
-    let b = n .before .before .before .before .before .before .before .before .before in
+    let b = start (n .before) in
     let none-here = sym (tested (c .before .before .before)) ∙ c .before .before .if2 .left in
     passed-more (b .pre .1 .1 .1 .1) (inside n .0) (c .wide163 .ensures .0) (n .before .loop .inv) none-here
 
