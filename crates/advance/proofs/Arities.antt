@@ -20,7 +20,8 @@ use Rattle.theory.specs.Spans.{arity, span, arity-leaf, arity-head}
 use Rattle.theory.specs.Sheets.{Formed}
 use Rattle.theory.specs.Stretches.{stands}
 use Rattle.locality.specs.Turned.{Turned, turned}
-use Rattle.locality.specs.Families.{family-9, level-length}
+use Rattle.theory.specs.Turns.{family-9}
+use Rattle.locality.specs.Locality.{level-length}
 use Rattle.sizes.specs.SizeTables.{Sizes-from}
 use Rattle.search.specs.declared.Redex.{Redex}
 use Rattle.search.specs.Redexes.{Applies}

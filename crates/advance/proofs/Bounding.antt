@@ -17,7 +17,7 @@ use Rattle.theory.specs.Logic.{either}
 use Rattle.theory.specs.Sheets.{Formed}
 use Rattle.locality.specs.Zones.{Holds, Twice}
 use Rattle.locality.specs.Locality.{step-extent, step-before}
-use Rattle.locality.specs.Families.{level-length}
+use Rattle.locality.specs.Locality.{level-length}
 use Rattle.locality.specs.Inside.{spread-inside}
 use Rattle.search.specs.declared.Redex.{Redex}
 use Rattle.search.specs.Redexes.{Applies}

@@ -16,7 +16,8 @@ use Rattle.theory.specs.Heads.{Headed}
 use Rattle.theory.specs.Children.{Group, headed-group, group-head, group-children, group-long, child-room}
 use Rattle.sizes.specs.TreeHops.{span-tree}
 use Rattle.spread.specs.Assigning.{spreads-from}
-use Rattle.spread.proofs.Laws.{child-inside, asks-around}
+use Rattle.theory.specs.Children.{child-inside}
+use Rattle.spread.proofs.Spreading.{asks-around}
 use Rattle.sizes.specs.FirstApplying.{First-child, first-same}
 use Rattle.recurring.specs.Recurring.{Ends-at, First-again}
 

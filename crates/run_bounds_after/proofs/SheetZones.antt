@@ -21,10 +21,10 @@ use Rattle.theory.specs.Steps.{done, more, steps-weight}
 use Rattle.theory.specs.Bounds.{step-within, step-child}
 use Rattle.theory.specs.Turns.{family-at}
 use Rattle.locality.specs.Zones.{between, zone, tree-length, tree-end, child-place}
-use Rattle.locality.specs.Places.{read-here, length-here, child-here}
+use Rattle.locality.specs.ChildPlaces.{read-here, length-here, child-here}
 use Rattle.locality.specs.Turned.{Turned, turned, old-here}
 use Rattle.locality.specs.Locality.{step-extent, step-after}
-use Rattle.locality.specs.Families.{family-1, family-4, family-7, family-9, family-11}
+use Rattle.theory.specs.Turns.{family-1, family-4, family-7, family-9, family-11}
 use Rattle.sizes.specs.SizeTables.{Sizes-from}
 use Rattle.search.specs.declared.Redex.{Redex}
 use Rattle.search.specs.Redexes.{Applies}

@@ -23,7 +23,8 @@ use Rattle.theory.specs.Heads.{Headed}
 use Rattle.theory.specs.Children.{Group, headed-group, group-children, first-left, child-room, child-conjunction}
 use Rattle.theory.specs.Turns.{family-at, family-asks}
 use Rattle.lift.specs.Asked.{literalChild}
-use Rattle.lift.proofs.Laws.{asks-nothing, conjunction-group, asks-literal}
+use Rattle.theory.specs.Children.{conjunction-group}
+use Rattle.lift.proofs.Lifting.{asks-nothing, asks-literal}
 use Rattle.search.proofs.SearchLevels.{j-found, j-none}
 
 -- But for rules 11, 12 and 14 an inner child other than 0 gives nothing.
