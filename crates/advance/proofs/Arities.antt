@@ -13,7 +13,7 @@ use Rattle.model.specs.Rules.{assigned, spread, spreads, change}
 use Rattle.model.specs.Sheet.{used-in, numbers-in, nodes-in}
 use Rattle.theory.specs.Logic.{only-some, then-some}
 use Rattle.theory.specs.Lists.{map-drop}
-use Rattle.theory.specs.Forests.{size-⊕, literal-here, cut-at, assigned-lit}
+use Rattle.theory.specs.Forests.{size-⊕, literal-here, cut-at, assigned-lit, size-assigned}
 use Rattle.theory.specs.Codes.{encode-⊕}
 use Rattle.theory.specs.Numbers.{fits, fits-node}
 use Rattle.theory.specs.Spans.{arity, span, arity-leaf, arity-head}
@@ -42,25 +42,19 @@ arms-⊕ f g = ap (map below) (encode-⊕ f g) ∙ map-append below (encode f) (
 
 -- Where a literal is assigned, a literal and the constant in its place have no children.
 module _ (c : Conn) (l : Literal) where
-  size-assigned : (f : Forest) → size (assigned c l f) ≡ size f
-  unfolding size assigned
-  size-assigned nil = refl
-  size-assigned (lit x f) = let h = ap suc (size-assigned f) in assigned-lit (λ g. size g ≡ suc (size f)) c l x f (λ e. h) (λ e. h) (λ e o. h)
-  size-assigned (node d k f) = ap suc (size-assigned f)
-
   arms-assigned : (f : Forest) → arms (assigned c l f) ≡ arms f
   unfolding size assigned encode
   arms-assigned nil = refl
   arms-assigned (lit x f) = let h = ap (λ xs. 0 ∷ xs) (arms-assigned f) in assigned-lit (λ g. arms g ≡ 0 ∷ arms f) c l x f (λ e. h) (λ e. h) (λ e o. h)
   arms-assigned (node d k f) =
-      ap₂ _∷_ (size-assigned k) (map-append below (encode (assigned c l k)) (encode (assigned c l f)) ∙ ap₂ _++_ (arms-assigned k) (arms-assigned f) ∙ sym (map-append below (encode k) (encode f)))
+      ap₂ _∷_ (size-assigned c l k) (map-append below (encode (assigned c l k)) (encode (assigned c l f)) ∙ ap₂ _++_ (arms-assigned k) (arms-assigned f) ∙ sym (map-append below (encode k) (encode f)))
 
   -- The children of a node, but for one literal among them.
   module _ (a b : Forest) where
     children-size : size (assigned c l a ⊕ lit l (assigned c l b)) ≡ size (a ⊕ lit l b)
     unfolding size
     children-size =
-        omega (arith, size-⊕ (assigned c l a) (lit l (assigned c l b)), size-⊕ a (lit l b), size-assigned a, size-assigned b)
+        omega (arith, size-⊕ (assigned c l a) (lit l (assigned c l b)), size-⊕ a (lit l b), size-assigned c l a, size-assigned c l b)
 
     children-arms : arms (assigned c l a ⊕ lit l (assigned c l b)) ≡ arms (a ⊕ lit l b)
     unfolding encode

@@ -19,7 +19,8 @@ use Rattle.theory.specs.Literals.{is-same, same-self}
 use Rattle.theory.specs.Evaluation.{Set, fails-all, fails, values}
 use Rattle.theory.specs.Fine.{fine, fine-node}
 use Rattle.call_laws.specs.Irreducible.{Still, Irreducible}
-use Rattle.call_laws.specs.Standing.{stands, unit-mentions, unit-index}
+use Rattle.theory.specs.Forests.{unit-mentions}
+use Rattle.call_laws.specs.Standing.{stands, unit-index}
 use Rattle.call_laws.specs.Still.{NoFalse, no-false, empty-or-two, literal-alone, nothing-to-lift, nothing-to-factor}
 
 module _ (s : Set) (a : Literal) where

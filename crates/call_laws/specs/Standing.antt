@@ -46,9 +46,6 @@ unit-stands l nil e = e
 unit-stands l (lit x f) e = ⊎-elim (λ p. or-left _ p) (λ p. or-right (same l x) (unit-stands l f p)) (or-split (same l x) _ e)
 unit-stands l (node c k f) e = or-right (stands l k) (unit-stands l f e)
 
-pub unit-mentions : (l : Literal) (f : Forest) → has-unit l f ≡ true → mentions (option l) f ≡ true
-unit-mentions l f e = stands-mentions l f (unit-stands l f e)
-
 -- The index at which the literal stands first among the trees.
 abbrev FirstUnit : Literal → Forest → Type 0
 FirstUnit l f = (i : ℕ) × (literal-at (after i f) ≡ some l) × (has-unit l (first i f) ≡ false)

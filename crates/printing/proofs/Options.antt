@@ -14,6 +14,7 @@ use lib.Seq.{slice, slice-cons, slice-empty, take-suc, length-take-le}
 use Rattle.model.specs.Base.{pick}
 use Rattle.model.specs.Book.{characters, pieces}
 use Rattle.calls.specs.Desk.{line, mark-word, option-lines}
+use Rattle.theory.specs.Stretches.{live-short}
 use Rattle.codes.proofs.Pieces.{count-pieces, pieces-more}
 use Rattle.printing.specs.Placed.{after, filled}
 use Rattle.printing.proofs.PlacedBytes.{length-line, placed-then}
@@ -48,15 +49,6 @@ lines-more (d ∷ cs) (x ∷ ms) c m e =
     ∙ sym (append-assoc (line (characters d) (mark-word x)) (option-lines cs ms) (line (characters c) (mark-word m)))
 
 -- A line has at most 13 characters, a space, a word of four and its end.
-pub few-characters : (c : List ℕ) → length (characters c) ≤ length c
-unfolding characters pick
-few-characters [] = omega arith
-few-characters (x ∷ c) = go (eqb x 0) (few-characters c)
-  where
-    go : (t : Bool) → length (characters c) ≤ length c → length (pick t [] (x ∷ characters c)) ≤ suc (length c)
-    go true h = omega arith
-    go false h = omega arith
-
 short-word : (m : ℕ) → length (mark-word m) ≤ 4
 unfolding mark-word pick
 short-word m = go (eqb m 1) (eqb m 2)
@@ -68,7 +60,7 @@ short-word m = go (eqb m 1) (eqb m 2)
 
 pub option-short : (c : List ℕ) (m : ℕ) → length (line (characters (take 13 c)) (mark-word m)) ≤ 19
 option-short c m =
-    omega (arith, length-line (characters (take 13 c)) (mark-word m), few-characters (take 13 c), length-take 13 c, short-word m)
+    omega (arith, length-line (characters (take 13 c)) (mark-word m), live-short (take 13 c), length-take 13 c, short-word m)
 
 -- The lines of the options passed, and the next in the rest of the buffer, whose code is read in the rest of the codes.
 module _ (codes marks old : List ℕ) (i : ℕ) (h : i < length marks) where

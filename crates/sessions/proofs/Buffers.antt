@@ -32,7 +32,7 @@ use Rattle.books.proofs.BookTests.{head-limits, length-is}
 use Rattle.transfer.proofs.TransferAnswers as transfer
 use Rattle.keying.specs.Endings.{ending}
 use Rattle.keying.proofs.KeyedLines.{first-of-lines}
-use Rattle.printing.proofs.Options.{few-characters}
+use Rattle.theory.specs.Stretches.{live-short}
 use Rattle.sessions.proofs.PrintedAnswers.{chosen-lines, loaded-lines, desk-is, load-refused}
 
 -- A code of more than 13 characters is no option's.
@@ -50,7 +50,7 @@ none-spelled : (given : List ℕ) (n v : ℕ) (b : List ℕ) → 13 < length giv
 unfolding option-of-code pieces pick same-code
 none-spelled given zero v b h = refl
 none-spelled given (suc n) v b h =
-    let short : length (characters (take 13 b)) < length given = omega (arith, few-characters (take 13 b), length-take 13 b) in
+    let short : length (characters (take 13 b)) < length given = omega (arith, live-short (take 13 b), length-take 13 b) in
     rw (longer given (characters (take 13 b)) short) (none-spelled given n (suc v) (drop 13 b) h)
 
 -- What a line with such a code is refused for: its first byte and the book say it alone.
