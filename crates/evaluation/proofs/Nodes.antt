@@ -11,7 +11,7 @@ use lib.ListN.{getD, take, drop, length, length-drop, length-map}
 use lib.Seq.{drop-cons}
 use Rattle.model.specs.Base.{pick, all}
 use Rattle.model.specs.Limits.{most-literals}
-use Rattle.model.specs.Forest.{Conn, and, or, root, Forest, nil, lit, node, size}
+use Rattle.model.specs.Forest.{Conn, and, or, root, Forest, size}
 use Rattle.model.specs.Code.{head, kind, value, node-of, decode, push, trees, joined, children}
 use Rattle.model.specs.Sheet.{numbers-in, nodes-in, used-in, options-in, rooted, body-node}
 use Rattle.theory.specs.Logic.{true-false, and-split, or-neither, then-some, only-some}
@@ -21,7 +21,7 @@ use Rattle.theory.specs.Codes.{encode-decode, trees-drop, size-length}
 use Rattle.theory.specs.Lists.{map-drop}
 use Rattle.theory.specs.Shape.{shaped-trees}
 use Rattle.theory.specs.Sheets.{Formed}
-use Rattle.theory.specs.Evaluation.{Set, fails-all, values}
+use Rattle.theory.specs.Evaluation.{Set, fails-all, values, length-values}
 use Rattle.theory.specs.Families.{unwrapped-values}
 use Rattle.theory.specs.Values.{and-root, values-first, values-after}
 use Rattle.theory.specs.Tables.{place-of, set-of}
@@ -90,12 +90,6 @@ module _ (t : List ℕ) (x : ℕ) (bs : List Bool) where
 -- The number of the trees.
 unfoldable pub trees-of : List ℕ → ℕ
 trees-of xs = size (decode (map node-of xs))
-
-length-values : (s : Set) (f : Forest) → length (values s f) ≡ size f
-unfolding values size
-length-values s nil = refl
-length-values s (lit l f) = ap suc (length-values s f)
-length-values s (node c k f) = ap suc (length-values s f)
 
 pub values-length : (t xs : List ℕ) → length (values-of t xs) ≡ trees-of xs
 unfolding values-of trees-of

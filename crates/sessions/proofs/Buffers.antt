@@ -32,6 +32,7 @@ use Rattle.books.proofs.BookTests.{head-limits, length-is}
 use Rattle.transfer.proofs.TransferAnswers as transfer
 use Rattle.keying.specs.Endings.{ending}
 use Rattle.keying.proofs.KeyedLines.{first-of-lines}
+use Rattle.theory.specs.Lists.{drop-take}
 use Rattle.theory.specs.Stretches.{live-short}
 use Rattle.sessions.proofs.PrintedAnswers.{chosen-lines, loaded-lines, desk-is, load-refused}
 
@@ -179,13 +180,6 @@ ending-within (x ∷ xs) = go (eqb x 10) (ending-within xs)
     go true h = omega arith
     go false h = omega arith
 
-drop-cut : (i n : ℕ) (l : List ℕ) → drop i (take n l) ≡ take (n - i) (drop i l)
-drop-cut zero n l = let e : n - 0 ≡ n = omega arith in rw e
-drop-cut (suc i) zero l =
-    let e : 0 - suc i ≡ 0 = omega arith in rw e
-drop-cut (suc i) (suc n) [] = sym (take-nil (suc n - suc i))
-drop-cut (suc i) (suc n) (x ∷ l) = let e : suc n - suc i ≡ n - i = omega arith in rw e (drop-cut i n l)
-
 -- A first line of more than 14 bytes is refused, whatever stands after its first byte.
 long-line :
     (book s ys : List ℕ) (x : ℕ) →
@@ -213,7 +207,7 @@ lines-cut :
 lines-cut x m ys h =
     let end = ending (x ∷ ys) in
     first-of-lines x (take m ys)
-    ∙ rw (ending-cut (suc m) (x ∷ ys) h, take-take end (suc m) (x ∷ ys) (omega arith), drop-cut (suc end) (suc m) (x ∷ ys))
+    ∙ rw (ending-cut (suc m) (x ∷ ys) h, take-take end (suc m) (x ∷ ys) (omega arith), drop-take (suc end) (suc m) (x ∷ ys))
 
 go-on-same :
     (a : Answer (Unit {0})) (s : List ℕ) (f g : List ℕ → Outcome (List ℕ) (Unit {0})) →
