@@ -85,7 +85,9 @@ fn follow(sheet: &[u16], sizes: &[u16], low: &mut [u16], rule: usize, plan: Plan
 
 // The greater of two numbers.
 fn greater(a: usize, b: usize) -> usize
-    ensures { λ r. ⌜ (a ≤ r) × (b ≤ r) × ((r ≡ a) ⊎ (r ≡ b)) ⌝ }
+    ensures { λ r. ⌜ (a ≤ r)
+        × (b ≤ r)
+        × ((r ≡ a) ⊎ (r ≡ b)) ⌝ }
 {
     if a < b {
         return b;
@@ -95,7 +97,9 @@ fn greater(a: usize, b: usize) -> usize
 
 // The lesser of two numbers.
 fn lesser(a: usize, b: usize) -> usize
-    ensures { λ r. ⌜ (r ≤ a) × (r ≤ b) × ((r ≡ a) ⊎ (r ≡ b)) ⌝ }
+    ensures { λ r. ⌜ (r ≤ a)
+        × (r ≤ b)
+        × ((r ≡ a) ⊎ (r ≡ b)) ⌝ }
 {
     if a < b {
         return a;

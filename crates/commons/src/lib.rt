@@ -18,7 +18,8 @@ const LITERAL_NUMBERS: usize = 2 * KIND_FACTOR;
 
 // A child of a conjunction is noted: a literal that each of the conjunctions before holds is held by one more.
 fn note(held: &mut [u16], x: usize, groups: u16)
-    requires { ⌜ (length (now held) ≡ «literal-numbers») × (groups ≤ «sheet-room») ⌝ }
+    requires { ⌜ (length (now held) ≡ «literal-numbers»)
+        × (groups ≤ «sheet-room») ⌝ }
     ensures { λ r. ⌜ Noted x groups (now (held .entry)) (now (held .exit)) ⌝ }
 {
     if !nodes::is_literal(x) {
@@ -88,9 +89,11 @@ fn may_share(held: &[u16], x: usize, groups: u16) -> bool
 fn first_sifted(part: &[u16], sizes: &[u16], i: usize, held: &[u16], groups: u16) -> usize
     requires { ⌜ Stretch (now part) ⌝ }
     requires { ⌜ Headed 14 (now part) ⌝ }
-    requires { ⌜ (i < children (getD (now part) 0 0)) × (1 + i ≡ «child-at» i (now part)) ⌝ }
+    requires { ⌜ (i < children (getD (now part) 0 0))
+        × (1 + i ≡ «child-at» i (now part)) ⌝ }
     requires { ⌜ «Sizes-of» (now part) (now sizes) ⌝ }
-    requires { ⌜ (length (now held) ≡ «literal-numbers») × Filter groups (now part) (now held) ⌝ }
+    requires { ⌜ (length (now held) ≡ «literal-numbers»)
+        × Filter groups (now part) (now held) ⌝ }
     ensures { λ r. ⌜ «First-inner» 14 i r (now (part .entry)) ⌝ }
 {
     let at = 1 + i;
@@ -116,7 +119,8 @@ fn first_sifted(part: &[u16], sizes: &[u16], i: usize, held: &[u16], groups: u16
 fn first_held(part: &[u16], sizes: &[u16], i: usize) -> usize
     requires { ⌜ Stretch (now part) ⌝ }
     requires { ⌜ Headed 14 (now part) ⌝ }
-    requires { ⌜ (i < children (getD (now part) 0 0)) × (1 + i ≡ «child-at» i (now part)) ⌝ }
+    requires { ⌜ (i < children (getD (now part) 0 0))
+        × (1 + i ≡ «child-at» i (now part)) ⌝ }
     requires { ⌜ «Sizes-of» (now part) (now sizes) ⌝ }
     ensures { λ r. ⌜ «First-inner» 14 i r (now (part .entry)) ⌝ }
 {
@@ -129,7 +133,8 @@ fn first_held(part: &[u16], sizes: &[u16], i: usize) -> usize
 fn first_tried(part: &[u16], i: usize) -> usize
     requires { ⌜ Stretch (now part) ⌝ }
     requires { ⌜ Headed 14 (now part) ⌝ }
-    requires { ⌜ (i < children (getD (now part) 0 0)) × (1 + i ≡ «child-at» i (now part)) ⌝ }
+    requires { ⌜ (i < children (getD (now part) 0 0))
+        × (1 + i ≡ «child-at» i (now part)) ⌝ }
     ensures { λ r. ⌜ «First-inner» 14 i r (now (part .entry)) ⌝ }
 {
     let m = spans::arity_of(numbers::wide16(part[1 + i]));
@@ -148,7 +153,8 @@ fn first_tried(part: &[u16], i: usize) -> usize
 pub fn first_common(part: &[u16], sizes: &[u16], i: usize) -> usize
     requires { ⌜ Stretch (now part) ⌝ }
     requires { ⌜ Headed 14 (now part) ⌝ }
-    requires { ⌜ (i < children (getD (now part) 0 0)) × (1 + i ≡ «child-at» i (now part)) ⌝ }
+    requires { ⌜ (i < children (getD (now part) 0 0))
+        × (1 + i ≡ «child-at» i (now part)) ⌝ }
     requires { ⌜ «Sizes-of» (now part) (now sizes) ⌝ }
     ensures { λ r. ⌜ «First-inner» 14 i r (now (part .entry)) ⌝ }
 {

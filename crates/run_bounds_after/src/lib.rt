@@ -64,7 +64,9 @@ fn lifted_zone(sheet: &[u16], redex: Redex) -> Zone
 // The zone of a step that takes one node away.
 fn node_gone(at: usize) -> Zone
     requires { ⌜ at < «sheet-room» ⌝ }
-    ensures { λ r. ⌜ (r .from ≡ at) × (r .old ≡ at + 1) × (r .new ≡ at) ⌝ }
+    ensures { λ r. ⌜ (r .from ≡ at)
+        × (r .old ≡ at + 1)
+        × (r .new ≡ at) ⌝ }
 {
     Zone {
         from: at,
@@ -75,7 +77,9 @@ fn node_gone(at: usize) -> Zone
 
 // The zone of a step that moves no node.
 fn unmoved(from: usize, to: usize) -> Zone
-    ensures { λ r. ⌜ (r .from ≡ from) × (r .old ≡ to) × (r .new ≡ to) ⌝ }
+    ensures { λ r. ⌜ (r .from ≡ from)
+        × (r .old ≡ to)
+        × (r .new ≡ to) ⌝ }
 {
     Zone {
         from: from,

@@ -38,7 +38,8 @@ fn least_lifted(part: &[u16], sizes: &[u16], rule: usize, i: usize, at: usize) -
     requires { ⌜ (11 ≤ rule) × (rule ≤ 12) ⌝ }
     requires { ⌜ Stretch (now part) ⌝ }
     requires { ⌜ Headed rule (now part) ⌝ }
-    requires { ⌜ (i < children (getD (now part) 0 0)) × (at ≡ «child-at» i (now part)) ⌝ }
+    requires { ⌜ (i < children (getD (now part) 0 0))
+        × (at ≡ «child-at» i (now part)) ⌝ }
     requires { ⌜ «Sizes-of» (now part) (now sizes) ⌝ }
     ensures { λ r. ⌜ ((p : ℕ) → spotOf rule p r ≡ «least-j» rule p i («forest-in» (now (part .entry)))) ⌝ }
 {
@@ -63,7 +64,8 @@ fn least_lifted(part: &[u16], sizes: &[u16], rule: usize, i: usize, at: usize) -
 fn least_merged(part: &[u16], i: usize, at: usize) -> Spot
     requires { ⌜ Stretch (now part) ⌝ }
     requires { ⌜ Headed 13 (now part) ⌝ }
-    requires { ⌜ (i < children (getD (now part) 0 0)) × (at ≡ «child-at» i (now part)) ⌝ }
+    requires { ⌜ (i < children (getD (now part) 0 0))
+        × (at ≡ «child-at» i (now part)) ⌝ }
     ensures { λ r. ⌜ ((p : ℕ) → spotOf 13 p r ≡ «least-j» 13 p i («forest-in» (now (part .entry)))) ⌝ }
 {
     if at != 1 + i {
@@ -79,7 +81,8 @@ fn least_merged(part: &[u16], i: usize, at: usize) -> Spot
 fn least_factored(part: &[u16], sizes: &[u16], i: usize, at: usize) -> Spot
     requires { ⌜ Stretch (now part) ⌝ }
     requires { ⌜ Headed 14 (now part) ⌝ }
-    requires { ⌜ (i < children (getD (now part) 0 0)) × (at ≡ «child-at» i (now part)) ⌝ }
+    requires { ⌜ (i < children (getD (now part) 0 0))
+        × (at ≡ «child-at» i (now part)) ⌝ }
     requires { ⌜ «Sizes-of» (now part) (now sizes) ⌝ }
     ensures { λ r. ⌜ ((p : ℕ) → spotOf 14 p r ≡ «least-j» 14 p i («forest-in» (now (part .entry)))) ⌝ }
 {
@@ -98,7 +101,8 @@ fn least_inner(part: &[u16], sizes: &[u16], rule: usize, i: usize, at: usize) ->
     requires { ⌜ (11 ≤ rule) × (rule ≤ «last-rule») ⌝ }
     requires { ⌜ Stretch (now part) ⌝ }
     requires { ⌜ Headed rule (now part) ⌝ }
-    requires { ⌜ (i < children (getD (now part) 0 0)) × (at ≡ «child-at» i (now part)) ⌝ }
+    requires { ⌜ (i < children (getD (now part) 0 0))
+        × (at ≡ «child-at» i (now part)) ⌝ }
     requires { ⌜ «Sizes-of» (now part) (now sizes) ⌝ }
     ensures { λ r. ⌜ ((p : ℕ) → spotOf rule p r ≡ «least-j» rule p i («forest-in» (now (part .entry)))) ⌝ }
 {
