@@ -103,7 +103,8 @@ module _ (q : ℕ) where
   broken-take (suc k) ls [] = refl
   broken-take (suc k) ls (f ∷ fs) = ap (λ r. (failing f || among q (drop (begin f) ls)) ∷ r) (broken-take k (take (begin f) ls) fs)
 
-  pub broken-drop : (k n : ℕ) (ls fs : List ℕ) → length ls ≡ n → Stacked n fs → broken q (take (bottom n (take k fs)) ls) (drop k fs) ≡ drop k (broken q ls fs)
+  pub broken-drop : (k n : ℕ) (ls fs : List ℕ) → length ls ≡ n → Stacked n fs →
+      broken q (take (bottom n (take k fs)) ls) (drop k fs) ≡ drop k (broken q ls fs)
   unfolding broken bottom
   broken-drop zero n ls fs e s = ap (λ r. broken q r fs) (take-all n ls (omega arith))
   broken-drop (suc k) n ls [] e s = refl

@@ -29,7 +29,8 @@ module _ (q : ℕ) where
       (either (failing f))
 
   -- Where none does, the literals of all of them break it.
-  pub none-fails : (ls fs : List ℕ) {n : ℕ} → length ls ≡ n → Stacked n fs → standing fs ≡ length fs → fails-all root (broken q ls fs) ≡ among q (drop (bottom n fs) ls)
+  pub none-fails : (ls fs : List ℕ) {n : ℕ} → length ls ≡ n → Stacked n fs → standing fs ≡ length fs →
+      fails-all root (broken q ls fs) ≡ among q (drop (bottom n fs) ls)
   unfolding broken bottom among
   none-fails ls [] e s h = rw (root-none, ← e, drop-length ls)
   none-fails ls (f ∷ fs) e s h = ⊎-elim
@@ -51,7 +52,8 @@ module _ (q : ℕ) where
       (either (failing f))
 
   -- Where all but one do, the literals of that one break it.
-  pub one-stands : (ls fs : List ℕ) {n : ℕ} → length ls ≡ n → Stacked n fs → standing fs ≡ 1 → fails-all or (broken q ls fs) ≡ among q (drop (bottom n fs) ls)
+  pub one-stands : (ls fs : List ℕ) {n : ℕ} → length ls ≡ n → Stacked n fs → standing fs ≡ 1 →
+      fails-all or (broken q ls fs) ≡ among q (drop (bottom n fs) ls)
   unfolding broken bottom standing
   one-stands ls [] e s h = absurd (omega arith)
   one-stands ls (f ∷ fs) e s h = ⊎-elim
@@ -64,7 +66,8 @@ module _ (q : ℕ) where
       (either (failing f))
 
 -- Where literals were counted, those of the last trees whose counts are at the number break a disjunction.
-pub common-breaks : {ls fs held : List ℕ} {n : ℕ} → Counted ls fs held n → 1 ≤ n → (q : ℕ) → (among q (drop (bottom (length ls) fs) ls) && eqb (getD held q 0) n) ≡ fails-all or (broken q ls fs)
+pub common-breaks : {ls fs held : List ℕ} {n : ℕ} → Counted ls fs held n → 1 ≤ n → (q : ℕ) →
+    (among q (drop (bottom (length ls) fs) ls) && eqb (getD held q 0) n) ≡ fails-all or (broken q ls fs)
 common-breaks {ls} {fs} {held} {n} h l q =
     same-test (among q (drop (bottom (length ls) fs) ls) && eqb (getD held q 0) n) (eqb (getD held q 0) n)
     (λ e. and-split (among q (drop (bottom (length ls) fs) ls)) (eqb (getD held q 0) n) e .1)
@@ -73,14 +76,16 @@ common-breaks {ls} {fs} {held} {n} h l q =
 
 -- Either connective, by the test for a disjunction.
 module _ (d : Bool) (q : ℕ) (ls fs : List ℕ) where
-  pub falls-by : ((d ≡ true) × (standing fs ≡ 0)) ⊎ ((d ≡ false) × (standing fs < length fs)) → fails-all (pick d or root) (broken q ls fs) ≡ true
+  pub falls-by : ((d ≡ true) × (standing fs ≡ 0)) ⊎ ((d ≡ false) × (standing fs < length fs)) →
+      fails-all (pick d or root) (broken q ls fs) ≡ true
   unfolding pick
   falls-by h = ⊎-elim
       (λ (w : (d ≡ true) × (standing fs ≡ 0)). rw (w .0) (all-fail q ls fs (w .1)))
       (λ (w : (d ≡ false) × (standing fs < length fs)). rw (w .0) (some-fails q ls fs (w .1)))
       h
 
-  pub stands-by : Stacked (length ls) fs → ((d ≡ false) × (standing fs ≡ length fs)) ⊎ ((d ≡ true) × (standing fs ≡ 1)) → among q (drop (bottom (length ls) fs) ls) ≡ fails-all (pick d or root) (broken q ls fs)
+  pub stands-by : Stacked (length ls) fs → ((d ≡ false) × (standing fs ≡ length fs)) ⊎ ((d ≡ true) × (standing fs ≡ 1)) →
+      among q (drop (bottom (length ls) fs) ls) ≡ fails-all (pick d or root) (broken q ls fs)
   unfolding pick
   stands-by s h = ⊎-elim
       (λ (w : (d ≡ false) × (standing fs ≡ length fs)). rw (w .0) (sym (none-fails q ls fs refl s (w .1))))
@@ -88,7 +93,8 @@ module _ (d : Bool) (q : ℕ) (ls fs : List ℕ) where
       h
 
 -- The tree that is made of them.
-module _ (v : ℕ → Bool) (ls fs : List ℕ) (s : Stacked (length ls) fs) (inside : In-table ls) {base : ℕ} (e : base ≡ bottom (length ls) fs) where
+module _ (v : ℕ → Bool) (ls fs : List ℕ) (s : Stacked (length ls) fs) (inside : In-table ls) {base : ℕ}
+    (e : base ≡ bottom (length ls) fs) where
   pub makes-failing : ((q : ℕ) → v q ≡ true) → Made v ls fs (take base ls) (2 * base + 1)
   makes-failing h =
       let o = odd-entry base in
@@ -102,7 +108,8 @@ module _ (v : ℕ → Bool) (ls fs : List ℕ) (s : Stacked (length ls) fs) (ins
         none = λ z. omega arith;
       }
 
-  pub makes-standing : (new : List ℕ) → base ≤ length new → take base new ≡ take base ls → In-table new → ((q : ℕ) → among q (drop base new) ≡ v q) → Made v ls fs new (2 * base)
+  pub makes-standing : (new : List ℕ) → base ≤ length new → take base new ≡ take base ls → In-table new →
+      ((q : ℕ) → among q (drop base new) ≡ v q) → Made v ls fs new (2 * base)
   makes-standing new long same inside-new h =
       let o = even-entry base in
       record {

@@ -58,7 +58,8 @@ module _ (n : ℕ) (ls held : List ℕ) (x : ℕ) where
 -- What is kept so far, and what is left of which the counts are at the number: one literal more that is kept, and one that is
 -- not.
 module _ (n : ℕ) (some : 1 ≤ n) (y : ℕ) (kept ls held : List ℕ) (inside : y < length held) where
-  pub kept-here : getD held y 0 ≡ n → (x : ℕ) → (among x (kept ++ (y ∷ [])) || (among x ls && eqb (getD (set held y 0) x 0) n)) ≡ (among x kept || (among x (y ∷ ls) && eqb (getD held x 0) n))
+  pub kept-here : getD held y 0 ≡ n → (x : ℕ) →
+      (among x (kept ++ (y ∷ [])) || (among x ls && eqb (getD (set held y 0) x 0) n)) ≡ (among x kept || (among x (y ∷ ls) && eqb (getD held x 0) n))
   kept-here e x = ⊎-elim
       (λ q. rw (eqb-true x y q) at-it)
       (λ q. let d = eqb-false x y q in rw (among-last x y kept, q, or-false (among x kept), among-other x y ls d, getD-set-other held y x 0 0 d))
@@ -67,7 +68,8 @@ module _ (n : ℕ) (some : 1 ≤ n) (y : ℕ) (kept ls held : List ℕ) (inside 
       at-it : (among y (kept ++ (y ∷ [])) || (among y ls && eqb (getD (set held y 0) y 0) n)) ≡ (among y kept || (among y (y ∷ ls) && eqb (getD held y 0) n))
       at-it = rw (among-last y y kept, eq-eqb y y refl, or-true (among y kept), among-same y y ls refl, eq-eqb (getD held y 0) n e, or-true (among y kept))
 
-  pub kept-none : (getD held y 0 ≡ n → ⊥) → (x : ℕ) → (among x kept || (among x ls && eqb (getD (set held y 0) x 0) n)) ≡ (among x kept || (among x (y ∷ ls) && eqb (getD held x 0) n))
+  pub kept-none : (getD held y 0 ≡ n → ⊥) → (x : ℕ) →
+      (among x kept || (among x ls && eqb (getD (set held y 0) x 0) n)) ≡ (among x kept || (among x (y ∷ ls) && eqb (getD held x 0) n))
   kept-none d x = ⊎-elim
       (λ q. rw (eqb-true x y q) (ap (λ b. among y kept || b) at-it))
       (λ q. let w = eqb-false x y q in rw (among-other x y ls w, getD-set-other held y x 0 0 w))

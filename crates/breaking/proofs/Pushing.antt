@@ -25,7 +25,9 @@ module _ {v : ℕ → Bool} (ls fs new : List ℕ) (k f : ℕ) (s : Stacked (len
       (ap (λ l. broken q l (drop k fs)) (m .same ∙ ap (λ n. take n ls) (m .first)) ∙ broken-drop q k (length ls) ls fs refl s)
 
 -- In arrays: the entry is put at the last place of those that it stands for.
-module _ {v : ℕ → Bool} {places stack : List ℕ} {top end : ℕ} (h : Stack places stack top end) (k i f : ℕ) (new : List ℕ) (to : ℕ) (at : suc i ≡ top + k) (low : i < length stack) (room : to ≤ length new) (m : Made v (take end places) (take k (drop top stack)) (take to new) f) where
+module _ {v : ℕ → Bool} {places stack : List ℕ} {top end : ℕ} (h : Stack places stack top end) (k i f : ℕ) (new : List ℕ) (to : ℕ)
+    (at : suc i ≡ top + k) (low : i < length stack) (room : to ≤ length new)
+    (m : Made v (take end places) (take k (drop top stack)) (take to new) f) where
   fs : List ℕ
   fs = drop top stack
 

@@ -59,7 +59,8 @@ pub record Finding (s ends homes : List ℕ) (i : ℕ) : Type 0 where
   pub whole : (t : List ℕ) → tree-fails t (numbers-in s) ≡ true → Part-fails s ends t ⊎ (tree-fails t (stretch i (2 + used-in s) s) ≡ true)
   pub rest : (t : List ℕ) → tree-fails t (stretch i (2 + used-in s) s) ≡ true → tree-fails t (numbers-in s) ≡ true
 
-pub finding-none : (s : List ℕ) {ends homes : List ℕ} → ends ≡ replicate sheet-length 0 → homes ≡ replicate sheet-length 0 → Finding s ends homes 2
+pub finding-none : (s : List ℕ) {ends homes : List ℕ} → ends ≡ replicate sheet-length 0 → homes ≡ replicate sheet-length 0 →
+    Finding s ends homes 2
 unfolding numbers-in
 finding-none s {ends} {homes} e f =
     let none : (j : ℕ) → getD ends j 0 ≡ 0 = λ j. ap (λ t. getD t j 0) e ∙ zeros sheet-length j in
@@ -144,7 +145,8 @@ module _ {s ends homes : List ℕ} {i : ℕ} (sheet : Formed s) (w : Finding s e
     pub part-within : i + k ≤ 2 + used-in s
     part-within = omega (arith, length-left, span-within 1 (stretch i (2 + used-in s) s))
 
-    cut : (t : List ℕ) → tree-fails t (stretch i (2 + used-in s) s) ≡ (tree-fails t (stretch i (i + k) s) || tree-fails t (stretch (i + k) (2 + used-in s) s))
+    cut : (t : List ℕ) →
+        tree-fails t (stretch i (2 + used-in s) s) ≡ (tree-fails t (stretch i (i + k) s) || tree-fails t (stretch (i + k) (2 + used-in s) s))
     cut t =
         let e = first-or-later (stretch i (2 + used-in s) s) known (spelled .1) some-left t in
         let f = rw (← same, stretch-start i (2 + used-in s) k s part-within, stretch-rest i (2 + used-in s) k s part-within) at e in

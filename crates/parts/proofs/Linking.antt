@@ -32,12 +32,17 @@ below-next k i h = ⊎-elim (λ e. inr e) (λ d. inl (strict d)) (same-or-not k 
 pub claimed-none : (from : ℕ) (l : List ℕ) → Claimed from from l l
 claimed-none from l = record { long = refl; inside = λ n a b. absurd (omega arith); outside = λ n h. refl }
 
-pub claimed-more : {from n : ℕ} {old new : List ℕ} → Claimed from n old new → from ≤ n → n < length new → Claimed from (n + 1) old (set new n from)
+pub claimed-more : {from n : ℕ} {old new : List ℕ} → Claimed from n old new → from ≤ n → n < length new →
+    Claimed from (n + 1) old (set new n from)
 claimed-more {from} {n} {old} {new} w a b =
     record {
       long = length-set new n from ∙ w .long;
-      inside = λ m l h. ⊎-elim (λ g. getD-set-other new n m from 0 (λ e. omega arith) ∙ w .inside m l g) (λ e. rw e (getD-set-same new n from 0 b)) (below-next m n h);
-      outside = λ m h. getD-set-other new n m from 0 (λ e. ⊎-elim (λ l. omega arith) (λ l. omega arith) h) ∙ w .outside m (⊎-elim (λ l. inl l) (λ l. inr (omega arith)) h);
+      inside = λ m l h. ⊎-elim
+          (λ g. getD-set-other new n m from 0 (λ e. omega arith) ∙ w .inside m l g)
+          (λ e. rw e (getD-set-same new n from 0 b))
+          (below-next m n h);
+      outside = λ m h. getD-set-other new n m from 0 (λ e. ⊎-elim (λ l. omega arith) (λ l. omega arith) h)
+          ∙ w .outside m (⊎-elim (λ l. inl l) (λ l. inr (omega arith)) h);
     }
 
 -- The numbers of a sheet.
@@ -101,7 +106,8 @@ module _ {s links : List ℕ} {i : ℕ} (w : Linking s links i) (b : i < 2 + use
       }
 
   -- A literal's place: it leads to what its own entry led to, which leads to it from now on.
-  module _ (e : is-literal (getD s i 0) ≡ true) {p : ℕ} (f : p ≡ place-at (getD s i 0)) (small : p < most-literals) (far : i < sheet-length) where
+  module _ (e : is-literal (getD s i 0) ≡ true) {p : ℕ} (f : p ≡ place-at (getD s i 0)) (small : p < most-literals)
+      (far : i < sheet-length) where
     old : ℕ
     old = getD links (sheet-length + p) 0
 
@@ -156,7 +162,8 @@ module _ {s links : List ℕ} {i : ℕ} (w : Linking s links i) (b : i < 2 + use
           descends = descends-more;
           last = λ q l. ⊎-elim
               (λ g. subst (λ m. Latest s m (i + 1) (getD new (sheet-length + m) 0)) (sym g) (rw at-own (record { there = inr (omega arith, here); last = λ k m o. omega arith })))
-              (λ g. rw (elsewhere (sheet-length + q) (λ z. g (omega arith)) (λ z. omega arith)) (latest-later (w .last q l) (λ o. g (sym (o .same) ∙ sym f))))
+              (λ g. rw (elsewhere (sheet-length + q) (λ z. g (omega arith)) (λ z. omega arith))
+              (latest-later (w .last q l) (λ o. g (sym (o .same) ∙ sym f))))
               (same-or-not q p);
           before = λ q n l o. ⊎-elim
               (λ g. rw (elsewhere n (λ z. omega arith) (λ z. omega arith)) (w .before q n g o))

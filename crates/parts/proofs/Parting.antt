@@ -81,7 +81,8 @@ all-fit xs = all-map node-of fits xs ∙ all-from (λ x. fits (node-of x)) xs (�
 back : (f : Forest) → Fits f → map node-of (map number-of (encode f)) ≡ encode f
 back f h = map-back number-of node-of fits node-number (encode f) h
 
-module _ (xs : List ℕ) (known : xs ≡ map number-of (map node-of xs)) {u : ℕ} (spelled : trees (map node-of xs) ≡ some u) (h : 0 < length xs) where
+module _ (xs : List ℕ) (known : xs ≡ map number-of (map node-of xs)) {u : ℕ} (spelled : trees (map node-of xs) ≡ some u)
+    (h : 0 < length xs) where
   code : encode (forest xs) ≡ map node-of xs
   code = encode-decode (map node-of xs) u spelled .0
 
@@ -128,7 +129,8 @@ module _ (t u : List ℕ) where
   abbrev Agree : List ℕ → Type 0
   Agree xs = (i : ℕ) → i < length xs → is-literal (getD xs i 0) ≡ true → eqb (getD t (place-at (getD xs i 0)) 0) 1 ≡ eqb (getD u (place-at (getD xs i 0)) 0) 1
 
-  same-node : (x : ℕ) (bs : List Bool) → (is-literal x ≡ true → eqb (getD t (place-at x) 0) 1 ≡ eqb (getD u (place-at x) 0) 1) → with-node t x bs ≡ with-node u x bs
+  same-node : (x : ℕ) (bs : List Bool) → (is-literal x ≡ true → eqb (getD t (place-at x) 0) 1 ≡ eqb (getD u (place-at x) 0) 1) →
+      with-node t x bs ≡ with-node u x bs
   same-node x bs h = ⊎-elim
       (λ l. with-literal t x bs l ∙ ap (λ b. b ∷ bs) (h l) ∙ sym (with-literal u x bs l))
       (λ l. with-inner t x bs l ∙ sym (with-inner u x bs l))

@@ -35,7 +35,8 @@ use Rattle.propagation.proofs.Looking.{part-inside}
 use Rattle.propagation.proofs.Watching.{watching-looked, noted-later, noted-now}
 
 -- A place of the chain is passed: its part is not due.
-module _ {s ends homes links : List ℕ} (table : Parted s ends homes) (links-of : Linked s links) {q : ℕ} (small : q < most-literals) {seen : List ℕ} {turn : Turn} where
+module _ {s ends homes links : List ℕ} (table : Parted s ends homes) (links-of : Linked s links) {q : ℕ}
+    (small : q < most-literals) {seen : List ℕ} {turn : Turn} where
   pub passed-none : On-chain s q (turn .place) → Passed s ends seen q turn (getD links (turn .place) 0)
   passed-none c =
       let latest = links-of .before q (turn .place) small c in
@@ -88,18 +89,29 @@ pub record Following (s ends seen t trail : List ℕ) (n large : ℕ) (turn : Tu
   pub done : (h i k : ℕ) → h < large → (turn .limit ≡ sheet-length → suc h ≡ large → turn .place ≤ k) →
       i ≤ k → k < getD ends i 0 → Occurs s (getD trail h 0) k → h < getD seen i 0
 
-pub following-none : {s ends seen t trail : List ℕ} {n : ℕ} → Watching s ends sheet-length seen t trail n → {turn : Turn} → turn .limit ≡ 0 → turn .place ≡ 0 →
+pub following-none : {s ends seen t trail : List ℕ} {n : ℕ} → Watching s ends sheet-length seen t trail n → {turn : Turn} →
+    turn .limit ≡ 0 → turn .place ≡ 0 →
     Following s ends seen t trail n 0 turn
 following-none w z p =
-    record { watching = w; ahead = omega arith; near = omega arith; chain = λ e. absurd (omega arith); done = λ h i k l. absurd (omega arith) }
+    record {
+      watching = w;
+      ahead = omega arith;
+      near = omega arith;
+      chain = λ e. absurd (omega arith);
+      done = λ h i k l. absurd (omega arith);
+    }
 
-module _ {s ends homes links : List ℕ} (sheet : Formed s) (table : Parted s ends homes) (links-of : Linked s links) {seen t trail : List ℕ} {n large : ℕ} {turn : Turn} (v : Following s ends seen t trail n large turn) where
+module _ {s ends homes links : List ℕ} (sheet : Formed s) (table : Parted s ends homes) (links-of : Linked s links)
+    {seen t trail : List ℕ} {n large : ℕ} {turn : Turn} (v : Following s ends seen t trail n large turn) where
   -- From a place of the chain on, which the turn leads to.
   from-place : {m : ℕ} → Next-due ends homes links seen turn m → (h i k : ℕ) → h < large →
       (turn .limit ≡ sheet-length → suc h ≡ large → m < k) → i ≤ k → k < getD ends i 0 → Occurs s (getD trail h 0) k → h < getD seen i 0
   from-place {m} next h i k l after a b o = ⊎-elim
       (λ all. ⊎-elim
-      (λ (last : suc h ≡ large). ⊎-elim (λ g. v .done h i k l (λ x y. leb-true (turn .place) k g) a b o) (λ g. between all last (leb-false (turn .place) k g)) (either (leb (turn .place) k)))
+      (λ (last : suc h ≡ large). ⊎-elim
+      (λ g. v .done h i k l (λ x y. leb-true (turn .place) k g) a b o)
+      (λ g. between all last (leb-false (turn .place) k g))
+      (either (leb (turn .place) k)))
       (λ other. v .done h i k l (λ x y. absurd (other y)) a b o)
       (same-or-not (suc h) large))
       (λ some. v .done h i k l (λ x y. absurd (some x)) a b o)
@@ -113,7 +125,8 @@ module _ {s ends homes links : List ℕ} (sheet : Formed s) (table : Parted s en
           let q = getD trail h 0 in
           let small : q < most-literals = v .watching .facts .placed h (omega (arith, v .ahead)) in
           let on : On-chain s q (turn .place) = rw same at (c .0) in
-          let w = next .passed s q table links-of small on .looked i k (after all last) before a b (omega (arith, p .begins, p .ends, sheet .used)) o in
+          let passed = next .passed s q table links-of small on in
+          let w = passed .looked i k (after all last) before a b (omega (arith, p .begins, p .ends, sheet .used)) o in
           omega arith
 
   -- A part of the chain is looked at.
@@ -135,7 +148,9 @@ module _ {s ends homes links : List ℕ} (sheet : Formed s) (table : Parted s en
             (λ (here : k ≡ m).
             let own : j ≡ i = sym (table .home j m (λ z. omega arith) (omega arith) (omega arith)) ∙ sym home in
             rw (own, noted-now sheet (table .part) (v .watching) far) (omega arith))
-            (λ other. omega (arith, noted-later sheet (table .part) (v .watching) far j, from-place next h j k x (λ y z. past other (after (c ∙ y) z)) d e p))
+            (λ other.
+            let was = from-place next h j k x (λ y z. past other (after (c ∙ y) z)) d e p in
+            omega (arith, noted-later sheet (table .part) (v .watching) far j))
             (same-or-not k m);
       }
     where
@@ -201,7 +216,8 @@ pub fallen-report : {s t : List ℕ} → Formed s → Fallen s t → Reported s 
 fallen-report {s} {t} sheet w = reported s t (w .falls) (sheet-failed s sheet t (as-tree s t ∙ w .falls) (w .right))
 
 -- At the end of the trail every part is exhausted.
-module _ {s ends homes : List ℕ} (sheet : Formed s) (table : Parted s ends homes) {seen t trail : List ℕ} {n large : ℕ} (v : Watching s ends sheet-length seen t trail n) (all : Followed s ends seen trail large) (end : n ≤ large) where
+module _ {s ends homes : List ℕ} (sheet : Formed s) (table : Parted s ends homes) {seen t trail : List ℕ} {n large : ℕ}
+    (v : Watching s ends sheet-length seen t trail n) (all : Followed s ends seen trail large) (end : n ≤ large) where
   exhausted : (i : ℕ) → (getD ends i 0 ≡ 0 → ⊥) → Exhausted s i (getD ends i 0) t
   exhausted i d =
       let p = table .part i d in
@@ -225,7 +241,8 @@ module _ {s ends homes : List ℕ} (sheet : Formed s) (table : Parted s ends hom
         d : getD ends i 0 ≡ 0 → ⊥
         d = found .1
 
-        agree : (j : ℕ) → j < length (stretch i (getD ends i 0) s) → is-literal (getD (stretch i (getD ends i 0) s) j 0) ≡ true → eqb (getD (set t (place-of l) 1) (place-at (getD (stretch i (getD ends i 0) s) j 0)) 0) 1 ≡ eqb (getD t (place-at (getD (stretch i (getD ends i 0) s) j 0)) 0) 1
+        agree : (j : ℕ) → j < length (stretch i (getD ends i 0) s) → is-literal (getD (stretch i (getD ends i 0) s) j 0) ≡ true →
+            eqb (getD (set t (place-of l) 1) (place-at (getD (stretch i (getD ends i 0) s) j 0)) 0) 1 ≡ eqb (getD t (place-at (getD (stretch i (getD ends i 0) s) j 0)) 0) 1
         agree j b lit =
             let p = table .part i d in
             let short : j < getD ends i 0 - i = rw (stretch-long i (getD ends i 0) s (part-inside sheet p .0)) at b in

@@ -1,4 +1,5 @@
--- Laws of tables and trails: nothing learned, one literal learned, one growth after another; and what what a part that is exhausted depends on.
+-- Laws of tables and trails: nothing learned, one literal learned, one growth after another; and what keeps a
+-- part exhausted.
 use mathlib.Core.Bool.{Bool, true, false, not}
 use mathlib.Core.List.{List, [], _∷_}
 use mathlib.Core.Logic.{_⊎_, inl, inr, ⊎-elim}
@@ -52,7 +53,8 @@ unset-fewer [] k h e = absurd (omega arith)
 unset-fewer (x ∷ t) zero h e = rw e
 unset-fewer (x ∷ t) (suc k) h e = go (eqb x 1) (unset-fewer t k (omega arith) e)
   where
-    go : (b : Bool) → suc (unset (set t k 1)) ≡ unset t → suc (pick b (unset (set t k 1)) (suc (unset (set t k 1)))) ≡ pick b (unset t) (suc (unset t))
+    go : (b : Bool) → suc (unset (set t k 1)) ≡ unset t →
+        suc (pick b (unset (set t k 1)) (suc (unset (set t k 1)))) ≡ pick b (unset t) (suc (unset t))
     go true r = r
     go false r = ap suc r
 
@@ -60,7 +62,8 @@ unset-fewer (x ∷ t) (suc k) h e = go (eqb x 1) (unset-fewer t k (omega arith) 
 pub grown-none : (t trail : List ℕ) (n : ℕ) → Grown t trail n t trail n
 grown-none t trail n = record { more = omega arith; keeps = λ p e. e; new = λ p e. inl e; old = λ h l. refl }
 
-pub grown-both : {t trail : List ℕ} {n : ℕ} {t′ trail′ : List ℕ} {n′ : ℕ} {t″ trail″ : List ℕ} {n″ : ℕ} → Grown t trail n t′ trail′ n′ → Grown t′ trail′ n′ t″ trail″ n″ → Grown t trail n t″ trail″ n″
+pub grown-both : {t trail : List ℕ} {n : ℕ} {t′ trail′ : List ℕ} {n′ : ℕ} {t″ trail″ : List ℕ} {n″ : ℕ} →
+    Grown t trail n t′ trail′ n′ → Grown t′ trail′ n′ t″ trail″ n″ → Grown t trail n t″ trail″ n″
 grown-both {n = n} v w =
     record {
       more = omega (arith, v .more, w .more);
@@ -85,7 +88,8 @@ grown-one t trail n o a b =
     }
 
 -- A literal that a sheet's failing forces on an earlier table becomes a fact.
-module _ {s t trail : List ℕ} {n : ℕ} (w : Facts s t trail n) {k : ℕ} (small : k < most-literals) (new : eqb (getD t (opposite k) 0) 1 ≡ false) where
+module _ {s t trail : List ℕ} {n : ℕ} (w : Facts s t trail n) {k : ℕ} (small : k < most-literals)
+    (new : eqb (getD t (opposite k) 0) 1 ≡ false) where
   far : opposite k < most-literals
   far = opposite-below k small
 
@@ -115,7 +119,8 @@ module _ {s t trail : List ℕ} {n : ℕ} (w : Facts s t trail n) {k : ℕ} (sma
       below d m = omega arith
 
 -- What is known after a literal was learned that an earlier table forces.
-module _ {s t₀ trail₀ : List ℕ} {n₀ : ℕ} {t trail : List ℕ} {n : ℕ} (v : Facts s t₀ trail₀ n₀) (w : Facts s t trail n) {k : ℕ} (small : k < most-literals) (forced : tree-fails (set t₀ k 1) (numbers-in s) ≡ true) where
+module _ {s t₀ trail₀ : List ℕ} {n₀ : ℕ} {t trail : List ℕ} {n : ℕ} (v : Facts s t₀ trail₀ n₀) (w : Facts s t trail n) {k : ℕ}
+    (small : k < most-literals) (forced : tree-fails (set t₀ k 1) (numbers-in s) ≡ true) where
   Known : List ℕ → List ℕ → ℕ → Type 0
   Known t′ trail′ n′ = Facts s t′ trail′ n′ × Grown t trail n t′ trail′ n′ × (getD t′ (opposite k) 0 ≡ 1)
 
@@ -127,11 +132,14 @@ module _ {s t₀ trail₀ : List ℕ} {n₀ : ℕ} {t trail : List ℕ} {n : ℕ
       let long = v .long in
       (facts-more w small e (λ d l p. forced-derived (decode (nodes-in s)) t₀ l (omega arith) (v .right) (rw p forced) d), grown-one t trail n (opposite k) near space, getD-set-same t (opposite k) 1 0 near)
 
-  pub learned : {t′ trail′ : List ℕ} {n′ : ℕ} → n′ ≡ pick (fresh t k) (n + 1) n → t′ ≡ pick (fresh t k) (set t (opposite k) 1) t → trail′ ≡ pick (fresh t k) (set trail n (opposite k)) trail → Facts s t′ trail′ n′ × Grown t trail n t′ trail′ n′ × (getD t′ (opposite k) 0 ≡ 1)
+  pub learned : {t′ trail′ : List ℕ} {n′ : ℕ} → n′ ≡ pick (fresh t k) (n + 1) n → t′ ≡ pick (fresh t k) (set t (opposite k) 1) t →
+      trail′ ≡ pick (fresh t k) (set trail n (opposite k)) trail →
+      Facts s t′ trail′ n′ × Grown t trail n t′ trail′ n′ × (getD t′ (opposite k) 0 ≡ 1)
   unfolding fresh pick Known
   learned {t′} {trail′} {n′} a b c = go (eqb (getD t (opposite k) 0) 1) refl a b c
     where
-      go : (o : Bool) → eqb (getD t (opposite k) 0) 1 ≡ o → n′ ≡ pick (not o) (n + 1) n → t′ ≡ pick (not o) (set t (opposite k) 1) t → trail′ ≡ pick (not o) (set trail n (opposite k)) trail → Known t′ trail′ n′
+      go : (o : Bool) → eqb (getD t (opposite k) 0) 1 ≡ o → n′ ≡ pick (not o) (n + 1) n →
+          t′ ≡ pick (not o) (set t (opposite k) 1) t → trail′ ≡ pick (not o) (set trail n (opposite k)) trail → Known t′ trail′ n′
       go true e p q r = rw (p, q, r) (w, grown-none t trail n, eqb-true (getD t (opposite k) 0) 1 e)
       go false e p q r = rw (p, q, r) (learned-new e)
 
@@ -145,11 +153,14 @@ pub as-it-is : (t : List ℕ) → length t ≡ most-literals → set t most-lite
 as-it-is t long = set-out t most-literals 1 (omega arith)
 
 -- A part that was not touched has its values on the grown table.
-module _ {s t trail : List ℕ} {n : ℕ} {t′ trail′ : List ℕ} {n′ : ℕ} (g : Grown t trail n t′ trail′ n′) (long : length t ≡ most-literals) (long′ : length t′ ≡ most-literals) {i e : ℕ} (part : Part s i e) (within : e ≤ length s) where
-  pub untouched-same : Untouched s i e n trail′ n′ → (q : ℕ) → tree-fails (set t′ q 1) (stretch i e s) ≡ tree-fails (set t q 1) (stretch i e s)
+module _ {s t trail : List ℕ} {n : ℕ} {t′ trail′ : List ℕ} {n′ : ℕ} (g : Grown t trail n t′ trail′ n′)
+    (long : length t ≡ most-literals) (long′ : length t′ ≡ most-literals) {i e : ℕ} (part : Part s i e) (within : e ≤ length s) where
+  pub untouched-same : Untouched s i e n trail′ n′ → (q : ℕ) →
+      tree-fails (set t′ q 1) (stretch i e s) ≡ tree-fails (set t q 1) (stretch i e s)
   untouched-same free q = same-fails (set t′ q 1) (set t q 1) (stretch i e s) agree
     where
-      agree : (j : ℕ) → j < length (stretch i e s) → is-literal (getD (stretch i e s) j 0) ≡ true → eqb (getD (set t′ q 1) (place-at (getD (stretch i e s) j 0)) 0) 1 ≡ eqb (getD (set t q 1) (place-at (getD (stretch i e s) j 0)) 0) 1
+      agree : (j : ℕ) → j < length (stretch i e s) → is-literal (getD (stretch i e s) j 0) ≡ true →
+          eqb (getD (set t′ q 1) (place-at (getD (stretch i e s) j 0)) 0) 1 ≡ eqb (getD (set t q 1) (place-at (getD (stretch i e s) j 0)) 0) 1
       agree j l lit =
           let p = place-at (getD (stretch i e s) j 0) in
           let near : p < most-literals = part .tree .inside j l lit in

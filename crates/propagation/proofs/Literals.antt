@@ -35,14 +35,16 @@ use Rattle.propagation.proofs.Looking.{part-inside, looked}
 abbrev Literals : List ℕ → ℕ → Type 0
 Literals xs n = (j : ℕ) → j < n → is-literal (getD xs j 0) ≡ true
 
-one-stands : (t xs : List ℕ) (j : ℕ) → j < length xs → Literals xs (suc j) → eqb (getD t (place-at (getD xs j 0)) 0) 1 ≡ false → fails-all or (values-of t xs) ≡ false
+one-stands : (t xs : List ℕ) (j : ℕ) → j < length xs → Literals xs (suc j) → eqb (getD t (place-at (getD xs j 0)) 0) 1 ≡ false →
+    fails-all or (values-of t xs) ≡ false
 one-stands t [] j l lits h = absurd (omega arith)
 one-stands t (x ∷ xs) zero l lits h = rw (values-more t x xs, with-literal t x (values-of t xs) (lits 0 (omega arith)), or-more, h)
 one-stands t (x ∷ xs) (suc j) l lits h =
     rw (values-more t x xs, with-literal t x (values-of t xs) (lits 0 (omega arith)), or-more, one-stands t xs j (omega arith) (λ i m. lits (suc i) (omega arith)) h)
     (and-false (eqb (getD t (place-at x) 0) 1))
 
-all-fail : (t xs : List ℕ) → Literals xs (length xs) → ((j : ℕ) → j < length xs → eqb (getD t (place-at (getD xs j 0)) 0) 1 ≡ true) → fails-all or (values-of t xs) ≡ true
+all-fail : (t xs : List ℕ) → Literals xs (length xs) →
+    ((j : ℕ) → j < length xs → eqb (getD t (place-at (getD xs j 0)) 0) 1 ≡ true) → fails-all or (values-of t xs) ≡ true
 all-fail t [] lits h = rw (values-none t, or-none)
 all-fail t (x ∷ xs) lits h =
     rw (values-more t x xs, with-literal t x (values-of t xs) (lits 0 (omega arith)), or-more, h 0 (omega arith))
@@ -130,7 +132,8 @@ module _ {s : List ℕ} {i e : ℕ} (sheet : Formed s) (part : Part s i e) {j k 
       literal-place s sheet m (omega (arith, part .begins, w .from)) (omega (arith, part .ends, w .within)) (w .literals m a b)
 
   -- One of them that does not fail keeps the part from failing.
-  stands-still : (u : List ℕ) {a p : ℕ} → j ≤ a → a < k → place-at (getD s a 0) ≡ p → (getD u p 0 ≡ 1 → ⊥) → tree-fails u (stretch i e s) ≡ false
+  stands-still : (u : List ℕ) {a p : ℕ} → j ≤ a → a < k → place-at (getD s a 0) ≡ p → (getD u p 0 ≡ 1 → ⊥) →
+      tree-fails u (stretch i e s) ≡ false
   stands-still u {a} {p} from before same stands =
       let far = part-inside sheet part .0 in
       let within = w .within in
@@ -179,7 +182,8 @@ all-failed s t j k Fails f unfound = refl
 all-failed s t j k Untold f unfound = absurd f
 
 -- One literal more that fails.
-found-failed : (s t : List ℕ) (j k : ℕ) (forced : Forced) → Found s t j k forced → getD t (place-at (getD s k 0)) 0 ≡ 1 → Found s t j (k + 1) forced
+found-failed : (s t : List ℕ) (j k : ℕ) (forced : Forced) → Found s t j k forced → getD t (place-at (getD s k 0)) 0 ≡ 1 →
+    Found s t j (k + 1) forced
 found-failed s t j k (Only p) f fails = (
   later (f .0),
   λ m a b d. ⊎-elim (λ g. f .1 m a g d) (λ g. ap (λ n. getD t (place-at (getD s n 0)) 0) g ∙ fails) (below-next m k b),
@@ -190,7 +194,8 @@ found-failed s t j k Fails f fails =
 found-failed s t j k Untold f fails = f
 
 -- All numbers of the part are seen.
-found-all : (s t : List ℕ) (i e j k : ℕ) → Formed s → Part s i e → length t ≡ most-literals → (forced : Forced) → Plain s i e j k → e ≤ k → Found s t j k forced → Lone s i e t forced
+found-all : (s t : List ℕ) (i e j k : ℕ) → Formed s → Part s i e → length t ≡ most-literals → (forced : Forced) → Plain s i e j k →
+    e ≤ k → Found s t j k forced → Lone s i e t forced
 found-all s t i e j k sheet part long (Only p) w end f =
     let small : p < most-literals = rw (f .0 .same) at (near sheet part w (f .0 .place) (f .0 .from) (f .0 .before)) in
     record {
@@ -214,7 +219,8 @@ module _ {s t : List ℕ} {i e : ℕ} (sheet : Formed s) (part : Part s i e) (lo
 
   -- One literal more.
   module _ (l : k < e) (lit : is-literal (getD s k 0) ≡ true) where
-    pub scanned-failed : {forced : Forced} → Scanned s t i e j forced k → getD t (place-at (getD s k 0)) 0 ≡ 1 → Scanned s t i e j forced (k + 1)
+    pub scanned-failed : {forced : Forced} → Scanned s t i e j forced k → getD t (place-at (getD s k 0)) 0 ≡ 1 →
+        Scanned s t i e j forced (k + 1)
     scanned-failed {forced} w fails =
         record { plain = plain-more (w .plain) l lit; found = found-failed s t j k forced (w .found) fails }
 
@@ -236,11 +242,13 @@ module _ {s t : List ℕ} {i e : ℕ} (sheet : Formed s) (part : Part s i e) (lo
             );
           }
 
-      pub scanned-first : {forced : Forced} → Scanned s t i e j forced k → ((q : ℕ) → forced ≡ Only q → ⊥) → Scanned s t i e j (Only p) (k + 1)
+      pub scanned-first : {forced : Forced} → Scanned s t i e j forced k → ((q : ℕ) → forced ≡ Only q → ⊥) →
+          Scanned s t i e j (Only p) (k + 1)
       scanned-first {forced} w unfound =
           first-here (subst (λ f. Scanned s t i e j f k) (all-failed s t j k forced (w .found) unfound) w)
 
-      pub scanned-again : {forced : Forced} {other : ℕ} → Scanned s t i e j forced k → forced ≡ Only other → other ≡ p → Scanned s t i e j (Only other) (k + 1)
+      pub scanned-again : {forced : Forced} {other : ℕ} → Scanned s t i e j forced k → forced ≡ Only other → other ≡ p →
+          Scanned s t i e j (Only other) (k + 1)
       scanned-again {other = other} v found same =
           let w : Scanned s t i e j (Only other) k = subst (λ f. Scanned s t i e j f k) found v in
           record {
@@ -254,13 +262,15 @@ module _ {s t : List ℕ} {i e : ℕ} (sheet : Formed s) (part : Part s i e) (lo
             );
           }
 
-      pub scanned-two : {forced : Forced} {other : ℕ} → Scanned s t i e j forced k → forced ≡ Only other → (other ≡ p → ⊥) → Unforced s i e t
+      pub scanned-two : {forced : Forced} {other : ℕ} → Scanned s t i e j forced k → forced ≡ Only other → (other ≡ p → ⊥) →
+          Unforced s i e t
       scanned-two {other = other} v found unlike =
           let w : Scanned s t i e j (Only other) k = subst (λ f. Scanned s t i e j f k) found v in
           two-stand sheet part (plain-more (w .plain) l lit) (later (w .found .0)) (free-here (w .plain .past)) unlike
 
 -- A part that forces nothing is exhausted.
-pub unforced-looked : {s : List ℕ} {i e : ℕ} {t trail : List ℕ} {n : ℕ} → Formed s → Part s i e → Facts s t trail n → Unforced s i e t → Looked s i e t trail n t trail n
+pub unforced-looked : {s : List ℕ} {i e : ℕ} {t trail : List ℕ} {n : ℕ} → Formed s → Part s i e → Facts s t trail n →
+    Unforced s i e t → Looked s i e t trail n t trail n
 unforced-looked {s} {i} {e} {t} {trail} {n} sheet part facts h =
     looked sheet part facts facts (grown-none t trail n)
     (record {
@@ -269,7 +279,10 @@ unforced-looked {s} {i} {e} {t} {trail} {n} sheet part facts h =
     })
 
 -- A part that forces one literal alone is exhausted once that is learned.
-pub lone-looked : {s : List ℕ} {i e : ℕ} {t trail : List ℕ} {n r : ℕ} → Formed s → Part s i e → Facts s t trail n → Forces s i e t r → {t′ trail′ : List ℕ} {n′ : ℕ} → n′ ≡ pick (fresh t r) (n + 1) n → t′ ≡ pick (fresh t r) (set t (opposite r) 1) t → trail′ ≡ pick (fresh t r) (set trail n (opposite r)) trail → Looked s i e t trail n t′ trail′ n′
+pub lone-looked : {s : List ℕ} {i e : ℕ} {t trail : List ℕ} {n r : ℕ} → Formed s → Part s i e → Facts s t trail n →
+    Forces s i e t r → {t′ trail′ : List ℕ} {n′ : ℕ} → n′ ≡ pick (fresh t r) (n + 1) n →
+    t′ ≡ pick (fresh t r) (set t (opposite r) 1) t → trail′ ≡ pick (fresh t r) (set trail n (opposite r)) trail →
+    Looked s i e t trail n t′ trail′ n′
 lone-looked {s} {i} {e} {t} {r = r} sheet part facts lone {t′} a b c =
     let near = lone .near in
     let known = learned facts facts near (part .counts (set t r 1) (lone .one)) a b c in

@@ -38,7 +38,8 @@ looked sheet part before after grown answered =
     }
 
 -- Of the literals that break a part, the first k are known.
-pub record Breaks-known (s : List ℕ) (i e : ℕ) (t₀ trail₀ : List ℕ) (n₀ : ℕ) (places : List ℕ) (count : ℕ) (t trail : List ℕ) (n k : ℕ) : Type 0 where
+pub record Breaks-known (s : List ℕ) (i e : ℕ) (t₀ trail₀ : List ℕ) (n₀ : ℕ) (places : List ℕ) (count : ℕ)
+    (t trail : List ℕ) (n k : ℕ) : Type 0 where
   pub sheet : Formed s
   pub part : Part s i e
   pub start : Facts s t₀ trail₀ n₀
@@ -96,5 +97,6 @@ module _ {s : List ℕ} {i e : ℕ} {t₀ trail₀ : List ℕ} {n₀ : ℕ} {pla
         })
 
 -- A part that fails under facts makes the sheet contradictory.
-pub part-fallen : {s : List ℕ} {i e : ℕ} {t trail : List ℕ} {n : ℕ} → Part s i e → Facts s t trail n → tree-fails t (stretch i e s) ≡ true → Fallen s t
+pub part-fallen : {s : List ℕ} {i e : ℕ} {t trail : List ℕ} {n : ℕ} → Part s i e → Facts s t trail n →
+    tree-fails t (stretch i e s) ≡ true → Fallen s t
 part-fallen {t = t} part facts fall = record { falls = part .counts t fall; right = facts .right }

@@ -36,7 +36,8 @@ watching-none s ends {seen} {t} {trail} a b c =
       exhausted = λ i l. absurd (omega arith);
     }
 
-module _ {s ends : List ℕ} (sheet : Formed s) (table : Part-ends s ends) {to : ℕ} {seen t trail : List ℕ} {n : ℕ} (w : Watching s ends to seen t trail n) where
+module _ {s ends : List ℕ} (sheet : Formed s) (table : Part-ends s ends) {to : ℕ} {seen t trail : List ℕ} {n : ℕ}
+    (w : Watching s ends to seen t trail n) where
   module _ {i : ℕ} (far : i < sheet-length) where
     noted : (j : ℕ) → j ≡ i → getD (set seen i n) j 0 ≡ n
     noted j e = ap (λ m. getD (set seen i n) m 0) e ∙ getD-set-same seen i n 0 (omega (arith, w .long))
@@ -56,7 +57,8 @@ module _ {s ends : List ℕ} (sheet : Formed s) (table : Part-ends s ends) {to :
               (λ e.
               let p = table j d in
               rw (getD-set-other seen i j n 0 e)
-              (exhausted-on (v .grown) (w .facts .long) (v .facts .long) p (part-inside sheet p .0) (w .most j) (w .exhausted j (near j l e) d)))
+              (exhausted-on (v .grown) (w .facts .long) (v .facts .long) p (part-inside sheet p .0) (w .most j)
+              (w .exhausted j (near j l e) d)))
               (same-or-not j i);
         }
 
@@ -74,5 +76,8 @@ module _ {s ends : List ℕ} (sheet : Formed s) (table : Part-ends s ends) {to :
         facts = w .facts;
         long = w .long;
         most = w .most;
-        exhausted = λ j l d. ⊎-elim (λ g. w .exhausted j (omega arith) d) (λ g. absurd (d (ap (λ m. getD ends m 0) g ∙ z))) (below-next j i l);
+        exhausted = λ j l d. ⊎-elim
+            (λ g. w .exhausted j (omega arith) d)
+            (λ g. absurd (d (ap (λ m. getD ends m 0) g ∙ z)))
+            (below-next j i l);
       }

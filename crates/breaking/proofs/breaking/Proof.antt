@@ -35,7 +35,8 @@ record Read (tree t places stack held : List ℕ) (top end i : ℕ) : Type 0 whe
   sound : Stack places stack top end
   told : (q : ℕ) → broken q (take end places) (drop top stack) ≡ values-of (tried t q) (drop i tree)
 
-begun : (tree t places stack held : List ℕ) → length places ≡ sheet-room → length stack ≡ sheet-room → Blank held → Read tree t places stack held (length stack) 0 (length tree)
+begun : (tree t places stack held : List ℕ) → length places ≡ sheet-room → length stack ≡ sheet-room → Blank held →
+    Read tree t places stack held (length stack) 0 (length tree)
 unfolding broken bottom among
 begun tree t places stack held w d b =
     record {
@@ -47,7 +48,8 @@ begun tree t places stack held w d b =
       told = λ q. rw (drop-length stack, drop-length tree) (sym (values-none (tried t q)));
     }
 
-module _ {tree t places stack held : List ℕ} {top end i : ℕ} (h : Spells-tree tree) (few : length tree ≤ sheet-room) (r : Read tree t places stack held top end i) where
+module _ {tree t places stack held : List ℕ} {top end i : ℕ} (h : Spells-tree tree) (few : length tree ≤ sheet-room)
+    (r : Read tree t places stack held top end i) where
   -- As many entries stand on the stack as there are trees.
   count : length (drop top stack) ≡ trees-of (drop i tree)
   count = sym (broken-length 0 (take end places) (drop top stack)) ∙ ap length (r .told 0) ∙ values-length (tried t 0) (drop i tree)
@@ -56,7 +58,8 @@ module _ {tree t places stack held : List ℕ} {top end i : ℕ} (h : Spells-tre
   here l = let k = r .left in node-here tree h (i - 1) (omega arith)
 
   -- The number before them finds its room on the stack, and its children.
-  asked : 0 < i → {x : ℕ} → x ≡ getD tree (i - 1) 0 → (1 ≤ top) × (is-literal x ≡ true → place-at x < most-literals) × (is-literal x ≡ false → top + children x ≤ length stack)
+  asked : 0 < i → {x : ℕ} → x ≡ getD tree (i - 1) 0 →
+      (1 ≤ top) × (is-literal x ≡ true → place-at x < most-literals) × (is-literal x ≡ false → top + children x ≤ length stack)
   asked l e =
       let n = here l in
       let p : suc (i - 1) ≡ i = omega arith in
@@ -69,7 +72,10 @@ module _ {tree t places stack held : List ℕ} {top end i : ℕ} (h : Spells-tre
       (omega arith, λ q. rw e (n .inside (rw e at q)), λ q. omega (arith, enough q))
 
   -- What is read with it.
-  more : 0 < i → {x : ℕ} → x ≡ getD tree (i - 1) 0 → {places′ stack′ held′ : List ℕ} {top′ end′ : ℕ} → length places′ ≡ length places → length stack′ ≡ length stack → end′ ≤ end + 1 → Stack places′ stack′ top′ end′ → Blank held′ → ((q : ℕ) → broken q (take end′ places′) (drop top′ stack′) ≡ with-node (tried t q) x (broken q (take end places) (drop top stack))) → Read tree t places′ stack′ held′ top′ end′ (i - 1)
+  more : 0 < i → {x : ℕ} → x ≡ getD tree (i - 1) 0 → {places′ stack′ held′ : List ℕ} {top′ end′ : ℕ} →
+      length places′ ≡ length places → length stack′ ≡ length stack → end′ ≤ end + 1 → Stack places′ stack′ top′ end′ →
+      Blank held′ →
+      ((q : ℕ) → broken q (take end′ places′) (drop top′ stack′) ≡ with-node (tried t q) x (broken q (take end places) (drop top stack))) → Read tree t places′ stack′ held′ top′ end′ (i - 1)
   more l {x} e w d below s b f =
       let p : suc (i - 1) ≡ i = omega arith in
       record {
@@ -82,7 +88,8 @@ module _ {tree t places stack held : List ℕ} {top end i : ℕ} (h : Spells-tre
       }
 
 -- Where all are read, one entry stands on the stack, and the literals are the tree's own.
-module _ {tree t places stack held : List ℕ} {top end i : ℕ} (h : Spells-tree tree) (r : Read tree t places stack held top end i) (z : i ≡ 0) where
+module _ {tree t places stack held : List ℕ} {top end i : ℕ} (h : Spells-tree tree) (r : Read tree t places stack held top end i)
+    (z : i ≡ 0) where
   one : (q : ℕ) → broken q (take end places) (drop top stack) ≡ tree-fails (tried t q) tree ∷ []
   one q = r .told q ∙ rw z (tree-value tree h (tried t q))
 

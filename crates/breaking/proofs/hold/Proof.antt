@@ -45,7 +45,8 @@ module _ {list first : List ℕ} {n : ℕ} {held : List ℕ} {i : ℕ} (r : Rais
           same = λ x. rw (add-one i) (next x ∙ raised-none n y (drop (suc i) list) held in-table d x);
         }
 
-done : {list first : List ℕ} {n : ℕ} {held : List ℕ} {i : ℕ} → Raising list first n held i → length list ≤ i → (x : ℕ) → getD held x 0 ≡ raised n list first x
+done : {list first : List ℕ} {n : ℕ} {held : List ℕ} {i : ℕ} → Raising list first n held i → length list ≤ i → (x : ℕ) →
+    getD held x 0 ≡ raised n list first x
 done {list} {first} {n} {held} {i} r h x =
     let e : i ≡ length list = omega (arith, r .left) in
     sym (r .same x ∙ rw (e, drop-length list) (raised-end n held x))

@@ -16,7 +16,8 @@ use Rattle.model.specs.Forest.{or}
 use Rattle.theory.specs.Evaluation.{fails-all}
 use Rattle.theory.specs.Values.{or-none, or-more}
 use Rattle.theory.specs.Logic.{either, or-left, or-right}
-use Rattle.breaking.specs.Stacks.{among, In-table, begin, failing, broken, Stacked, bottom, standing, raised, Blank, Blank-but, Counted}
+use Rattle.breaking.specs.Stacks.{among, In-table, begin, failing, broken, Stacked, bottom, standing, raised, Blank}
+use Rattle.breaking.specs.Stacks.{Blank-but, Counted}
 use Rattle.breaking.proofs.Among.{among-take, among-drop, among-cut, lent}
 use Rattle.breaking.proofs.Holding.{raised-at, raised-most, raised-other}
 use Rattle.breaking.proofs.Entries.{failing-odd, failing-even, standing-more, standing-same}
@@ -101,7 +102,8 @@ module _ {ls fs held : List ℕ} {n to i : ℕ} (r : Reached ls fs held n to i) 
       }
 
   -- The counts of the tree's own literals are raised.
-  module _ (h : failing f ≡ false) (new : List ℕ) (wide : length new ≡ length held) (up : (x : ℕ) → getD new x 0 ≡ raised n own held x) where
+  module _ (h : failing f ≡ false) (new : List ℕ) (wide : length new ≡ length held)
+      (up : (x : ℕ) → getD new x 0 ≡ raised n own held x) where
     new-common : (x : ℕ) → (eqb (getD new x 0) (n + 1) && fails-all or (broken x (take (begin f) ls) rest)) ≡ fails-all or (broken x ls fs)
     new-common x =
         rw (up x, raised-at n own held x (r .most x))
@@ -142,7 +144,8 @@ done {ls} {fs} {held} {n} {to} {i} r h =
     }
 
 -- The part that is lent holds the tree's own literals.
-lent-own : (places : List ℕ) (end from to : ℕ) → from ≤ to → to ≤ end → end ≤ length places → take (to - from) (drop from places) ≡ drop from (take to (take end places))
+lent-own : (places : List ℕ) (end from to : ℕ) → from ≤ to → to ≤ end → end ≤ length places →
+    take (to - from) (drop from places) ≡ drop from (take to (take end places))
 lent-own places end from to h g m = lent from to places h (omega arith) ∙ ap (drop from) (sym (take-take to end places g))
 
 abbrev Inv-loop : tie.InvT-loop

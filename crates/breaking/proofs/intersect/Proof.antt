@@ -52,7 +52,9 @@ module _ {places fs : List ℕ} {base end : ℕ} (g : Children places fs base en
     back = rw kept (drop-at (take base places) (take r ys) base (length-take-le base places (omega (arith, low, g .room))))
 
   -- What is kept are the literals that all trees have which do not fail as they are.
-  module _ {held : List ℕ} {n : ℕ} (counts : Counted (take end places) fs held n) (some : 1 ≤ n) (ys : List ℕ) (r : ℕ) (long : length ys ≡ length (own places base end)) (few : r ≤ length (own places base end)) (found : (x : ℕ) → among x (take r ys) ≡ (among x (own places base end) && eqb (getD held x 0) n)) where
+  module _ {held : List ℕ} {n : ℕ} (counts : Counted (take end places) fs held n) (some : 1 ≤ n) (ys : List ℕ) (r : ℕ)
+      (long : length ys ≡ length (own places base end)) (few : r ≤ length (own places base end))
+      (found : (x : ℕ) → among x (take r ys) ≡ (among x (own places base end) && eqb (getD held x 0) n)) where
     new : List ℕ
     new = putMid base (end - base) places ys
 

@@ -38,18 +38,22 @@ module _ {places fs : List ℕ} {base end : ℕ} (g : Children places fs base en
   abbrev value : ℕ → Bool
   value q = fails-all (pick d or root) (broken q (take end places) fs)
 
-  falls : ((d ≡ true) × (standing fs ≡ 0)) ⊎ ((d ≡ false) × (standing fs < length fs)) → Made value (take end places) fs (take base places) (2 * base + 1)
+  falls : ((d ≡ true) × (standing fs ≡ 0)) ⊎ ((d ≡ false) × (standing fs < length fs)) →
+      Made value (take end places) fs (take base places) (2 * base + 1)
   falls h =
       subst (λ l. Made value (take end places) fs l (2 * base + 1)) (take-take base end places low)
       (makes-failing value (take end places) fs stacked (g .inside) base-is (λ q. falls-by d q (take end places) fs h))
 
-  stands : ((d ≡ false) × (standing fs ≡ length fs)) ⊎ ((d ≡ true) × (standing fs ≡ 1)) → Made value (take end places) fs (take end places) (2 * base)
+  stands : ((d ≡ false) × (standing fs ≡ length fs)) ⊎ ((d ≡ true) × (standing fs ≡ 1)) →
+      Made value (take end places) fs (take end places) (2 * base)
   stands h =
       makes-standing value (take end places) fs stacked (g .inside) base-is (take end places) (omega (arith, long, low)) refl (g .inside)
       (λ q. ap (λ n. among q (drop n (take end places))) base-is ∙ stands-by d q (take end places) fs stacked h)
 
   -- With the literals that all have.
-  meets : d ≡ true → (new : List ℕ) (r : ℕ) → base ≤ r → r ≤ length new → take base new ≡ take base places → In-table (take r new) → ((q : ℕ) → among q (drop base (take r new)) ≡ fails-all or (broken q (take end places) fs)) → Made value (take end places) fs (take r new) (2 * base)
+  meets : d ≡ true → (new : List ℕ) (r : ℕ) → base ≤ r → r ≤ length new → take base new ≡ take base places →
+      In-table (take r new) → ((q : ℕ) → among q (drop base (take r new)) ≡ fails-all or (broken q (take end places) fs)) →
+      Made value (take end places) fs (take r new) (2 * base)
   unfolding pick
   meets h new r above most same places-new each =
       makes-standing value (take end places) fs stacked (g .inside) base-is (take r new) (omega (arith, length-take-le r new most))

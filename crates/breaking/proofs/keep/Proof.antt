@@ -26,7 +26,8 @@ record Keeping (list₀ held₀ : List ℕ) (n : ℕ) (list held : List ℕ) (ke
   long : length list ≡ length list₀
   wide : length held ≡ length held₀
   inside : In-table (drop i list)
-  found : (x : ℕ) → (among x (take kept list) || (among x (drop i list) && eqb (getD held x 0) n)) ≡ (among x list₀ && eqb (getD held₀ x 0) n)
+  found : (x : ℕ) →
+      (among x (take kept list) || (among x (drop i list) && eqb (getD held x 0) n)) ≡ (among x list₀ && eqb (getD held₀ x 0) n)
   blank : Blank-but (drop i list) held
 
 begun : (list held : List ℕ) (n : ℕ) → In-table list → Blank-but list held → Keeping list held n list held 0 0
@@ -34,7 +35,8 @@ unfolding among
 begun list held n h g =
     record { left = omega arith; low = omega arith; long = refl; wide = refl; inside = h; found = λ x. refl; blank = g }
 
-module _ {list₀ held₀ : List ℕ} {n : ℕ} {list held : List ℕ} {kept i : ℕ} (r : Keeping list₀ held₀ n list held kept i) (l : i < length list) {y : ℕ} (e : y ≡ getD list i 0) where
+module _ {list₀ held₀ : List ℕ} {n : ℕ} {list held : List ℕ} {kept i : ℕ} (r : Keeping list₀ held₀ n list held kept i)
+    (l : i < length list) {y : ℕ} (e : y ≡ getD list i 0) where
   rest : List ℕ
   rest = drop (suc i) list
 
@@ -84,7 +86,8 @@ module _ {list₀ held₀ : List ℕ} {n : ℕ} {list held : List ℕ} {kept i :
           blank = rw back rest-blank;
         }
 
-module _ {list₀ held₀ : List ℕ} {n : ℕ} {list held : List ℕ} {kept i : ℕ} (r : Keeping list₀ held₀ n list held kept i) (h : length list ≤ i) where
+module _ {list₀ held₀ : List ℕ} {n : ℕ} {list held : List ℕ} {kept i : ℕ} (r : Keeping list₀ held₀ n list held kept i)
+    (h : length list ≤ i) where
   none-left : drop i list ≡ []
   none-left = let e : i ≡ length list = omega (arith, r .left) in rw e (drop-length list)
 

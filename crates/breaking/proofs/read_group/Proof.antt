@@ -16,10 +16,13 @@ use Rattle.breaking.proofs.read_group.Statement.{statement}
 use Rattle.breaking.proofs.read_group.Tie as tie
 
 -- The children's entries, in the part that is lent.
-lent-children : (x top : ℕ) (stack : List ℕ) {v : ℕ} → v ≡ children x → take (top + v - top) (drop top stack) ≡ take (children x) (drop top stack)
+lent-children : (x top : ℕ) (stack : List ℕ) {v : ℕ} → v ≡ children x →
+    take (top + v - top) (drop top stack) ≡ take (children x) (drop top stack)
 lent-children x top stack {v} e = let n : top + v - top ≡ children x = omega arith in rw n
 
-relabel : (x : ℕ) {ls part fs new : List ℕ} {k f : ℕ} → k ≡ kind x → part ≡ fs → Made (λ q. fails-all (pick (eqb k 4) or root) (broken q ls part)) ls part new f → Made (λ q. fails-all (pick (eqb (kind x) 4) or root) (broken q ls fs)) ls fs new f
+relabel : (x : ℕ) {ls part fs new : List ℕ} {k f : ℕ} → k ≡ kind x → part ≡ fs →
+    Made (λ q. fails-all (pick (eqb k 4) or root) (broken q ls part)) ls part new f →
+    Made (λ q. fails-all (pick (eqb (kind x) 4) or root) (broken q ls fs)) ls fs new f
 relabel x {ls} {new = new} {f = f} e h = subst₂ (λ j gs. Made (λ q. fails-all (pick (eqb j 4) or root) (broken q ls gs)) ls gs new f) e h
 
 children-of-requires : tie.Need-children-of-requires

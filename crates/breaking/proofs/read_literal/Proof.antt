@@ -21,7 +21,8 @@ use Rattle.breaking.proofs.Tried.{opposite-below, fails-anyway, never-a
 use Rattle.breaking.proofs.read_literal.Statement.{statement}
 use Rattle.breaking.proofs.read_literal.Tie as tie
 
-module _ (places t : List ℕ) (p end : ℕ) (room : end < length places) (inside : In-table (take end places)) (small : p < most-literals) (wide : length t ≡ most-literals) where
+module _ (places t : List ℕ) (p end : ℕ) (room : end < length places) (inside : In-table (take end places))
+    (small : p < most-literals) (wide : length t ≡ most-literals) where
   -- Whether the literal fails, where another one does.
   abbrev value : ℕ → Bool
   value q = eqb (getD (tried t q) p 0) 1
@@ -55,7 +56,8 @@ module _ (places t : List ℕ) (p end : ℕ) (room : end < length places) (insid
       (λ e. rw (eqb-true x p e) small)
       (or-split (among x (take end places)) (eqb x p) (sym (among-last x p (take end places)) ∙ h))
 
-  added : (getD t p 0 ≡ 1 → ⊥) → (getD t (opposite p) 0 ≡ 1 → ⊥) → Made value (take end places) [] (take (end + 1) (set places end p)) (2 * end)
+  added : (getD t p 0 ≡ 1 → ⊥) → (getD t (opposite p) 0 ≡ 1 → ⊥) →
+      Made value (take end places) [] (take (end + 1) (set places end p)) (2 * end)
   unfolding among
   added d h =
       rw more

@@ -26,7 +26,8 @@ module _ (t : List ℕ) (x : ℕ) (bs : List Bool) where
   at-literal : {p : ℕ} → p ≡ place-at x → is-literal x ≡ true → eqb (getD t p 0) 1 ∷ bs ≡ with-node t x bs
   at-literal e l = rw e (sym (with-literal t x bs l))
 
-at-inner : (t : List ℕ) (x q : ℕ) (ls fs : List ℕ) → is-literal x ≡ false → fails-all (pick (eqb (kind x) 4) or root) (broken q ls (take (children x) fs)) ∷ drop (children x) (broken q ls fs) ≡ with-node t x (broken q ls fs)
+at-inner : (t : List ℕ) (x q : ℕ) (ls fs : List ℕ) → is-literal x ≡ false →
+    fails-all (pick (eqb (kind x) 4) or root) (broken q ls (take (children x) fs)) ∷ drop (children x) (broken q ls fs) ≡ with-node t x (broken q ls fs)
 at-inner t x q ls fs l = rw (broken-take q (children x) ls fs) (sym (with-inner t x (broken q ls fs) l))
 
 is-literal-requires : tie.Need-is-literal-requires

@@ -31,7 +31,9 @@ near : (c : tie.In-loop Inv-loop μ-loop) → c .before .loop .i < sheet-length
 near c = let w = c .before .loop .inv in omega (arith, w .0, w .1 .used)
 
 -- The node is a conjunction or the root.
-joins : (c : tie.Then2 Inv-loop μ-loop) → let k = kind (getD (sheet (c .before .before .before .before .before)) (c .before .before .before .before .before .before .loop .i) 0) in (k ≡ 3) ⊎ (k ≡ 5)
+joins : (c : tie.Then2 Inv-loop μ-loop) →
+    let k = kind (getD (sheet (c .before .before .before .before .before)) (c .before .before .before .before .before .before .loop .i) 0) in
+    (k ≡ 3) ⊎ (k ≡ 5)
 joins c =
     let e = ap kind (sym (c .before .before .before .wide162 .ensures .0)) ∙ sym (c .before .before .kind-of .ensures) in
     ⊎-elim
@@ -43,7 +45,9 @@ joins c =
 abbrev turn : tie.After-span-of Inv-loop μ-loop → tie.In-loop Inv-loop μ-loop
 turn c = c .before .before .before .before .before .before .before
 
-spanned : (c : tie.After-span-of Inv-loop μ-loop) → let n = turn c in c .span-of .result ≡ span 1 (stretch (n .before .loop .i) (2 + used-in (sheet n)) (sheet n))
+spanned : (c : tie.After-span-of Inv-loop μ-loop) →
+    let n = turn c in
+    c .span-of .result ≡ span 1 (stretch (n .before .loop .i) (2 + used-in (sheet n)) (sheet n))
 spanned c =
     let n = turn c in
     c .span-of .ensures .0 ∙ ap (λ e. span 1 (stretch (n .before .loop .i) e (sheet n))) (n .before .loop .inv .0)
@@ -109,14 +113,17 @@ span-of-requires : tie.Need-span-of-requires Inv-loop μ-loop
 span-of-requires c κs =
     let n = c .before .before .before .before .before .before in
     let w = n .before .loop .inv in
-    let long = stretch-long (n .before .loop .i) (2 + n .before .before .wide16 .result) (sheet n) (omega (arith, w .0, w .1 .used, w .1 .whole)) in
+    let long = stretch-long (n .before .loop .i) (2 + n .before .before .wide16 .result) (sheet n)
+    (omega (arith, w .0, w .1 .used, w .1 .whole)) in
     (omega (arith, w .0, w .1 .used, long, w .2 .from), omega arith)
 
 add-to : tie.Need-add-to Inv-loop μ-loop
 add-to c = omega (arith, ends-near c)
 
 claim-requires : tie.Need-claim-requires Inv-loop μ-loop
-claim-requires c κs = (omega arith, ends-near (c .before), c .before .before .before .before .before .before .before .before .before .loop .inv .2 .broad)
+claim-requires c κs =
+    let w = turn (c .before) .before .loop .inv in
+    (omega arith, ends-near (c .before), w .2 .broad)
 
 cast-ends : tie.Need-cast-ends Inv-loop μ-loop
 cast-ends c = omega (arith, ends-near (c .before .before))

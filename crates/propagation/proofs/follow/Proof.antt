@@ -21,7 +21,8 @@ Inv-loop sheet ends homes links seen₀ failed₀ trail₀ places₀ stack₀ be
     Formed sheet × Parted sheet ends homes × Linked sheet links × (small ≤ known) × Following sheet ends seen failed trail known large turn
 
 abbrev μ-loop : tie.MeasureT-loop
-μ-loop sheet ends homes links seen₀ failed₀ trail₀ places₀ stack₀ begun known₀ small₀ large₀ turn₀ seen failed trail places stack known small large turn =
+μ-loop sheet ends homes links seen₀ failed₀ trail₀ places₀ stack₀ begun known₀ small₀ large₀ turn₀
+    seen failed trail places stack known small large turn =
     8192 * (2 * most-literals - (small + large)) + turn .place
 
 short : (c : tie.At-loop Inv-loop μ-loop) → c .loop .known ≤ most-literals
@@ -42,7 +43,8 @@ enum-told c = search needs
 returns : tie.Need-returns Inv-loop μ-loop
 returns c =
     let call = c .before .before in
-    fallen-report (call .before .before .before .before .before .before .before .pre .0) (rw (c .enum-told .given .1) at (call .look-at-all .ensures))
+    let p = call .before .before .before .before .before .before .before .pre in
+    fallen-report (p .0) (rw (c .enum-told .given .1) at (call .look-at-all .ensures))
 
 loop-holds : tie.Need-loop-holds Inv-loop μ-loop
 loop-holds c =
@@ -112,17 +114,19 @@ add-small c = omega (arith, short (c .before .before .before .before .before .be
 
 loop-less-2 : tie.Need-loop-less-2 Inv-loop μ-loop
 loop-less-2 c =
-    let w = c .before .before .before .before .before .before .loop .inv in
-    let l = c .before .before .if2 .taken in
-    let facts = w .4 .watching .facts in
-    omega (arith, c .turn-of .ensures .1, facts .placed (c .before .before .before .before .before .before .loop .small) l, facts .room, w .4 .ahead)
+    let n = c .before .before .before .before .before .before .loop in
+    let w = n .inv .4 in
+    let placed = w .watching .facts .placed (n .small) (c .before .before .if2 .taken) in
+    omega (arith, c .turn-of .ensures .1, c .before .before .if2 .taken, placed, w .watching .facts .room, w .ahead)
 
 loop-again-2 : tie.Need-loop-again-2 Inv-loop μ-loop
 loop-again-2 c =
     let w = c .before .before .before .before .before .before .loop .inv in
     let e = c .turn-of .ensures in
-    let turn = following-some (w .0) (w .1) (w .2) (w .4) (c .before .before .before .before .next-due .ensures) (c .before .before .before .if1 .left) (e .0) (e .1) (c .before .before .if2 .taken) in
-    (w .0, w .1, w .2, omega (arith, c .before .before .if2 .taken), turn (λ z. omega (arith, z, e .2)))
+    let next = c .before .before .before .before .next-due .ensures in
+    let end = c .before .before .before .if1 .left in
+    let l = c .before .before .if2 .taken in
+    (w .0, w .1, w .2, omega (arith, l), following-some (w .0) (w .1) (w .2) (w .4) next end (e .0) (e .1) l (λ z. omega (arith, z, e .2)))
 
 turn-of-requires-2 : tie.Need-turn-of-requires-2 Inv-loop μ-loop
 turn-of-requires-2 c κs = omega (arith, short (c .before .before .before .before .before .before), c .before .if3 .taken)
@@ -132,17 +136,19 @@ add-large c = omega (arith, short (c .before .before .before .before .before .be
 
 loop-less-3 : tie.Need-loop-less-3 Inv-loop μ-loop
 loop-less-3 c =
-    let w = c .before .before .before .before .before .before .before .loop .inv in
-    let l = c .before .before .if3 .taken in
-    let facts = w .4 .watching .facts in
-    omega (arith, c .turn-of2 .ensures .1, facts .placed (c .before .before .before .before .before .before .before .loop .large) l, facts .room, w .3)
+    let n = c .before .before .before .before .before .before .before .loop in
+    let w = n .inv .4 in
+    let placed = w .watching .facts .placed (n .large) (c .before .before .if3 .taken) in
+    omega (arith, c .turn-of2 .ensures .1, c .before .before .if3 .taken, placed, w .watching .facts .room, n .inv .3)
 
 loop-again-3 : tie.Need-loop-again-3 Inv-loop μ-loop
 loop-again-3 c =
     let w = c .before .before .before .before .before .before .before .loop .inv in
     let e = c .turn-of2 .ensures in
-    let turn = following-all (w .0) (w .1) (w .2) (w .4) (c .before .before .before .before .before .next-due .ensures) (c .before .before .before .before .if1 .left) (e .0) (e .1) (c .before .before .if3 .taken) in
-    (w .0, w .1, w .2, w .3, turn refl (e .2))
+    let next = c .before .before .before .before .before .next-due .ensures in
+    let end = c .before .before .before .before .if1 .left in
+    let l = c .before .before .if3 .taken in
+    (w .0, w .1, w .2, w .3, following-all (w .0) (w .1) (w .2) (w .4) next end (e .0) (e .1) l refl (e .2))
 
 returns-3 : tie.Need-returns-3 Inv-loop μ-loop
 returns-3 c =

@@ -19,14 +19,16 @@ unfolding due
 returns-2 c =
     let part = c .before .before .before .before .before .args .part in
     let turn = c .before .before .before .before .before .args .turn in
-    rw (lt-ltb (part .from) (part .to) (c .before .before .before .if1 .left), le-ltb (part .to - part .from) (turn .limit) (c .if2 .taken)) refl
+    let one = lt-ltb (part .from) (part .to) (c .before .before .before .if1 .left) in
+    rw (one, le-ltb (part .to - part .from) (turn .limit) (c .if2 .taken)) refl
 
 returns-3 : tie.Need-returns-3
 unfolding due
 returns-3 c =
     let part = c .before .before .before .before .before .before .args .part in
     let turn = c .before .before .before .before .before .before .args .turn in
-    rw (lt-ltb (part .from) (part .to) (c .before .before .before .before .if1 .left), lt-ltb (part .to - part .from) (turn .limit) (c .before .if2 .left)) refl
+    let one = lt-ltb (part .from) (part .to) (c .before .before .before .before .if1 .left) in
+    rw (one, lt-ltb (part .to - part .from) (turn .limit) (c .before .if2 .left)) refl
 
 pub is-due-spec : {M : Type 1} → statement M
 is-due-spec = tie.close (tie.spec returns sub-if2 returns-2 returns-3)

@@ -33,7 +33,8 @@ abbrev number : tie.In-loop Inv-loop μ-loop → ℕ
 number c = getD (c .before .before .before .before .before .before .before .args .sheet .now) (c .before .loop .i) 0
 
 within : (c : tie.In-loop Inv-loop μ-loop) →
-    (c .before .loop .i < sheet-length) × (c .before .loop .i < length (c .before .before .before .before .before .before .before .args .sheet .now))
+    let i = c .before .loop .i in
+    (i < sheet-length) × (i < length (c .before .before .before .before .before .before .before .args .sheet .now))
 within c =
     let w = c .before .loop .inv in
     let far = part-inside (w .0) (w .1) in
@@ -41,9 +42,11 @@ within c =
 
 literal : (c : tie.Else2 Inv-loop μ-loop) → is-literal (number (c .before .before .before .before .before)) ≡ true
 literal c =
-    ap is-literal (sym (c .before .before .wide162 .ensures .0)) ∙ sym (c .before .is-literal .ensures) ∙ not-false (c .before .is-literal .result) (c .if2 .left)
+    let call = c .before .is-literal in
+    ap is-literal (sym (c .before .before .wide162 .ensures .0)) ∙ sym (call .ensures) ∙ not-false (call .result) (c .if2 .left)
 
-placed : (c : tie.After-place-of Inv-loop μ-loop) → c .place-of .result ≡ place-at (number (c .before .before .before .before .before .before))
+placed : (c : tie.After-place-of Inv-loop μ-loop) →
+    c .place-of .result ≡ place-at (number (c .before .before .before .before .before .before))
 placed c = c .place-of .ensures ∙ ap place-at (c .before .before .before .wide162 .ensures .0)
 
 small : (c : tie.After-place-of Inv-loop μ-loop) → c .place-of .result < most-literals
@@ -53,7 +56,8 @@ small c =
     let plain = w .3 .plain in
     let l = c .before .before .before .before .before .before .loop-test .taken in
     rw (placed c)
-    (literal-place _ (w .0) (n .i) (omega (arith, w .1 .begins, plain .from, plain .past)) (omega (arith, w .1 .ends)) (literal (c .before)))
+    (literal-place _ (w .0) (n .i) (omega (arith, w .1 .begins, plain .from, plain .past)) (omega (arith, w .1 .ends))
+    (literal (c .before)))
 
 mul-wide16 : tie.Need-mul-wide16 Inv-loop μ-loop
 mul-wide16 c = let p = c .before .pre in omega (arith, part-inside (p .0) (p .1 .0), p .1 .0 .goes-on)
@@ -113,7 +117,9 @@ returns-2 c =
     let m = c .before .before .before .before .before .before in
     let w = m .before .before .before .before .before .before .before .loop .inv in
     let l = m .before .before .before .before .before .before .loop-test .taken in
-    scanned-two (w .0) (w .1) (w .2) l (literal (m .before)) (placed m) (c .before .before .before .before .if3 .taken) (w .3) (c .before .before .forced .given .1) (c .if4 .taken)
+    let stands = c .before .before .before .before .if3 .taken in
+    let found = c .before .before .forced .given .1 in
+    scanned-two (w .0) (w .1) (w .2) l (literal (m .before)) (placed m) stands (w .3) found (c .if4 .taken)
 
 add-i-2 : tie.Need-add-i-2 Inv-loop μ-loop
 add-i-2 c = omega (arith, within (c .before .before .before .before .before .before .before .before))
@@ -127,7 +133,8 @@ loop-again c =
     let w = m .before .before .before .before .before .before .before .loop .inv in
     let l = m .before .before .before .before .before .before .loop-test .taken in
     let lit = literal (m .before) in
-    let failed = m .before .before .before .before .before .before .before .before .before .before .before .before .before .args .failed .now in (
+    let place = m .before .before .before .before .before .before in
+    let failed = place .before .before .before .before .before .before .before .args .failed .now in (
       w .0,
       w .1,
       w .2,

@@ -64,7 +64,9 @@ learn-requires c κs =
     (rw (c .before .before .wide16 .ensures .0) (here .0), (w .facts .long, w .facts .room))
 
 add-k : tie.Need-add-k Inv-loop μ-loop
-add-k c = omega (arith, c .before .before .before .before .before .loop-test .taken, c .before .before .before .before .before .before .loop .inv .broken .few)
+add-k c =
+    let w = c .before .before .before .before .before .before .loop .inv in
+    omega (arith, c .before .before .before .before .before .loop-test .taken, w .broken .few)
 
 loop-less : tie.Need-loop-less Inv-loop μ-loop
 loop-less c = search needs
@@ -72,7 +74,9 @@ loop-less c = search needs
 loop-again : tie.Need-loop-again Inv-loop μ-loop
 loop-again c =
     let e = c .learn .ensures in
-    breaks-more (c .before .before .before .before .before .before .loop .inv) (c .before .before .before .before .before .loop-test .taken) (c .before .before .before .wide16 .ensures .0) (e .0) (e .1 .0) (e .1 .1)
+    let w = c .before .before .before .before .before .before .loop .inv in
+    let l = c .before .before .before .before .before .loop-test .taken in
+    breaks-more w l (c .before .before .before .wide16 .ensures .0) (e .0) (e .1 .0) (e .1 .1)
 
 returns-2 : tie.Need-returns-2 Inv-loop μ-loop
 returns-2 c = breaks-all (c .before .loop .inv) (c .loop-test .left)

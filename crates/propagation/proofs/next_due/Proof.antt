@@ -102,7 +102,8 @@ loop-again c =
     let l = m .before .loop-test .taken in
     let part = m .part-at in
     let e = c .wide163 .ensures .0 in
-    let idle = rw (c .before .before .before .before .wide162 .ensures .0) at (sym (c .before .before .before .is-due .ensures) ∙ c .before .before .if1 .left) in
+    let seen = c .before .before .before .before .wide162 .ensures .0 in
+    let idle = rw seen at (sym (c .before .before .before .is-due .ensures) ∙ c .before .before .if1 .left) in
     record {
       descends = w .descends;
       homes-near = w .homes-near;

@@ -14,7 +14,9 @@ link-requires c κs = search needs
 
 follow-requires : tie.Need-follow-requires
 follow-requires c κs =
-    (search needs, (c .before .before .before .before .before .before .before .before .find .ensures, (c .before .before .before .before .before .before .link .ensures, (search needs, (search needs, length-replicate {A = ℕ} most-literals 0)))))
+    let made = c .before .before .before .before .before .before in
+    let found = made .before .before .find .ensures in
+    (search needs, (found, (made .link .ensures, (search needs, (search needs, length-replicate {A = ℕ} most-literals 0)))))
 
 returns : tie.Need-returns
 returns c = search needs

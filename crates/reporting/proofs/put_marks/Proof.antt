@@ -14,7 +14,8 @@ use Rattle.theory.specs.Tables.{mark-in, marks-in, marks-more}
 use Rattle.reporting.proofs.put_marks.Statement.{statement}
 use Rattle.reporting.proofs.put_marks.Tie as tie
 
-more : (b : Bool) (t out : List ℕ) (v : ℕ) {m : ℕ} → v < length out → m ≡ pick b 3 (mark-in t v) → take v out ≡ marks-in b t v → take (v + 1) (set out v m) ≡ marks-in b t (v + 1)
+more : (b : Bool) (t out : List ℕ) (v : ℕ) {m : ℕ} → v < length out → m ≡ pick b 3 (mark-in t v) → take v out ≡ marks-in b t v →
+    take (v + 1) (set out v m) ≡ marks-in b t (v + 1)
 more b t out v {m} h p e = rw (add-one, take-suc-set out v m h, e, p, marks-more b t v)
 
 abbrev Inv-loop : tie.InvT-loop
