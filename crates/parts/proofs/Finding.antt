@@ -96,7 +96,10 @@ module _ {s ends homes : List ℕ} {i : ℕ} (sheet : Formed s) (w : Finding s e
   pub finding-head : (kind (getD s i 0) ≡ 3) ⊎ (kind (getD s i 0) ≡ 5) → Finding s ends homes (i + 1)
   finding-head c =
       let long = inside in
-      let same : (t : List ℕ) → tree-fails t (stretch i (2 + used-in s) s) ≡ tree-fails t (stretch (i + 1) (2 + used-in s) s) = λ t. ap (tree-fails t) (stretch-first i (2 + used-in s) s b (omega arith)) ∙ conjunction-fails t (getD s i 0) (stretch (i + 1) (2 + used-in s) s) c in
+      let e = 2 + used-in s in
+      let cut = stretch-first i e s b (omega arith) in
+      let same : (t : List ℕ) → tree-fails t (stretch i e s) ≡ tree-fails t (stretch (i + 1) e s)
+      = λ t. ap (tree-fails t) cut ∙ conjunction-fails t (getD s i 0) (stretch (i + 1) e s) c in
       record {
         from = omega (arith, w .from);
         to = omega arith;
@@ -123,7 +126,9 @@ module _ {s ends homes : List ℕ} {i : ℕ} (sheet : Formed s) (w : Finding s e
   unfolding nodes-in
   known =
       rw tail
-      (ap (drop (i - 2)) (sheet .numbers) ∙ sym (map-drop number-of (i - 2) (map node-of (numbers-in s))) ∙ ap (map number-of) (sym (map-drop node-of (i - 2) (numbers-in s))))
+      (ap (drop (i - 2)) (sheet .numbers)
+      ∙ sym (map-drop number-of (i - 2) (map node-of (numbers-in s)))
+      ∙ ap (map number-of) (sym (map-drop node-of (i - 2) (numbers-in s))))
 
   spelled : (u : ℕ) × (trees (map node-of (stretch i (2 + used-in s) s)) ≡ some u)
   unfolding nodes-in
@@ -189,7 +194,10 @@ module _ {s ends homes : List ℕ} {i : ℕ} (sheet : Formed s) (w : Finding s e
           broad = claimed .long ∙ w .broad;
           near = λ m. ⊎-elim
               (λ l. rw (claimed .outside m (inl (ltb-true m i l))) (w .near m))
-              (λ l. ⊎-elim (λ g. rw (claimed .inside m (ltb-false m i l) (ltb-true m (i + k) g)) far) (λ g. rw (claimed .outside m (inr (ltb-false m (i + k) g))) (w .near m)) (either (ltb m (i + k))))
+              (λ l. ⊎-elim
+              (λ g. rw (claimed .inside m (ltb-false m i l) (ltb-true m (i + k) g)) far)
+              (λ g. rw (claimed .outside m (inr (ltb-false m (i + k) g))) (w .near m))
+              (either (ltb m (i + k))))
               (either (ltb m i));
           passed = λ j d. ⊎-elim
               (λ e. rw (same-own j e) (omega arith))
@@ -201,11 +209,19 @@ module _ {s ends homes : List ℕ} {i : ℕ} (sheet : Formed s) (w : Finding s e
               (same-or-not j i);
           home = λ j n d l m. ⊎-elim
               (λ e. claimed .inside n (omega arith) (rw (same-own j e) at m) ∙ sym e)
-              (λ e. let old : getD ends j 0 ≡ 0 → ⊥ = λ z. d (other j e ∙ z) in let near : n < getD ends j 0 = rw (other j e) at m in claimed .outside n (inl (omega (arith, w .passed j old))) ∙ w .home j n old l near)
+              (λ e.
+              let old : getD ends j 0 ≡ 0 → ⊥ = λ z. d (other j e ∙ z) in
+              let near : n < getD ends j 0 = rw (other j e) at m in
+              claimed .outside n (inl (omega (arith, w .passed j old))) ∙ w .home j n old l near)
               (same-or-not j i);
           whole = λ t q. ⊎-elim
-              (λ (p : Part-fails s ends t). let e : p .0 ≡ i → ⊥ = λ z. omega (arith, before (p .0) (p .1)) in inl (p .0, λ z. p .1 (sym (other (p .0) e) ∙ z), rw (other (p .0) e) (p .2)))
-              (λ p. ⊎-elim (λ r. inl (i, λ z. omega (arith, own), rw own r)) (λ r. inr r) (or-split (tree-fails t (stretch i (i + k) s)) (tree-fails t (stretch (i + k) (2 + used-in s) s)) (sym (cut t) ∙ p)))
+              (λ (p : Part-fails s ends t).
+              let e : p .0 ≡ i → ⊥ = λ z. omega (arith, before (p .0) (p .1)) in
+              inl (p .0, λ z. p .1 (sym (other (p .0) e) ∙ z), rw (other (p .0) e) (p .2)))
+              (λ p. ⊎-elim
+              (λ r. inl (i, λ z. omega (arith, own), rw own r))
+              (λ r. inr r)
+              (or-split (tree-fails t (stretch i (i + k) s)) (tree-fails t (stretch (i + k) (2 + used-in s) s)) (sym (cut t) ∙ p)))
               (w .whole t q);
           rest = λ t q. w .rest t (cut t ∙ or-right (tree-fails t (stretch i (i + k) s)) q);
         }

@@ -161,13 +161,16 @@ module _ {s links : List ℕ} {i : ℕ} (w : Linking s links i) (b : i < 2 + use
           wide = long;
           descends = descends-more;
           last = λ q l. ⊎-elim
-              (λ g. subst (λ m. Latest s m (i + 1) (getD new (sheet-length + m) 0)) (sym g) (rw at-own (record { there = inr (omega arith, here); last = λ k m o. omega arith })))
+              (λ g. subst (λ m. Latest s m (i + 1) (getD new (sheet-length + m) 0)) (sym g)
+              (rw at-own (record { there = inr (omega arith, here); last = λ k m o. omega arith })))
               (λ g. rw (elsewhere (sheet-length + q) (λ z. g (omega arith)) (λ z. omega arith))
               (latest-later (w .last q l) (λ o. g (sym (o .same) ∙ sym f))))
               (same-or-not q p);
           before = λ q n l o. ⊎-elim
               (λ g. rw (elsewhere n (λ z. omega arith) (λ z. omega arith)) (w .before q n g o))
-              (λ g. let same : q ≡ p = sym (o .same) ∙ ap (λ k. place-at (getD s k 0)) g ∙ sym f in rw (g, same, at-place) (w .last p small))
+              (λ g.
+              let same : q ≡ p = sym (o .same) ∙ ap (λ k. place-at (getD s k 0)) g ∙ sym f in
+              rw (g, same, at-place) (w .last p small))
               (below-next n i l);
         }
 

@@ -226,7 +226,9 @@ module _ {s ends homes : List ℕ} (sheet : Formed s) (table : Parted s ends hom
 
   -- So the sheet does not fail, and a literal under which it fails is known.
   standing-yet : tree-fails t (numbers-in s) ≡ false
-  standing-yet = fails-if (tree-fails t (numbers-in s)) (λ fall. let found = table .whole t fall in true-false (sym (found .2) ∙ exhausted (found .0) (found .1) .stands))
+  standing-yet = fails-if (tree-fails t (numbers-in s)) (λ fall.
+      let found = table .whole t fall in
+      true-false (sym (found .2) ∙ exhausted (found .0) (found .1) .stands))
 
   module _ (l : Literal) (near : place-of l < most-literals) (new : set-of t (complement l) ≡ false) where
     unforced : tree-fails (set t (place-of l) 1) (numbers-in s) ≡ true → ⊥
@@ -255,7 +257,8 @@ module _ {s ends homes : List ℕ} (sheet : Formed s) (table : Parted s ends hom
               literal = rw here at lit;
               same = ap place-at (sym here) ∙ e;
             } in
-            true-false (sym (known-complement t l (exhausted i d .known (place-of l) (i + j) near (omega arith) (omega arith) occurs (found .2))) ∙ new)))
+            let known = exhausted i d .known (place-of l) (i + j) near (omega arith) (omega arith) occurs (found .2) in
+            true-false (sym (known-complement t l known) ∙ new)))
 
         same : tree-fails (set t (place-of l) 1) (stretch i (getD ends i 0) s) ≡ tree-fails t (stretch i (getD ends i 0) s)
         same = same-fails (set t (place-of l) 1) t (stretch i (getD ends i 0) s) agree

@@ -79,7 +79,10 @@ grown-one : (t trail : List ℕ) (n o : ℕ) → o < length t → n < length tra
 grown-one t trail n o a b =
     record {
       more = omega arith;
-      keeps = λ p e. ⊎-elim (λ q. ap (λ m. getD (set t o 1) m 0) q ∙ getD-set-same t o 1 0 a) (λ q. getD-set-other t o p 1 0 q ∙ e) (same-or-not p o);
+      keeps = λ p e. ⊎-elim
+          (λ q. ap (λ m. getD (set t o 1) m 0) q ∙ getD-set-same t o 1 0 a)
+          (λ q. getD-set-other t o p 1 0 q ∙ e)
+          (same-or-not p o);
       new = λ p e. ⊎-elim
           (λ q. inr (n, omega arith, omega arith, getD-set-same trail n o 0 b ∙ sym q))
           (λ q. inl (sym (getD-set-other t o p 1 0 q) ∙ e))
@@ -96,7 +99,8 @@ module _ {s t trail : List ℕ} {n : ℕ} (w : Facts s t trail n) {k : ℕ} (sma
   pub still-room : n < most-literals
   still-room = omega (arith, w .room, unset-fewer t (opposite k) (rw (w .long) far) new)
 
-  facts-more : ((Contradictory (clauses root (decode (nodes-in s))) → ⊥) → (l : Literal) → place-of l ≡ k → Derived (clauses root (decode (nodes-in s))) l) → Facts s (set t (opposite k) 1) (set trail n (opposite k)) (n + 1)
+  facts-more : (let cs = clauses root (decode (nodes-in s)) in (Contradictory cs → ⊥) → (l : Literal) → place-of l ≡ k → Derived cs l) →
+      Facts s (set t (opposite k) 1) (set trail n (opposite k)) (n + 1)
   facts-more derived =
       let l = at-place k in
       let o : opposite k ≡ place-of (complement (l .0)) = ap opposite (sym (l .1)) ∙ opposite-place (l .0) in
@@ -129,8 +133,11 @@ module _ {s t₀ trail₀ : List ℕ} {n₀ : ℕ} {t trail : List ℕ} {n : ℕ
   learned-new e =
       let near : opposite k < length t = rw (w .long) (opposite-below k small) in
       let space : n < length trail = rw (w .wide) (still-room w small e) in
-      let long = v .long in
-      (facts-more w small e (λ d l p. forced-derived (decode (nodes-in s)) t₀ l (omega arith) (v .right) (rw p forced) d), grown-one t trail n (opposite k) near space, getD-set-same t (opposite k) 1 0 near)
+      let long = v .long in (
+        facts-more w small e (λ d l p. forced-derived (decode (nodes-in s)) t₀ l (omega arith) (v .right) (rw p forced) d),
+        grown-one t trail n (opposite k) near space,
+        getD-set-same t (opposite k) 1 0 near,
+      )
 
   pub learned : {t′ trail′ : List ℕ} {n′ : ℕ} → n′ ≡ pick (fresh t k) (n + 1) n → t′ ≡ pick (fresh t k) (set t (opposite k) 1) t →
       trail′ ≡ pick (fresh t k) (set trail n (opposite k)) trail →
@@ -173,12 +180,16 @@ module _ {s t trail : List ℕ} {n : ℕ} {t′ trail′ : List ℕ} {n′ : ℕ
             same = ap place-at (sym here);
           } in
           ⊎-elim
-          (λ same. ap (λ b. eqb b 1) (ap (λ m. getD (set t′ q 1) m 0) same ∙ getD-set-same t′ q 1 0 (omega arith) ∙ sym (ap (λ m. getD (set t q 1) m 0) same ∙ getD-set-same t q 1 0 (omega arith))))
+          (λ same. ap (λ b. eqb b 1)
+          (ap (λ m. getD (set t′ q 1) m 0) same
+          ∙ getD-set-same t′ q 1 0 (omega arith)
+          ∙ sym (ap (λ m. getD (set t q 1) m 0) same ∙ getD-set-same t q 1 0 (omega arith))))
           (λ other. ap (λ b. eqb b 1) (getD-set-other t′ q p 1 0 other)
           ∙ same-test (eqb (getD t′ p 0) 1) (eqb (getD t p 0) 1)
           (λ one. ⊎-elim
           (λ r. eq-eqb (getD t p 0) 1 r)
-          (λ (r : (h : ℕ) × (n ≤ h) × (h < n′) × (getD trail′ h 0 ≡ p)). absurd (free (r .0) (i + j) (r .1) (r .2) (omega arith) (omega arith) (rw (r .3) occurs)))
+          (λ (r : (h : ℕ) × (n ≤ h) × (h < n′) × (getD trail′ h 0 ≡ p)).
+          absurd (free (r .0) (i + j) (r .1) (r .2) (omega arith) (omega arith) (rw (r .3) occurs)))
           (g .new p (eqb-true (getD t′ p 0) 1 one)))
           (λ one. eq-eqb (getD t′ p 0) 1 (g .keeps p (eqb-true (getD t p 0) 1 one)))
           ∙ sym (ap (λ b. eqb b 1) (getD-set-other t q p 1 0 other)))
@@ -186,7 +197,9 @@ module _ {s t trail : List ℕ} {n : ℕ} {t′ trail′ : List ℕ} {n′ : ℕ
 
   untouched-as-it-is : Untouched s i e n trail′ n′ → tree-fails t′ (stretch i e s) ≡ tree-fails t (stretch i e s)
   untouched-as-it-is free =
-      sym (ap (λ u. tree-fails u (stretch i e s)) (as-it-is t′ long′)) ∙ untouched-same free most-literals ∙ ap (λ u. tree-fails u (stretch i e s)) (as-it-is t long)
+      sym (ap (λ u. tree-fails u (stretch i e s)) (as-it-is t′ long′))
+      ∙ untouched-same free most-literals
+      ∙ ap (λ u. tree-fails u (stretch i e s)) (as-it-is t long)
 
   -- So a part that was exhausted is, and one that has answered.
   pub answered-exhausted : Untouched s i e n trail′ n′ → Answered s i e t t′ → Exhausted s i e t′
@@ -204,5 +217,6 @@ module _ {s t trail : List ℕ} {n : ℕ} {t′ trail′ : List ℕ} {n′ : ℕ
       let was = was-so before in
       record {
         stands = untouched-as-it-is after ∙ was .stands;
-        known = λ q m small from to occurs fall. g .keeps (opposite q) (was .known q m small from to occurs (sym (untouched-same after q) ∙ fall));
+        known = λ q m small from to occurs fall.
+            g .keeps (opposite q) (was .known q m small from to occurs (sym (untouched-same after q) ∙ fall));
       }

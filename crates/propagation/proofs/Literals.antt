@@ -40,7 +40,8 @@ one-stands : (t xs : List ℕ) (j : ℕ) → j < length xs → Literals xs (suc 
 one-stands t [] j l lits h = absurd (omega arith)
 one-stands t (x ∷ xs) zero l lits h = rw (values-more t x xs, with-literal t x (values-of t xs) (lits 0 (omega arith)), or-more, h)
 one-stands t (x ∷ xs) (suc j) l lits h =
-    rw (values-more t x xs, with-literal t x (values-of t xs) (lits 0 (omega arith)), or-more, one-stands t xs j (omega arith) (λ i m. lits (suc i) (omega arith)) h)
+    let rest = one-stands t xs j (omega arith) (λ i m. lits (suc i) (omega arith)) h in
+    rw (values-more t x xs, with-literal t x (values-of t xs) (lits 0 (omega arith)), or-more, rest)
     (and-false (eqb (getD t (place-at x) 0) 1))
 
 all-fail : (t xs : List ℕ) → Literals xs (length xs) →
@@ -62,7 +63,8 @@ disjunction : (t : List ℕ) (x : ℕ) (xs : List ℕ) → Spells-tree (x ∷ xs
 unfolding pick
 disjunction t x xs h four =
     let bs = values-of t xs in
-    let whole : fails-all or (take (children x) bs) ∷ drop (children x) bs ≡ tree-fails t (x ∷ xs) ∷ [] = rw four at (sym (with-inner t x bs (inner x four))) ∙ sym (values-more t x xs) ∙ tree-value (x ∷ xs) h t in
+    let whole : fails-all or (take (children x) bs) ∷ drop (children x) bs ≡ tree-fails t (x ∷ xs) ∷ []
+    = rw four at (sym (with-inner t x bs (inner x four))) ∙ sym (values-more t x xs) ∙ tree-value (x ∷ xs) h t in
     let first : fails-all or (take (children x) bs) ≡ tree-fails t (x ∷ xs) = cc in
     let none : drop (children x) bs ≡ [] = cc in
     sym first ∙ ap (fails-all or) (take-all (children x) bs (omega (arith, length-drop (children x) bs, ap length none)))
@@ -142,7 +144,8 @@ module _ {s : List ℕ} {i e : ℕ} (sheet : Formed s) (part : Part s i e) {j k 
       let there : j + (a - j) ≡ a = omega arith in
       let here : place-at (getD xs (a - j) 0) ≡ p = ap place-at (number (a - j) (omega arith) ∙ ap (λ n. getD s n 0) there) ∙ same in
       w .together u
-      ∙ one-stands u xs (a - j) (rw (stretch-long j e s far) (omega arith)) (λ n m. ap is-literal (number n (omega arith)) ∙ w .literals (j + n) (omega arith) (omega arith))
+      ∙ one-stands u xs (a - j) (rw (stretch-long j e s far) (omega arith))
+      (λ n m. ap is-literal (number n (omega arith)) ∙ w .literals (j + n) (omega arith) (omega arith))
       (ap (λ q. eqb (getD u q 0) 1) here ∙ ne-eqb (getD u p 0) 1 stands)
 
   -- It still does once a literal at another place fails.
@@ -163,11 +166,13 @@ module _ {s : List ℕ} {i e : ℕ} (sheet : Formed s) (part : Part s i e) {j k 
   all-under end u h =
       let size = stretch-long j e s (part-inside sheet part .0) in
       let within = w .within in
-      let number : (n : ℕ) → n < length (stretch j e s) → getD (stretch j e s) n 0 ≡ getD s (j + n) 0 = λ n m. stretch-number j e n s (omega arith) in
+      let number : (n : ℕ) → n < length (stretch j e s) → getD (stretch j e s) n 0 ≡ getD s (j + n) 0
+      = λ n m. stretch-number j e n s (omega arith) in
       w .together u
       ∙ all-fail u (stretch j e s)
       (λ n m. ap is-literal (number n m) ∙ w .literals (j + n) (omega arith) (omega arith))
-      (λ n m. ap (λ y. eqb (getD u (place-at y) 0) 1) (number n m) ∙ eq-eqb (getD u (place-at (getD s (j + n) 0)) 0) 1 (h (j + n) (omega arith) (omega arith)))
+      (λ n m. ap (λ y. eqb (getD u (place-at y) 0) 1) (number n m)
+      ∙ eq-eqb (getD u (place-at (getD s (j + n) 0)) 0) 1 (h (j + n) (omega arith) (omega arith)))
 
 -- A literal that was found stays so.
 later : {s t : List ℕ} {j k p : ℕ} → Free s t j k p → Free s t j (k + 1) p
@@ -288,6 +293,8 @@ lone-looked {s} {i} {e} {t} {r = r} sheet part facts lone {t′} a b c =
     let known = learned facts facts near (part .counts (set t r 1) (lone .one)) a b c in
     looked sheet part facts (known .0) (known .1)
     (record {
-      stands = fails-if (tree-fails t (stretch i e s)) (λ fall. absurd (omega (arith, lone .only most-literals (ap (λ u. tree-fails u (stretch i e s)) (as-it-is t (facts .long)) ∙ fall))));
+      stands = fails-if (tree-fails t (stretch i e s)) (λ fall.
+          let out = lone .only most-literals (ap (λ u. tree-fails u (stretch i e s)) (as-it-is t (facts .long)) ∙ fall) in
+          absurd (omega arith));
       known = λ q m fall. ap (λ p. getD t′ (opposite p) 0) (lone .only q fall) ∙ known .2;
     })

@@ -51,7 +51,8 @@ returns : tie.Need-returns Inv-loop μ-loop
 returns c =
     let n = c .before .before .before in
     let a = n .before .args in
-    sym (whole _ (a .n) ∙ n .loop .inv .1 ∙ stops _ (a .n) (n .loop .v) (c .before .before .loop-test .taken) (c .before .mark-of .ensures) (c .if1 .taken))
+    let l = c .before .before .loop-test .taken in
+    sym (whole _ (a .n) ∙ n .loop .inv .1 ∙ stops _ (a .n) (n .loop .v) l (c .before .mark-of .ensures) (c .if1 .taken))
 
 add-v : tie.Need-add-v Inv-loop μ-loop
 add-v c = omega arith
@@ -63,7 +64,8 @@ loop-again : tie.Need-loop-again Inv-loop μ-loop
 loop-again c =
     let n = c .before .before .before in
     let a = n .before .args in
-    (omega arith, n .loop .inv .1 ∙ goes-on _ (a .n) (n .loop .v) (c .before .before .loop-test .taken) (c .before .mark-of .ensures) (c .if1 .left))
+    let l = c .before .before .loop-test .taken in
+    (omega arith, n .loop .inv .1 ∙ goes-on _ (a .n) (n .loop .v) l (c .before .mark-of .ensures) (c .if1 .left))
 
 returns-2 : tie.Need-returns-2 Inv-loop μ-loop
 unfolding all count-from

@@ -33,7 +33,10 @@ mark-of-requires : tie.Need-mark-of-requires Inv-loop μ-loop
 mark-of-requires c κs = omega arith
 
 -- The mark, where the two ways meet.
-mark : (c : tie.Joined1 Inv-loop μ-loop) → let n = c .before .before in let a = n .before .before .args in c .if1 .out ≡ pick (a .contradictory) 3 (mark-in (a .failed .now) (n .loop .v))
+mark : (c : tie.Joined1 Inv-loop μ-loop) →
+    let n = c .before .before in
+    let a = n .before .before .args in
+    c .if1 .out ≡ pick (a .contradictory) 3 (mark-in (a .failed .now) (n .loop .v))
 unfolding pick
 mark c = ⊎-elim (λ w. w .1 ∙ rw (w .0 .taken)) (λ w. w .2 ∙ w .1 .ensures ∙ rw (w .0 .left)) (c .if1 .came)
 
@@ -51,7 +54,9 @@ loop-again c =
     let n = c .before .before in
     let a = n .before .before .args in
     let w = n .loop .inv in
-    (omega arith, length-set (n .loop .out) (n .loop .v) (c .if1 .out) ∙ w .1, more (a .contradictory) (a .failed .now) (n .loop .out) (n .loop .v) (c .before .loop-test .taken) (mark c) (w .2))
+    let long = length-set (n .loop .out) (n .loop .v) (c .if1 .out) ∙ w .1 in
+    let l = c .before .loop-test .taken in
+    (omega arith, long, more (a .contradictory) (a .failed .now) (n .loop .out) (n .loop .v) l (mark c) (w .2))
 
 same-length : tie.Need-same-length Inv-loop μ-loop
 same-length c = c .before .loop .inv .1
