@@ -21,8 +21,10 @@ use Rattle.theory.specs.Shape.{shaped-trees}
 use Rattle.theory.specs.Sheets.{Formed}
 use Rattle.evaluation.specs.Reading.{tree-fails}
 use Rattle.parts.specs.Parts.{stretch, Claimed, Part, Part-fails, Parted}
-use Rattle.parts.proofs.Parting.{drop-take, conjunction-fails, none-fails, first-one, first-or-later, first-some}
-use Rattle.parts.proofs.Linking.{same-or-not, literal-place, zeros}
+use Rattle.theory.specs.Lists.{drop-take}
+use Rattle.theory.specs.Tables.{zero-everywhere}
+use Rattle.parts.proofs.Parting.{conjunction-fails, none-fails, first-one, first-or-later, first-some}
+use Rattle.parts.proofs.Linking.{same-or-not, literal-place}
 
 -- Stretches of a list: the first number, and a stretch cut in two.
 pub stretch-first : (i e : ℕ) (s : List ℕ) → i < e → i < length s → stretch i e s ≡ getD s i 0 ∷ stretch (i + 1) e s
@@ -63,14 +65,14 @@ pub finding-none : (s : List ℕ) {ends homes : List ℕ} → ends ≡ replicate
     Finding s ends homes 2
 unfolding numbers-in
 finding-none s {ends} {homes} e f =
-    let none : (j : ℕ) → getD ends j 0 ≡ 0 = λ j. ap (λ t. getD t j 0) e ∙ zeros sheet-length j in
+    let none : (j : ℕ) → getD ends j 0 ≡ 0 = λ j. ap (λ t. getD t j 0) e ∙ zero-everywhere sheet-length j in
     let n : 2 + used-in s - 2 ≡ used-in s = omega arith in
     record {
       from = omega arith;
       to = omega arith;
       wide = ap length e ∙ length-replicate {A = ℕ} sheet-length 0;
       broad = ap length f ∙ length-replicate {A = ℕ} sheet-length 0;
-      near = λ m. let z : getD homes m 0 ≡ 0 = ap (λ l. getD l m 0) f ∙ zeros sheet-length m in omega arith;
+      near = λ m. let z : getD homes m 0 ≡ 0 = ap (λ l. getD l m 0) f ∙ zero-everywhere sheet-length m in omega arith;
       passed = λ j d. absurd (d (none j));
       part = λ j d. absurd (d (none j));
       home = λ j k d l m. absurd (d (none j));

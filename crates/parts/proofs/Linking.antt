@@ -3,7 +3,7 @@ use mathlib.Core.Bool.{true, false}
 use mathlib.Core.List.{List}
 use mathlib.Core.Logic.{_⊎_, inl, inr, ⊎-elim}
 use mathlib.Core.Path.{_≡_, refl, sym, ap, subst, _∙_}
-use Prim.Native.Nat.{ℕ, zero, suc, _+_, _-_, _≤_, _<_}
+use Prim.Native.Nat.{ℕ, _+_, _-_, _≤_, _<_}
 use native.Mathlib.Omega.{arith}
 use borrow.Author.Tests.{eqb-true, eqb-false}
 use lib.Dec.{eqb}
@@ -15,6 +15,7 @@ use Rattle.theory.specs.Logic.{either, true-false}
 use Rattle.theory.specs.Scan.{is-literal}
 use Rattle.theory.specs.Sheets.{Formed}
 use Rattle.theory.specs.Leaves.{place-at}
+use Rattle.theory.specs.Tables.{zero-everywhere}
 use Rattle.evaluation.proofs.Nodes.{numbers-long, sheet-tree}
 use Rattle.parts.specs.Parts.{Claimed, Occurs, Latest, links-length, Descends, Linked}
 
@@ -67,14 +68,9 @@ pub record Linking (s links : List ℕ) (i : ℕ) : Type 0 where
   pub last : (q : ℕ) → q < most-literals → Latest s q i (getD links (sheet-length + q) 0)
   pub before : (q n : ℕ) → n < i → Occurs s q n → Latest s q n (getD links n 0)
 
-pub zeros : (k i : ℕ) → _≡_ {A = ℕ} (getD (replicate k 0) i 0) 0
-zeros zero i = refl
-zeros (suc k) zero = refl
-zeros (suc k) (suc i) = zeros k i
-
 pub linking-none : (s : List ℕ) {links : List ℕ} → links ≡ replicate links-length 0 → Linking s links 2
 linking-none s {links} e =
-    let none : (n : ℕ) → getD links n 0 ≡ 0 = λ n. ap (λ t. getD t n 0) e ∙ zeros links-length n in
+    let none : (n : ℕ) → getD links n 0 ≡ 0 = λ n. ap (λ t. getD t n 0) e ∙ zero-everywhere links-length n in
     record {
       from = omega arith;
       to = omega arith;

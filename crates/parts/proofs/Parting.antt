@@ -4,8 +4,8 @@ use mathlib.Core.Bool.{Bool, true, false, _||_}
 use mathlib.Core.List.{List, [], _∷_, map, append-nil}
 use mathlib.Core.Logic.{_⊎_, ⊎-elim}
 use mathlib.Core.Option.{some}
-use mathlib.Core.Path.{_≡_, refl, sym, ap, ap₂, _∙_}
-use Prim.Native.Nat.{ℕ, zero, suc, _-_, _≤_, _<_}
+use mathlib.Core.Path.{_≡_, sym, ap, ap₂, _∙_}
+use Prim.Native.Nat.{ℕ, suc, _-_, _≤_, _<_}
 use native.Mathlib.Omega.{arith}
 use lib.Dec.{eqb}
 use lib.ListN.{length, getD, take, drop}
@@ -13,30 +13,20 @@ use Rattle.model.specs.Base.{all, pick}
 use Rattle.model.specs.Forest.{and, root, Forest, size, first, after, _⊕_}
 use Rattle.model.specs.Code.{Node, leaf, head, kind, children, encode, push, decode, trees, node-of, number-of}
 use Rattle.theory.specs.Logic.{either}
-use Rattle.theory.specs.Lists.{all-map, all-from, map-back}
+use Rattle.theory.specs.Lists.{map-back}
 use Rattle.theory.specs.Forests.{first-after, size-first}
 use Rattle.theory.specs.Codes.{encode-decode, decode-encode, trees-code}
-use Rattle.theory.specs.Numbers.{fits, fits-node, node-number}
+use Rattle.theory.specs.Numbers.{fits, node-number}
 use Rattle.theory.specs.Scan.{is-literal}
 use Rattle.theory.specs.Spans.{span, span-more}
 use Rattle.theory.specs.Flat.{spell, Fits, fits-⊕, take-trees, drop-trees}
+use Rattle.theory.specs.Stretches.{all-fit}
 use Rattle.theory.specs.Evaluation.{Set, fails-all, fails}
 use Rattle.theory.specs.Tables.{set-of}
 use Rattle.theory.specs.Values.{fails-values, root-empty, root-and, root-with, root-⊕}
 use Rattle.theory.specs.Leaves.{place-at}
 use Rattle.evaluation.specs.Reading.{with-node, tree-fails}
 use Rattle.evaluation.proofs.Nodes.{values-of, values-none, values-more, with-literal, with-inner}
-
--- A list from a place on, of which the start was kept.
-pub drop-take : (n m : ℕ) (l : List ℕ) → drop n (take m l) ≡ take (m - n) (drop n l)
-drop-take zero m l = let e : m - 0 ≡ m = omega arith in rw e
-drop-take (suc n) zero l = let e : 0 - suc n ≡ 0 = omega arith in rw e
-drop-take (suc n) (suc m) [] = go (suc m - suc n)
-  where
-    go : (k : ℕ) → _≡_ {A = List ℕ} [] (take k [])
-    go zero = refl
-    go (suc k) = refl
-drop-take (suc n) (suc m) (x ∷ l) = let e : suc m - suc n ≡ m - n = omega arith in rw e (drop-take n m l)
 
 -- Under a conjunction or the root stand the trees that follow it: one of them fails where the conjunction or one after it does.
 pub conjunction-fails : (t : List ℕ) (x : ℕ) (xs : List ℕ) → (kind x ≡ 3) ⊎ (kind x ≡ 5) → tree-fails t (x ∷ xs) ≡ tree-fails t xs
@@ -74,9 +64,6 @@ some-trees : (xs : List ℕ) → 0 < length xs → 1 ≤ size (forest xs)
 unfolding decode
 some-trees [] h = absurd (omega arith)
 some-trees (x ∷ xs) h = push-some (node-of x) (forest xs)
-
-all-fit : (xs : List ℕ) → all fits (map node-of xs) ≡ true
-all-fit xs = all-map node-of fits xs ∙ all-from (λ x. fits (node-of x)) xs (λ x m. fits-node x)
 
 back : (f : Forest) → Fits f → map node-of (map number-of (encode f)) ≡ encode f
 back f h = map-back number-of node-of fits node-number (encode f) h

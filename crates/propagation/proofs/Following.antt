@@ -6,7 +6,7 @@ use mathlib.Core.Logic.{_⊎_, inl, inr, ⊎-elim}
 use mathlib.Core.Path.{_≡_, refl, sym, ap, _∙_}
 use Prim.Native.Nat.{ℕ, suc, _+_, _-_, _≤_, _<_}
 use native.Mathlib.Omega.{arith}
-use borrow.Author.Tests.{ltb-true, ltb-false, leb-true, leb-false, eq-eqb, lt-ltb, le-leb}
+use borrow.Author.Tests.{ltb-true, ltb-false, leb-true, leb-false, eq-eqb, lt-ltb}
 use lib.Dec.{eqb, ltb, leb}
 use lib.ListN.{length, getD, set}
 use lib.Seq.{getD-set-other}
@@ -29,7 +29,7 @@ use Rattle.parts.proofs.Finding.{stretch-number, stretch-long}
 use Rattle.breaking.specs.Breaking.{opposite}
 use Rattle.propagation.specs.declared.Stretch.{Stretch}
 use Rattle.propagation.specs.declared.Turn.{Turn}
-use Rattle.propagation.specs.Trails.{Fallen, Exhausted, Grown, Looked, Watching, due, Passed, Next-due}
+use Rattle.propagation.specs.Trails.{Fallen, Exhausted, Looked, Watching, due, Passed, Next-due}
 use Rattle.propagation.proofs.Learning.{opposite-place}
 use Rattle.propagation.proofs.Looking.{part-inside}
 use Rattle.propagation.proofs.Watching.{watching-looked, noted-later, noted-now}

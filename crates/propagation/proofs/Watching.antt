@@ -8,10 +8,10 @@ use lib.ListN.{length, getD, set, replicate, length-set, length-replicate}
 use lib.Seq.{getD-set-same, getD-set-other}
 use Rattle.model.specs.Base.{pick}
 use Rattle.model.specs.Limits.{sheet-length, most-literals}
-use Rattle.theory.specs.Tables.{right-none}
+use Rattle.theory.specs.Tables.{right-none, zero-everywhere}
 use Rattle.theory.specs.Sheets.{Formed}
-use Rattle.parts.proofs.Linking.{same-or-not, zeros, below-next}
-use Rattle.propagation.specs.Trails.{unset, Grown, Looked, Part-ends, Watching}
+use Rattle.parts.proofs.Linking.{same-or-not, below-next}
+use Rattle.propagation.specs.Trails.{unset, Looked, Part-ends, Watching}
 use Rattle.propagation.proofs.Learning.{exhausted-on}
 use Rattle.propagation.proofs.Looking.{part-inside}
 
@@ -32,7 +32,7 @@ watching-none s ends {seen} {t} {trail} a b c =
         right = rw b (right-none _ most-literals);
       };
       long = ap length a ∙ length-replicate {A = ℕ} sheet-length 0;
-      most = λ i. let z : getD seen i 0 ≡ 0 = ap (λ l. getD l i 0) a ∙ zeros sheet-length i in omega arith;
+      most = λ i. let z : getD seen i 0 ≡ 0 = ap (λ l. getD l i 0) a ∙ zero-everywhere sheet-length i in omega arith;
       exhausted = λ i l. absurd (omega arith);
     }
 

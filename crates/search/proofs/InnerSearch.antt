@@ -85,7 +85,7 @@ module _ {r : ℕ} {l : List ℕ} (s : Stretch l) (h : Headed r l) (i : ℕ) whe
 
       inner : Group (drop at l) and (found .0) (after (suc i) (h .children) ⊕ h .rest) (h .zeros)
       inner =
-          subst (λ n. Group (drop n l) and (found .0) (after (suc i) (h .children) ⊕ h .rest) (h .zeros)) (sym e) (conjunction-group s h i 0 (found .1))
+          subst (λ n. Group (drop n l) and (found .0) (after (suc i) (h .children) ⊕ h .rest) (h .zeros)) (sym e) (conjunction-group s h i (found .1))
 
       count : children (getD (drop at l) 0 0) ≡ children (getD l at 0)
       count = ap children (first-left at l)
