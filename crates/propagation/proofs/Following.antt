@@ -27,7 +27,7 @@ use Rattle.parts.proofs.Parting.{same-fails}
 use Rattle.parts.proofs.Linking.{same-or-not, below-next}
 use Rattle.parts.proofs.Finding.{stretch-number, stretch-long}
 use Rattle.breaking.specs.Breaking.{opposite}
-use Rattle.propagation.specs.declared.Stretch.{Stretch}
+use Rattle.propagation.specs.declared.Extent.{Extent}
 use Rattle.propagation.specs.declared.Turn.{Turn}
 use Rattle.propagation.specs.Trails.{Fallen, Exhausted, Looked, Watching, due, Passed, Next-due}
 use Rattle.propagation.proofs.Learning.{opposite-place}
@@ -45,7 +45,7 @@ module _ {s ends homes links : List ℕ} (table : Parted s ends homes) (links-of
         looked = λ i k l b d e z o. absurd (omega (arith, latest .last k b o));
       }
 
-  pub passed-more : {m : ℕ} → 0 < m → {part : Stretch} → part .from ≡ getD homes m 0 → part .to ≡ getD ends (part .from) 0 →
+  pub passed-more : {m : ℕ} → 0 < m → {part : Extent} → part .from ≡ getD homes m 0 → part .to ≡ getD ends (part .from) 0 →
       due part (getD seen (part .from) 0) turn ≡ false → Passed s ends seen q turn m → Passed s ends seen q turn (getD links m 0)
   unfolding due
   passed-more {m} l {part} f t idle w =
@@ -71,7 +71,7 @@ module _ {s ends homes links : List ℕ} (table : Parted s ends homes) (links-of
       }
 
 -- A part that is due is one.
-pub due-begins : (part : Stretch) (n : ℕ) (turn : Turn) → due part n turn ≡ true → part .from < part .to
+pub due-begins : (part : Extent) (n : ℕ) (turn : Turn) → due part n turn ≡ true → part .from < part .to
 unfolding due
 due-begins part n turn e = ltb-true (part .from) (part .to) (and-split (ltb (part .from) (part .to)) _ e .0)
 

@@ -20,7 +20,7 @@ use Rattle.propagation.specs.declared.Forced.{Forced}
 use Rattle.propagation.specs.declared.Forced.the-variants.{Only, Nothing, Fails, Untold}
 use Rattle.propagation.specs.declared.Outcome.{Outcome}
 use Rattle.propagation.specs.declared.Outcome.the-variants as O
-use Rattle.propagation.specs.declared.Stretch.{Stretch}
+use Rattle.propagation.specs.declared.Extent.{Extent}
 use Rattle.propagation.specs.declared.Turn.{Turn}
 
 -- The places that hold no 1.
@@ -107,7 +107,7 @@ pub record Watching (s ends : List ℕ) (to : ℕ) (seen t trail : List ℕ) (n 
 
 -- Whether a turn has a part looked at: there is one, it is below the turn's limit, and when it was last looked at the trail did not
 -- have the turn's literal.
-unfoldable pub due : Stretch → ℕ → Turn → Bool
+unfoldable pub due : Extent → ℕ → Turn → Bool
 due part seen turn =
     ltb (part .from) (part .to) && (ltb (part .to - part .from) (turn .limit) && leb seen (turn .index))
 

@@ -22,7 +22,7 @@ use parts::LINKS_LENGTH;
 const SMALL_PART: usize = 16;
 
 // A part of a sheet: the numbers from one place to another.
-pub struct Stretch {
+pub struct Extent {
     pub from: usize,
     pub to: usize,
 }
@@ -77,7 +77,7 @@ fn learn(
 // What a part forces that is a literal, or a disjunction that begins with literals: nothing where two of them, unlike one another,
 // do not fail. Of literals alone: the only one that does not fail, which may stand there more than once, or that all fail. Of any
 // other part its literals do not tell.
-fn lone(sheet: &[u16], part: Stretch, failed: &[u8; MOST_LITERALS]) -> Forced
+fn lone(sheet: &[u16], part: Extent, failed: &[u8; MOST_LITERALS]) -> Forced
     requires { ⌜ Formed (now sheet) ⌝ }
     requires { ⌜ Part (now sheet) (part .from) (part .to) ⌝ }
     requires { ⌜ length (now failed) ≡ «most-literals» ⌝ }
@@ -114,7 +114,7 @@ fn lone(sheet: &[u16], part: Stretch, failed: &[u8; MOST_LITERALS]) -> Forced
 // the sheet fall.
 fn look_inside(
     sheet: &[u16],
-    part: Stretch,
+    part: Extent,
     failed: &mut [u8; MOST_LITERALS],
     trail: &mut [u16; MOST_LITERALS],
     known: usize,
@@ -145,7 +145,7 @@ fn look_inside(
 // The same, without that pass where the part's literals tell enough.
 fn look(
     sheet: &[u16],
-    part: Stretch,
+    part: Extent,
     failed: &mut [u8; MOST_LITERALS],
     trail: &mut [u16; MOST_LITERALS],
     known: usize,
@@ -189,7 +189,7 @@ fn look_at_all(
         let end = numbers::wide16(ends[i]);
         if 0 < end {
             seen[i] = known as u16;
-            let part = Stretch { from: i, to: end };
+            let part = Extent { from: i, to: end };
             let outcome = look(sheet, part, failed, trail, known, places, stack);
             let Outcome::Known(more) = outcome else {
                 return Outcome::Fallen;
@@ -203,7 +203,7 @@ fn look_at_all(
 
 // Whether a turn has a part looked at that was last looked at when the trail was so long: there is one, it is below the turn's
 // limit, and the trail did not have the turn's literal.
-fn is_due(part: Stretch, seen: usize, turn: Turn) -> bool
+fn is_due(part: Extent, seen: usize, turn: Turn) -> bool
     ensures { λ r. ⌜ r ≡ due part seen turn ⌝ }
 {
     if part.to <= part.from {
@@ -228,13 +228,13 @@ fn turn_of(trail: &[u16; MOST_LITERALS], index: usize, limit: usize) -> Turn
 }
 
 // The part that holds the number at a place.
-fn part_at(ends: &[u16; SHEET_LENGTH], homes: &[u16; SHEET_LENGTH], n: usize) -> Stretch
+fn part_at(ends: &[u16; SHEET_LENGTH], homes: &[u16; SHEET_LENGTH], n: usize) -> Extent
     requires { ⌜ n < «sheet-length» ⌝ }
     requires { ⌜ getD (now homes) n 0 < «sheet-length» ⌝ }
     ensures { λ r. ⌜ (r .from ≡ getD (now (homes .entry)) n 0) × (r .to ≡ getD (now (ends .entry)) (r .from) 0) ⌝ }
 {
     let from = numbers::wide16(homes[n]);
-    Stretch {
+    Extent {
         from: from,
         to: numbers::wide16(ends[from]),
     }
