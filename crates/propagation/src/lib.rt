@@ -27,8 +27,8 @@ pub struct Extent {
     pub to: usize,
 }
 
-// Which literal of the trail is followed, where its chain is followed from, and how many numbers a part must not have to be looked
-// at for it.
+// Which literal of the trail is followed, the entry of its chain that was come to, and the number of numbers that a part must be
+// below to be looked at for it.
 pub struct Turn {
     pub index: usize,
     pub place: usize,
@@ -296,6 +296,7 @@ pub fn follow(
     let mut known = begun;
     let mut small = 0;
     let mut large = 0;
+    // No part is below the first turn's limit, so that it ends at once.
     let mut turn = Turn {
         index: 0,
         place: 0,
