@@ -1,4 +1,5 @@
 -- `reporting::mark_of` meets its contract, by the definition.
+use mathlib.Core.Path.{refl}
 use Prim.Native.Nat.{_+_, _*_}
 use borrow.Author.Needs.{needs}
 use borrow.Author.Tests.{eq-eqb, ne-eqb}
@@ -19,7 +20,7 @@ element-copy-out-if1 c = search needs
 
 returns : tie.Need-returns
 unfolding mark-in set-of place-of pick
-returns c = let a = c .before .before .args in rw (eq-eqb (getD (a .failed .now) (2 * a .v + 1) 0) 1 (c .if1 .taken))
+returns c = let a = c .before .before .args in rw (eq-eqb (getD (a .failed .now) (2 * a .v + 1) 0) 1 (c .if1 .taken)) refl
 
 mul-if2 : tie.Need-mul-if2
 mul-if2 c = search needs
