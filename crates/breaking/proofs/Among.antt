@@ -8,9 +8,10 @@ use native.Mathlib.Omega.{arith}
 use borrow.Author.Tests.{eqb-true, eq-eqb, ne-eqb}
 use lib.Dec.{eqb}
 use lib.ListN.{length, getD, take, drop, take-append-drop}
-use lib.Seq.{length-take-le, drop-append-le, take-add, drop-at}
+use lib.Seq.{length-take-le, drop-append-le}
 use Rattle.theory.specs.Logic.{true-false, or-split, or-left, or-right}
 use Rattle.breaking.specs.Stacks.{among}
+use Rattle.theory.specs.Lists.{drop-take}
 
 pub among-append : (q : ℕ) (xs ys : List ℕ) → among q (xs ++ ys) ≡ (among q xs || among q ys)
 unfolding among
@@ -64,10 +65,5 @@ among-index q (x ∷ l) h =
     (or-split (eqb q x) (among q l) h)
 
 -- A part of a slice that is lent.
-pub lent : (from to : ℕ) (l : List ℕ) → from ≤ to → to ≤ length l → take (to - from) (drop from l) ≡ drop from (take to l)
-lent from to l h g =
-    let e : from + (to - from) ≡ to = omega arith in
-    sym
-    (ap (λ n. drop from (take n l)) (sym e)
-    ∙ ap (drop from) (take-add from (to - from) l)
-    ∙ drop-at (take from l) (take (to - from) (drop from l)) from (length-take-le from l (omega arith)))
+pub lent : (from to : ℕ) (l : List ℕ) → take (to - from) (drop from l) ≡ drop from (take to l)
+lent from to l = sym (drop-take from to l)

@@ -7,15 +7,16 @@ use mathlib.Core.Path.{_≡_, sym, ap, _∙_}
 use Prim.Native.Nat.{ℕ, suc, _+_, _-_, _%_, _≤_, _<_}
 use native.Mathlib.Omega.{arith}
 use borrow.Author.Needs.{needs}
-use borrow.Author.Tests.{eqb-true, eqb-false, eq-eqb, ne-eqb, ltb-true, ltb-false}
-use lib.Dec.{eqb, ltb}
-use lib.ListN.{length, getD, take, drop, set, replicate, length-drop, length-replicate, getD-replicate, List·getD-eq-default}
+use borrow.Author.Tests.{eqb-true, eqb-false, eq-eqb, ne-eqb}
+use lib.Dec.{eqb}
+use lib.ListN.{length, getD, take, drop, set, replicate, length-drop, length-replicate}
 use lib.Seq.{drop-cons, drop-length, length-take-le, getD-take}
 use Rattle.model.specs.Limits.{sheet-room, most-literals}
 use Rattle.model.specs.Code.{children}
 use Rattle.theory.specs.Logic.{either, true-false, fails-if}
 use Rattle.theory.specs.Scan.{is-literal}
 use Rattle.theory.specs.Leaves.{place-at}
+use Rattle.theory.specs.Tables.{zero-everywhere}
 use Rattle.evaluation.specs.Reading.{with-node, tree-fails, Spells-tree}
 use Rattle.evaluation.proofs.Nodes.{values-of, values-none, values-more, values-length, trees-of, Node-here, node-here, tree-value}
 use Rattle.breaking.specs.Breaking.{opposite, Broken-by}
@@ -167,10 +168,7 @@ module _ {tree t places stack held : List ℕ} {top end i : ℕ} (h : Spells-tre
 
 -- The counts at the start.
 blank-zeros : Blank (replicate most-literals 0)
-blank-zeros = (
-  length-replicate {A = ℕ} most-literals 0,
-  λ x. ⊎-elim (λ e. getD-replicate most-literals x 0 0 (ltb-true x most-literals e)) (λ e. List·getD-eq-default (replicate most-literals 0) 0 (ltb-false x most-literals e)) (either (ltb x most-literals)),
-)
+blank-zeros = (length-replicate {A = ℕ} most-literals 0, zero-everywhere most-literals)
 
 abbrev Inv-loop : tie.InvT-loop
 Inv-loop tree failed places₀ stack₀ held₀ top₀ end₀ i₀ places stack held top end i = Read tree failed places stack held top end i

@@ -146,7 +146,7 @@ done {ls} {fs} {held} {n} {to} {i} r h =
 -- The part that is lent holds the tree's own literals.
 lent-own : (places : List ℕ) (end from to : ℕ) → from ≤ to → to ≤ end → end ≤ length places →
     take (to - from) (drop from places) ≡ drop from (take to (take end places))
-lent-own places end from to h g m = lent from to places h (omega arith) ∙ ap (drop from) (sym (take-take to end places g))
+lent-own places end from to h g m = lent from to places ∙ ap (drop from) (sym (take-take to end places g))
 
 abbrev Inv-loop : tie.InvT-loop
 Inv-loop children places end held₀ count₀ to₀ i₀ held count to i = Reached (take end places) children held count to i

@@ -30,11 +30,11 @@ module _ {places fs : List ℕ} {base end : ℕ} (g : Children places fs base en
 
   own-part : own places base end ≡ drop (bottom (length (take end places)) fs) (take end places)
   unfolding own
-  own-part = rw (length-take-le end places (g .room), ← g .first) (lent base end places low (g .room))
+  own-part = rw (length-take-le end places (g .room), ← g .first) (lent base end places)
 
   own-inside : In-table (own places base end)
   unfolding own
-  own-inside x m = g .inside x (among-drop x base (take end places) (rw (lent base end places low (g .room)) at m))
+  own-inside x m = g .inside x (among-drop x base (take end places) (rw (lent base end places) at m))
 
   -- They and those before them, once the first r of the part are kept.
   module _ (ys : List ℕ) (r : ℕ) (few : r ≤ length ys) where
