@@ -3,7 +3,7 @@ use mathlib.Core.List.{List}
 use Prim.Native.Nat.{ℕ}
 use native.Mathlib.Omega.{arith}
 use Rattle.calls.specs.Calls.{lookupOf}
-use Rattle.books.proofs.Found.{found-small}
+use Rattle.call_books.proofs.Found.{found-small}
 use Rattle.c_calls.specs.Packed.{Fits}
 
 pub lookup-fits : (b code : List ℕ) → Fits (lookupOf b code)

@@ -3,11 +3,11 @@
 ghost use mathlib.Core.Path.{_≡_};
 ghost use Rattle.calls.specs.Refusals.{«refusal-number»};
 ghost use Rattle.calls.specs.Calls.{checkOf, lookupOf};
-ghost use Rattle.answers.specs.AnswerMeaning.{refusalOf, doneOf, foundOf};
+ghost use Rattle.call_answers.specs.AnswerMeaning.{refusalOf, doneOf, foundOf};
 ghost use Rattle.c_calls.specs.Packed.{packedDone, packedValue, Fits};
-use answers::Done;
-use answers::Found;
-use answers::Refusal;
+use call_answers::Done;
+use call_answers::Found;
+use call_answers::Refusal;
 
 // A number of 8 bits at 64.
 fn wide(x: u8) -> u64
@@ -20,7 +20,7 @@ fn wide(x: u8) -> u64
 pub fn refused(r: Refusal) -> u64
     ensures { λ n. ⌜ n ≡ «refusal-number» (refusalOf r) ⌝ }
 {
-    wide(answers::number(r))
+    wide(call_answers::number(r))
 }
 
 // The answer of a call that has no value to give, as one number.
@@ -49,7 +49,7 @@ pub fn found(answer: Found) -> u64
 pub extern "C" fn nd_book_check(book: &[u8]) -> u64
     ensures { λ r. ⌜ r ≡ packedDone (checkOf (now (book .entry))) ⌝ }
 {
-    done(books::check(book))
+    done(call_books::check(book))
 }
 
 // The code lookup.
@@ -57,5 +57,5 @@ pub extern "C" fn nd_book_check(book: &[u8]) -> u64
 pub extern "C" fn nd_code_lookup(book: &[u8], code: &[u8]) -> u64
     ensures { λ r. ⌜ r ≡ packedValue (lookupOf (now (book .entry)) (now (code .entry))) ⌝ }
 {
-    found(books::lookup(book, code))
+    found(call_books::lookup(book, code))
 }

@@ -16,7 +16,7 @@ use Rattle.calls.specs.Refusals.{Refusal, sheet-refused, output-refused, option
 use Rattle.calls.specs.Outcomes.{accepted, outcome}
 use Rattle.calls.specs.Conditions.{has-option, is-book-of, is-shorter, applies}
 use Rattle.calls.specs.Chains.{book-refusal, write-refusal, choose-refusal, step-refusal, run-refusal}
-use Rattle.theory.specs.Logic.{first-none, only-none, none-due}
+use Rattle.theory_forms.specs.Logic.{first-none, only-none, none-due}
 
 -- An accepted outcome: nothing was due, and the value is the one given.
 pub accepted-due :

@@ -14,8 +14,8 @@ use Rattle.model.specs.Book.{word, options-of, rules-of, size-of, head-in-limit
 use Rattle.calls.specs.Refusals.{length-refused, head-refused}
 use Rattle.calls.specs.Conditions.{lacks-head, is-length-due, has-good-codes, has-good-contents, has-good-bodies, is-light}
 use Rattle.calls.specs.Chains.{part-refusal, book-refusal}
-use Rattle.theory.specs.Logic.{and-split, only-none, none-due}
-use Rattle.theory.specs.Loading.{Accepted}
+use Rattle.theory_forms.specs.Logic.{and-split, only-none, none-due}
+use Rattle.theory_formats.specs.Loading.{Accepted}
 
 -- A book with a good head and the length due, and the numbers of its head.
 pub record GoodHead (b : List ℕ) (n m t : ℕ) : Type 0 where

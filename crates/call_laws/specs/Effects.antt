@@ -23,19 +23,19 @@ use Rattle.calls.specs.Chains.{choose-refusal, step-refusal, run-refusal}
 use Rattle.calls.specs.Calls.{chooseOf, stepOf, runOf}
 use Rattle.calls.specs.History.{Call, choose, step, run, State, after-call, after-calls, Account, with-choice, account-call}
 use Rattle.calls.specs.History.{account-calls, choice-clauses, meaning, chooses, is-stretch, steps-of-call, steps-of}
-use Rattle.theory.specs.Logic.{true-false, and-split, is-some-of}
-use Rattle.theory.specs.Codes.{decode-encode}
-use Rattle.theory.specs.Clauses.{clauses-⊕, clauses-root, clauses-lit}
+use Rattle.theory_forms.specs.Logic.{true-false, and-split, is-some-of}
+use Rattle.theory_forms.specs.Codes.{decode-encode}
+use Rattle.theory_meaning.specs.Clauses.{clauses-⊕, clauses-root, clauses-lit}
 use Rattle.call_laws.specs.Valuations.{SameModels, model-holds, same-of, same-trans, same-append}
 use Rattle.call_laws.specs.Soundness.{step-holds}
-use Rattle.theory.specs.Shape.{Shaped, shaped-rooted, shaped-decode}
-use Rattle.theory.specs.ShapeKept.{step-shaped}
-use Rattle.theory.specs.Steps.{Steps, done, more, steps-append, steps-shaped, steps-weight}
-use Rattle.theory.specs.Runs.{run-steps}
-use Rattle.theory.specs.Reached.{strategy-steps}
-use Rattle.theory.specs.Sheets.{sheet-shaped, sheet-options, sheet-weight, sheet-made, nodes-made, options-made}
+use Rattle.theory_forms.specs.Shape.{Shaped, shaped-rooted, shaped-decode}
+use Rattle.theory_rewriting.specs.ShapeKept.{step-shaped}
+use Rattle.theory_rewriting.specs.Steps.{Steps, done, more, steps-append, steps-shaped, steps-weight}
+use Rattle.theory_rewriting.specs.Runs.{run-steps}
+use Rattle.theory_rewriting.specs.Reached.{strategy-steps}
+use Rattle.theory_forms.specs.Sheets.{sheet-shaped, sheet-options, sheet-weight, sheet-made, nodes-made, options-made}
 use Rattle.call_laws.specs.Accepted.{choose-accepted, step-accepted}
-use Rattle.theory.specs.Choice.{chosen-is, chosen-shaped, chosen-weight}
+use Rattle.theory_forms.specs.Choice.{chosen-is, chosen-shaped, chosen-weight}
 
 -- Steps keep the models of the rules.
 pub steps-models :

@@ -14,12 +14,12 @@ use Rattle.model.specs.Literal.{Literal, option, same}
 use Rattle.model.specs.Forest.{Conn, and, or, root, same-conn, Forest, nil, lit, node, size, first, after, literal-at}
 use Rattle.model.specs.Forest.{conjunction-at, constant-at, has-unit, mentions}
 use Rattle.model.specs.Rules.{shares, groups}
-use Rattle.theory.specs.Logic.{true-false, and-split, and-join, or-split, or-left, or-right, or-neither, either}
-use Rattle.theory.specs.Literals.{is-same, same-self}
-use Rattle.theory.specs.Evaluation.{Set, fails-all, fails, values}
-use Rattle.theory.specs.Fine.{fine, fine-node}
+use Rattle.theory_forms.specs.Logic.{true-false, and-split, and-join, or-split, or-left, or-right, or-neither, either}
+use Rattle.theory_forms.specs.Literals.{is-same, same-self}
+use Rattle.theory_meaning.specs.Evaluation.{Set, fails-all, fails, values}
+use Rattle.theory_forms.specs.Fine.{fine, fine-node}
 use Rattle.call_laws.specs.Irreducible.{Still, Irreducible}
-use Rattle.theory.specs.Forests.{unit-mentions}
+use Rattle.theory_forms.specs.Forests.{unit-mentions}
 use Rattle.call_laws.specs.Standing.{stands, unit-index}
 use Rattle.call_laws.specs.Still.{NoFalse, no-false, empty-or-two, literal-alone, nothing-to-lift, nothing-to-factor}
 

@@ -10,10 +10,10 @@ use Rattle.model.specs.Base.{then}
 use Rattle.model.specs.Forest.{Conn, Forest, nil, lit, node, _⊕_, size}
 use Rattle.model.specs.Code.{Node, leaf, head, encode, decode}
 use Rattle.model.specs.Rules.{row-of, turn, rewrite, NoRule}
-use Rattle.theory.specs.Logic.{then-then-none}
-use Rattle.theory.specs.Forests.{node-⊕}
-use Rattle.theory.specs.Codes.{decode-encode-++}
-use Rattle.theory.specs.Inversion.{step-none}
+use Rattle.theory_forms.specs.Logic.{then-then-none}
+use Rattle.theory_forms.specs.Forests.{node-⊕}
+use Rattle.theory_forms.specs.Codes.{decode-encode-++}
+use Rattle.theory_rewriting.specs.Inversion.{step-none}
 
 -- No rule turns a node of this connective with these children.
 abbrev pub Still : Conn → Forest → Type 0

@@ -13,11 +13,11 @@ use Rattle.model.specs.Book.{options-of, book-nodes, written}
 use Rattle.calls.specs.Outcomes.{accepted, Outcome, outcome}
 use Rattle.calls.specs.Chains.{book-refusal, load-refusal, write-refusal}
 use Rattle.calls.specs.Calls.{loadOf, writeOf}
-use Rattle.theory.specs.Sheets.{options-made}
-use Rattle.theory.specs.Bytes.{Bytes}
-use Rattle.theory.specs.Loading.{loaded-sheet}
+use Rattle.theory_forms.specs.Sheets.{options-made}
+use Rattle.theory_formats.specs.Bytes.{Bytes}
+use Rattle.theory_formats.specs.Loading.{loaded-sheet}
 use Rattle.call_laws.specs.Books.{accepted-book}
-use Rattle.theory.specs.Writing.{loaded-writes}
+use Rattle.theory_formats.specs.Writing.{loaded-writes}
 
 -- An accepted call's answer, and what the buffer holds after it.
 abbrev pub done : {A : Type 0} → A → List ℕ → Outcome (List ℕ) A

@@ -10,12 +10,12 @@ use Rattle.model.specs.Forest.{or, root, Forest, nil, node, size, has-unit}
 use Rattle.model.specs.Code.{encode}
 use Rattle.model.specs.Clauses.{Clause, unions, need, no-tree, one-tree-more, some-of, clauses, Derived, derived, Contradictory}
 use Rattle.model.specs.Rules.{NoRule}
-use Rattle.theory.specs.Logic.{or-split}
-use Rattle.theory.specs.Lists.{all-from, any-from}
-use Rattle.theory.specs.Literals.{same-is}
-use Rattle.theory.specs.Evaluation.{Set, some-inside, with-one, bridge}
-use Rattle.theory.specs.Clauses.{unit-derived, all-but-one}
-use Rattle.theory.specs.Fine.{fine}
+use Rattle.theory_forms.specs.Logic.{or-split}
+use Rattle.theory_forms.specs.Lists.{all-from, any-from}
+use Rattle.theory_forms.specs.Literals.{same-is}
+use Rattle.theory_meaning.specs.Evaluation.{Set, some-inside, with-one, bridge}
+use Rattle.theory_meaning.specs.Clauses.{unit-derived, all-but-one}
+use Rattle.theory_forms.specs.Fine.{fine}
 use Rattle.call_laws.specs.Irreducible.{Still, Irreducible, irreducible}
 use Rattle.call_laws.specs.Standing.{unit-stands}
 use Rattle.call_laws.specs.Still.{NoFalse, only-false, complement-absent}

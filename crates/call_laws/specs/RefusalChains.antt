@@ -9,7 +9,7 @@ use native.Mathlib.Omega.{arith}
 use Rattle.model.specs.Base.{any, only-if, first-of}
 use Rattle.calls.specs.Refusals.{Refusal, due, _or-else_}
 use Rattle.calls.specs.Outcomes.{Answer, refused, accepted, answer, outcome}
-use Rattle.theory.specs.Logic.{none-some, some-inj, or-neither, none-due}
+use Rattle.theory_forms.specs.Logic.{none-some, some-inj, or-neither, none-due}
 
 -- A refusal and the condition that it is due on.
 pub record Test : Type 0 where

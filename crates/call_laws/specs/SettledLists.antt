@@ -14,12 +14,12 @@ use Rattle.model.specs.Strategy as strategy
 use Rattle.model.specs.Sheet.{options-in, nodes-in, is-sheet, clauses-in, is-unit, Falsum}
 use Rattle.calls.specs.Outcomes.{if-accepted}
 use Rattle.calls.specs.History.{Call, choose, step, run, State, after-call, after-calls, Account, account-call, says-settled, ends-settled}
-use Rattle.theory.specs.Logic.{true-false, either}
-use Rattle.theory.specs.Clauses.{clauses-root}
-use Rattle.theory.specs.Shape.{shaped-decode}
+use Rattle.theory_forms.specs.Logic.{true-false, either}
+use Rattle.theory_meaning.specs.Clauses.{clauses-root}
+use Rattle.theory_forms.specs.Shape.{shaped-decode}
 use Rattle.call_laws.specs.Normal.{normal-form, falsum-contradictory}
-use Rattle.theory.specs.Runs.{run-steps, run-settled, run-stopped, run-is}
-use Rattle.theory.specs.Sheets.{sheet-shaped}
+use Rattle.theory_rewriting.specs.Runs.{run-steps, run-settled, run-stopped, run-is}
+use Rattle.theory_forms.specs.Sheets.{sheet-shaped}
 use Rattle.call_laws.specs.Effects.{Keeps, call-effect, run-outcome, run-leaves}
 
 -- A run that says settled leaves a sheet to which no rule applies.

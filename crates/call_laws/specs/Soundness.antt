@@ -12,19 +12,19 @@ use Rattle.model.specs.Literal.{Literal, complement, same}
 use Rattle.model.specs.Forest.{Conn, and, or, root, Forest, nil, lit, node, constant, _⊕_, kids, has-unit}
 use Rattle.model.specs.Code.{Node, encode, decode}
 use Rattle.model.specs.Rules.{neutral, deciding, assigned, step}
-use Rattle.theory.specs.Logic.{or-left}
-use Rattle.theory.specs.Forests.{⊕-nil, not-conn, unit-here}
-use Rattle.theory.specs.Codes.{decode-encode, decode-onto, decode-++}
-use Rattle.theory.specs.Evaluation.{Set, fails-all, fails, values, Valuation, value-of, zeros, with-one, Holds}
-use Rattle.theory.specs.Clauses.{clauses-root, unit-derived}
+use Rattle.theory_forms.specs.Logic.{or-left}
+use Rattle.theory_forms.specs.Forests.{⊕-nil, not-conn, unit-here}
+use Rattle.theory_forms.specs.Codes.{decode-encode, decode-onto, decode-++}
+use Rattle.theory_meaning.specs.Evaluation.{Set, fails-all, fails, values, Valuation, value-of, zeros, with-one, Holds}
+use Rattle.theory_meaning.specs.Clauses.{clauses-root, unit-derived}
 use Rattle.call_laws.specs.Totals.{value-complement, zeros-value}
 use Rattle.call_laws.specs.Valuations.{Consistent, zeros-consistent, with-one-consistent, model-holds, derived-two}
-use Rattle.theory.specs.Changes.{Change, absorbed, omitted, unwrapped, spreaded, lifted, merged, factored, change-node}
-use Rattle.theory.specs.Inversion.{Stepped, stepped}
-use Rattle.theory.specs.Values.{same-fails, values-⊕, values-onto}
-use Rattle.theory.specs.Families.{Opposed, absorbed-fails, omitted-fails, unwrapped-values, spread-fails, lifted-fails}
-use Rattle.theory.specs.Families.{merged-fails, factored-fails}
-use Rattle.theory.specs.Rooted.{Rooted, no-root, below-root, no-root-node}
+use Rattle.theory_rewriting.specs.Changes.{Change, absorbed, omitted, unwrapped, spreaded, lifted, merged, factored, change-node}
+use Rattle.theory_rewriting.specs.Inversion.{Stepped, stepped}
+use Rattle.theory_meaning.specs.Values.{same-fails, values-⊕, values-onto}
+use Rattle.theory_meaning.specs.Families.{Opposed, absorbed-fails, omitted-fails, unwrapped-values, spread-fails, lifted-fails}
+use Rattle.theory_meaning.specs.Families.{merged-fails, factored-fails}
+use Rattle.theory_forms.specs.Rooted.{Rooted, no-root, below-root, no-root-node}
 
 -- What a change asks of a set: that each literal which is a child both before and after it, as the literal of rules 9 and 10
 -- is, be opposed to its complement. A conjunction is asked nothing.

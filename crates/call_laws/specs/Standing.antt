@@ -11,8 +11,8 @@ use Rattle.model.specs.Literal.{Literal, option, same}
 use Rattle.model.specs.Forest.{and, or, root, Forest, nil, lit, node, _⊕_, first, after, literal-at, conjunction-at}
 use Rattle.model.specs.Forest.{literals-only, has-unit, mentions}
 use Rattle.model.specs.Rules.{shares, groups}
-use Rattle.theory.specs.Logic.{true-false, and-split, or-split, or-left, or-right}
-use Rattle.theory.specs.Literals.{same-is}
+use Rattle.theory_forms.specs.Logic.{true-false, and-split, or-split, or-left, or-right}
+use Rattle.theory_forms.specs.Literals.{same-is}
 
 -- The literal itself, not only its option, stands in the trees, at any depth.
 unfoldable pub stands : Literal → Forest → Bool

@@ -14,10 +14,10 @@ use Rattle.model.specs.Forest.{conjunction-at, constant-at, has-unit, mentions}
 use Rattle.model.specs.Code.{conn-kind}
 use Rattle.model.specs.Rules.{neutral, deciding, shares, groups, absorb, omit, unwrap, spread, lift, factor, absorbs, omits}
 use Rattle.model.specs.Rules.{unwraps, spreads, lifts, factors, change, Row, row, table, row-of, turn}
-use Rattle.theory.specs.Logic.{true-false, none-some, and-join, or-split, or-neither, either, fails-if, only-none}
-use Rattle.theory.specs.Literals.{same-is, complement-other, option-complement}
-use Rattle.theory.specs.Forests.{size-⊕, cut-at, size-after, size-zero, literal-here, conjunction-here, constant-here}
-use Rattle.theory.specs.Forests.{groups-size, mentions-some, past-end}
+use Rattle.theory_forms.specs.Logic.{true-false, none-some, and-join, or-split, or-neither, either, fails-if, only-none}
+use Rattle.theory_forms.specs.Literals.{same-is, complement-other, option-complement}
+use Rattle.theory_forms.specs.Forests.{size-⊕, cut-at, size-after, size-zero, literal-here, conjunction-here, constant-here}
+use Rattle.theory_forms.specs.Forests.{groups-size, mentions-some, past-end}
 use Rattle.call_laws.specs.Irreducible.{Still}
 use Rattle.call_laws.specs.Standing.{stands, stands-⊕, stands-mentions, unit-index, group-index}
 

@@ -12,12 +12,12 @@ use Rattle.model.specs.Literal.{Literal, pos, neg, complement, same, has}
 use Rattle.model.specs.Forest.{Conn, Forest}
 use Rattle.model.specs.Clauses.{Clause, clauses, Derived, derived, Contradictory}
 use Rattle.model.specs.Propagation.{facts-of, report}
-use Rattle.theory.specs.Logic.{fails-if, or-split}
-use Rattle.theory.specs.Lists.{any-none}
-use Rattle.theory.specs.Literals.{same-is, complement-other}
-use Rattle.theory.specs.Evaluation.{Set, some-inside, bridge, Valuation, value-of, zeros, with-one, Holds}
-use Rattle.theory.specs.Exact.{facts-derived, consistent, contradictory-or-not}
-use Rattle.theory.specs.ExactReports.{tells-same}
+use Rattle.theory_forms.specs.Logic.{fails-if, or-split}
+use Rattle.theory_forms.specs.Lists.{any-none}
+use Rattle.theory_forms.specs.Literals.{same-is, complement-other}
+use Rattle.theory_meaning.specs.Evaluation.{Set, some-inside, bridge, Valuation, value-of, zeros, with-one, Holds}
+use Rattle.theory_meaning.specs.Exact.{facts-derived, consistent, contradictory-or-not}
+use Rattle.theory_meaning.specs.ExactReports.{tells-same}
 use Rattle.call_laws.specs.Totals.{total, value-small, value-complement, zeros-value, total-zero, total-but-one, total-two}
 use Rattle.call_laws.specs.Totals.{clause-satisfied}
 

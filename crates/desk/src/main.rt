@@ -1,5 +1,5 @@
 // The desk program: reads the option book `book.bin` and the choices on standard input, and prints what the order gives. All that is
-// decided is decided by `sessions::session`, which is proved to give every byte; here the bytes are only read and written. No more
+// decided is decided by `desk_session::session`, which is proved to give every byte; here the bytes are only read and written. No more
 // than 65,536 of either are read: the rest cannot change what is printed (`sessions`: `Buffers.desk-cut`). Where choices are typed at
 // a terminal, standard error has a word on how, and why a line was refused; where they are piped, nothing is written there.
 ghost use Prim.Native.Nat.{_≤_};
@@ -50,7 +50,7 @@ fn line_end(input: &[u8], from: usize) -> usize
 // What the program prints for this input is a refusal: no other output begins with an r.
 fn is_refused(book: &[u8], input: &[u8]) -> bool {
     let mut out = [0u8; 16384];
-    sessions::session(book, input, &mut out);
+    desk_session::session(book, input, &mut out);
     out[0] == b'r'
 }
 
@@ -126,7 +126,7 @@ fn main() {
     let mut input = io::large_buffer();
     let m = io::read_full(STDIN_FILENO, &mut input);
     let mut out = [0u8; 16384];
-    let k = sessions::session(&book[..n], &input[..m], &mut out);
+    let k = desk_session::session(&book[..n], &input[..m], &mut out);
     io::write_all(STDOUT_FILENO, &out[..k]);
     if typed && out[0] == b'r' {
         say_why(&book[..n], &input[..m], out[8]);

@@ -8,9 +8,9 @@ use lib.ListN.{length, length-append}
 use Rattle.model.specs.Forest.{and, Forest, nil, lit, node, _⊕_, first, after, literal-at, conjunction-at}
 use Rattle.model.specs.Code.{Node, leaf, encode}
 use Rattle.model.specs.Rules.{neutral, assigned, absorb, omit, unwrap, spread, lift, merge, Family, absorbs, omits, unwraps, spreads, lifts, merges, factors, change}
-use Rattle.theory.specs.Logic.{some-inj, and-split, only-some, then-some}
-use Rattle.theory.specs.Forests.{nil-⊕, ⊕-nil, ⊕-assoc, literal-here, conjunction-here, constant-here, cut-at}
-use Rattle.theory.specs.Codes.{encode-⊕}
+use Rattle.theory_forms.specs.Logic.{some-inj, and-split, only-some, then-some}
+use Rattle.theory_forms.specs.Forests.{nil-⊕, ⊕-nil, ⊕-assoc, literal-here, conjunction-here, constant-here, cut-at}
+use Rattle.theory_forms.specs.Codes.{encode-⊕}
 use Rattle.locality.specs.Zones.{tree-end, child-place, Zone, zone}
 use Rattle.locality.specs.ChildPlaces.{Rest, rest-of, rest-one, rest-as, further, past-trees, past-children, child-offset, length-here, child-here, end-here}
 use Rattle.locality.specs.Turned.{Turned, old-here, new-here}

@@ -10,7 +10,7 @@ use lib.Dec.{eqb}
 use Rattle.model.specs.Literal.{Literal, option, same}
 use Rattle.model.specs.Forest.{Conn, and, or, root, same-conn, Forest, nil, lit, node, size, first, after, literal-at, conjunction-at, constant-at, literals-only, has-unit, mentions}
 use Rattle.model.specs.Rules.{shares, groups}
-use Rattle.theory.specs.Logic.{or-right}
+use Rattle.theory_forms.specs.Logic.{or-right}
 use Rattle.locality.specs.Mentions.{Covers, both-ways, keep-first}
 use Rattle.locality.specs.Differ.{Differ, to-literal, to-group, past-literal, past-group, inside}
 

@@ -11,10 +11,10 @@ use Rattle.model.specs.Literal.{Literal, complement, same}
 use Rattle.model.specs.Forest.{Conn, and, or, root, Forest, nil, lit, node, size, first, after, literal-at, conjunction-at, constant-at, has-unit}
 use Rattle.model.specs.Code.{Node, leaf, head, encode, push, decode}
 use Rattle.model.specs.Rules.{neutral, deciding, assigned, shares}
-use Rattle.theory.specs.Logic.{true-false, none-some, some-inj, fails-if, and-join, pick-keeps}
-use Rattle.theory.specs.Lists.{map-drop}
-use Rattle.theory.specs.Literals.{same-is}
-use Rattle.theory.specs.Forests.{same-conn-self, assigned-lit, size-assigned}
+use Rattle.theory_forms.specs.Logic.{true-false, none-some, some-inj, fails-if, and-join, pick-keeps}
+use Rattle.theory_forms.specs.Lists.{map-drop}
+use Rattle.theory_forms.specs.Literals.{same-is}
+use Rattle.theory_forms.specs.Forests.{same-conn-self, assigned-lit, size-assigned}
 use Rattle.locality.specs.Alike.{Alike, no-trees, one-literal, groups-alike, deep-groups, deep-constant, alike-covers}
 
 -- No tree of the forest is a constant.

@@ -10,8 +10,8 @@ use lib.Seq.{drop-append-le}
 use Rattle.model.specs.Forest.{Forest, nil, node, _⊕_, first, after, kids}
 use Rattle.model.specs.Code.{Node, leaf, head, encode, push, decode}
 use Rattle.model.specs.Rules.{Family}
-use Rattle.theory.specs.Logic.{fails-if}
-use Rattle.theory.specs.Codes.{decode-encode, decode-onto, decode-++}
+use Rattle.theory_forms.specs.Logic.{fails-if}
+use Rattle.theory_forms.specs.Codes.{decode-encode, decode-onto, decode-++}
 use Rattle.locality.specs.Zones.{Quiet, tree-length, tree-end, Holds, Twice}
 use Rattle.locality.specs.Turned.{Turned}
 use Rattle.locality.specs.Differ.{Differ, change-differs}

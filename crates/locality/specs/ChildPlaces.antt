@@ -7,8 +7,8 @@ use lib.ListN.{length, drop, length-append}
 use lib.Seq.{drop-at, drop-drop}
 use Rattle.model.specs.Forest.{Conn, Forest, nil, node, _⊕_, first, after, kids}
 use Rattle.model.specs.Code.{Node, encode, decode}
-use Rattle.theory.specs.Forests.{⊕-assoc, first-after}
-use Rattle.theory.specs.Codes.{encode-⊕, decode-encode}
+use Rattle.theory_forms.specs.Forests.{⊕-assoc, first-after}
+use Rattle.theory_forms.specs.Codes.{encode-⊕, decode-encode}
 use Rattle.locality.specs.Zones.{tree-length, tree-end, child-place}
 
 -- The nodes of a list from a place within it on.

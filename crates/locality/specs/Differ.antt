@@ -11,9 +11,9 @@ use lib.ListN.{length, length-append}
 use Rattle.model.specs.Literal.{Literal, option}
 use Rattle.model.specs.Forest.{Conn, Forest, nil, lit, node, _⊕_, size, first, after, mentions}
 use Rattle.model.specs.Code.{encode}
-use Rattle.theory.specs.Logic.{or-left}
-use Rattle.theory.specs.Forests.{size-zero}
-use Rattle.theory.specs.Changes.{Change, change-node}
+use Rattle.theory_forms.specs.Logic.{or-left}
+use Rattle.theory_forms.specs.Forests.{size-zero}
+use Rattle.theory_rewriting.specs.Changes.{Change, change-node}
 use Rattle.locality.specs.Mentions.{Covers, change-covers}
 
 -- `Differ n d f g`: a tree of f, n nodes on and d levels down, is another one in g that mentions no other options.

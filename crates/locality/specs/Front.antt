@@ -8,8 +8,8 @@ use lib.Seq.{drop-append-le, drop-drop}
 use Rattle.model.specs.Forest.{Conn, Forest, nil, node, _⊕_, first}
 use Rattle.model.specs.Code.{Node, leaf, head, encode, push, decode}
 use Rattle.model.specs.Rules.{Family}
-use Rattle.theory.specs.Forests.{⊕-assoc}
-use Rattle.theory.specs.Codes.{encode-⊕, decode-encode, decode-encode-++, encode-decode, trees-code, trees-drop}
+use Rattle.theory_forms.specs.Forests.{⊕-assoc}
+use Rattle.theory_forms.specs.Codes.{encode-⊕, decode-encode, decode-encode-++, encode-decode, trees-code, trees-drop}
 use Rattle.locality.specs.Zones.{Quiet}
 use Rattle.locality.specs.ChildPlaces.{Rest, rest-as, further, past-head}
 use Rattle.locality.specs.Turned.{Turned, old-here, new-here}

@@ -13,10 +13,10 @@ use Rattle.model.specs.Literal.{Literal}
 use Rattle.model.specs.Forest.{Conn, Forest, nil, lit, node, _⊕_, size, first, after, kids, literal-at, conjunction-at, constant-at}
 use Rattle.model.specs.Code.{Node, leaf, head, encode, push, decode, trees}
 use Rattle.model.specs.Rules.{assigned, spread, lift, factor, spreads, change, rewrite, step}
-use Rattle.theory.specs.Logic.{either, only-some, then-some}
-use Rattle.theory.specs.Forests.{literal-here, cut-at, assigned-lit}
-use Rattle.theory.specs.Codes.{encode-⊕, decode-encode}
-use Rattle.theory.specs.Bounds.{past-last}
+use Rattle.theory_forms.specs.Logic.{either, only-some, then-some}
+use Rattle.theory_forms.specs.Forests.{literal-here, cut-at, assigned-lit}
+use Rattle.theory_forms.specs.Codes.{encode-⊕, decode-encode}
+use Rattle.theory_rewriting.specs.Bounds.{past-last}
 use Rattle.locality.specs.Zones.{Quiet, tree-end}
 use Rattle.locality.specs.ChildPlaces.{Rest, rest-as, rest-one, further, past-children, length-here}
 use Rattle.locality.specs.Turned.{Turned, old-here, new-here, turned}
@@ -24,7 +24,7 @@ use Rattle.locality.specs.Looks.{Fades, kept, fades-from, fades-read, fa
 use Rattle.locality.specs.Assigned.{NoConstant, Other, assigned-length, assigned-part, literal-stays, unit-before, assigned-level, assigned-conjunction, assigned-shares}
 use Rattle.locality.specs.Before.{node-at}
 use Rattle.locality.specs.Front.{part-here, below-head}
-use Rattle.theory.specs.Turns.{family-9}
+use Rattle.theory_rewriting.specs.Turns.{family-9}
 
 -- Children where a literal is assigned and no constant stands: what did not apply to their node does not come to apply.
 module _ (b : Conn) (l : Literal) (k : Forest) (free : NoConstant (assigned b l k)) (c : Conn) (i j : ℕ) where

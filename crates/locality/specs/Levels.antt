@@ -12,7 +12,7 @@ use lib.Seq.{drop-drop}
 use Rattle.model.specs.Base.{pick}
 use Rattle.model.specs.Forest.{Conn, Forest, nil, node, first, after, kids}
 use Rattle.model.specs.Code.{Node, leaf, head, encode, push}
-use Rattle.theory.specs.Codes.{decode-onto}
+use Rattle.theory_forms.specs.Codes.{decode-onto}
 use Rattle.locality.specs.Differ.{Differ, past-literal, past-group, inside, Cut, early, late, cut-differ}
 use Rattle.locality.specs.Alike.{alike-self, differ-alike}
 use Rattle.locality.specs.Looks.{Look, both-literals, both-groups}

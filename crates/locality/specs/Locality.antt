@@ -12,10 +12,10 @@ use lib.Seq.{drop-drop}
 use Rattle.model.specs.Forest.{_⊕_, first, after}
 use Rattle.model.specs.Code.{Node, encode, decode, trees}
 use Rattle.model.specs.Rules.{rewrite, step}
-use Rattle.theory.specs.Forests.{first-after}
-use Rattle.theory.specs.Codes.{encode-⊕, encode-decode, trees-drop}
-use Rattle.theory.specs.Logic.{either}
-use Rattle.theory.specs.Turns.{family-at, family-9, family-11}
+use Rattle.theory_forms.specs.Forests.{first-after}
+use Rattle.theory_forms.specs.Codes.{encode-⊕, encode-decode, trees-drop}
+use Rattle.theory_forms.specs.Logic.{either}
+use Rattle.theory_rewriting.specs.Turns.{family-at, family-9, family-11}
 use Rattle.locality.specs.Zones.{Quiet, tree-length, Holds, Twice, Zone, zone}
 use Rattle.locality.specs.Turned.{Turned, old-here, new-here, turned, turned-trees, rest-stays}
 use Rattle.locality.specs.After.{moved, Ordered, ordered}

@@ -10,7 +10,7 @@ use Rattle.model.specs.Literal.{Literal, option}
 use Rattle.model.specs.Forest.{Conn, Forest, lit, node, _⊕_, size, first, after, literal-at, constant-at, literals-only, has-unit, mentions}
 use Rattle.model.specs.Code.{conn-kind}
 use Rattle.model.specs.Rules.{neutral, deciding, shares, groups, absorb, omit, unwrap, spread, lift, merge, factor, Family, absorbs, omits, unwraps, spreads, lifts, merges, factors, change, Row, row-of, turn, rewrite}
-use Rattle.theory.specs.Logic.{none-some, and-split, and-join}
+use Rattle.theory_forms.specs.Logic.{none-some, and-split, and-join}
 use Rattle.locality.specs.Mentions.{both-ways}
 use Rattle.locality.specs.Alike.{Alike, alike-size, alike-covers, alike-first, alike-after, alike-literal, alike-constant, alike-literals, alike-unit, alike-groups, alike-shares, Conjunctions, neither, each, alike-conjunction}
 

@@ -10,9 +10,9 @@ use Rattle.model.specs.Base.{pick}
 use Rattle.model.specs.Literal.{Literal, option, same}
 use Rattle.model.specs.Forest.{Conn, and, or, root, Forest, nil, lit, node, _⊕_, has-unit, mentions}
 use Rattle.model.specs.Rules.{assigned, without-unit, shares, units, groups-without, groups}
-use Rattle.theory.specs.Logic.{true-false, and-split, or-split, or-left, or-right}
-use Rattle.theory.specs.Forests.{mentions-⊕, unit-mentions, assigned-lit}
-use Rattle.theory.specs.Changes.{Change, absorbed, omitted, unwrapped, spreaded, lifted, merged, factored}
+use Rattle.theory_forms.specs.Logic.{true-false, and-split, or-split, or-left, or-right}
+use Rattle.theory_forms.specs.Forests.{mentions-⊕, unit-mentions, assigned-lit}
+use Rattle.theory_rewriting.specs.Changes.{Change, absorbed, omitted, unwrapped, spreaded, lifted, merged, factored}
 
 -- Every option that the second forest mentions, the first does.
 abbrev pub Covers : Forest → Forest → Type 0

@@ -10,8 +10,8 @@ use lib.ListN.{length, drop}
 use Rattle.model.specs.Forest.{Forest, nil, node, _⊕_, first, after, literal-at, conjunction-at}
 use Rattle.model.specs.Code.{Node, encode, decode}
 use Rattle.model.specs.Rules.{omit, lift, merge, Family, absorbs, omits, unwraps, spreads, lifts, merges, factors, change}
-use Rattle.theory.specs.Logic.{either, some-inj, only-some, then-some}
-use Rattle.theory.specs.Forests.{first-after}
+use Rattle.theory_forms.specs.Logic.{either, some-inj, only-some, then-some}
+use Rattle.theory_forms.specs.Forests.{first-after}
 use Rattle.locality.specs.Zones.{Quiet, child-place, Holds, Twice, zone}
 use Rattle.locality.specs.ChildPlaces.{child-offset}
 use Rattle.locality.specs.Turned.{Turned, old-here}

@@ -8,14 +8,14 @@ use lib.ListN.{length, take, drop, take-append-drop, length-take}
 use Rattle.model.specs.Forest.{Conn, Forest, node, _⊕_, size, after}
 use Rattle.model.specs.Code.{Node, encode, decode, trees}
 use Rattle.model.specs.Rules.{Family, change, turn, rewrite, step}
-use Rattle.theory.specs.Logic.{some-inj, then-some, only-then}
-use Rattle.theory.specs.Forests.{size-⊕, after-⊕}
-use Rattle.theory.specs.Codes.{decode-encode, encode-decode, trees-after, trees-code, trees-drop}
-use Rattle.theory.specs.Changes.{Change}
-use Rattle.theory.specs.Inversion.{rewritten}
-use Rattle.theory.specs.Bounds.{step-within}
-use Rattle.theory.specs.FineKept.{change-size}
-use Rattle.theory.specs.Turns.{family-at, family-of}
+use Rattle.theory_forms.specs.Logic.{some-inj, then-some, only-then}
+use Rattle.theory_forms.specs.Forests.{size-⊕, after-⊕}
+use Rattle.theory_forms.specs.Codes.{decode-encode, encode-decode, trees-after, trees-code, trees-drop}
+use Rattle.theory_rewriting.specs.Changes.{Change}
+use Rattle.theory_rewriting.specs.Inversion.{rewritten}
+use Rattle.theory_rewriting.specs.Bounds.{step-within}
+use Rattle.theory_rewriting.specs.FineKept.{change-size}
+use Rattle.theory_rewriting.specs.Turns.{family-at, family-of}
 use Rattle.locality.specs.ChildPlaces.{Rest, rest-of}
 
 pub record Turned (x : Family) (p i j : ℕ) (ns ms : List Node) : Type 0 where

@@ -16,8 +16,8 @@ use Rattle.model.specs.Sheet.{is-sheet, options-in, clauses-in, report-in}
 use Rattle.calls.specs.Outcomes.{accepted, answer}
 use Rattle.calls.specs.Chains.{complete-refusal}
 use Rattle.calls.specs.Calls.{completeOf}
-use Rattle.theory.specs.Logic.{true-false, and-split, and-join, or-split, or-left, or-right, fails-if}
-use Rattle.theory.specs.ExactReports.{report-tells}
+use Rattle.theory_forms.specs.Logic.{true-false, and-split, and-join, or-split, or-left, or-right, fails-if}
+use Rattle.theory_meaning.specs.ExactReports.{report-tells}
 
 -- No contradiction, and every option is derived in or out.
 pub record Complete (n : ℕ) (cs : List Clause) : Type 0 where

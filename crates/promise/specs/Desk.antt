@@ -16,7 +16,7 @@ use Rattle.calls.specs.Calls.{Ran, checkOf, loadOf, runOf, reportOf}
 use Rattle.calls.specs.History.{Call, run, State, after-call, after-calls, loaded, account-calls}
 use Rattle.calls.specs.Desk.{lines, keyed, go-on, all-keyed, decimal, line, printed, refused-word}
 use Rattle.calls.specs.Desk.{first-line, option-lines, desk-budget, deskOf}
-use Rattle.theory.specs.Logic.{none-due}
+use Rattle.theory_forms.specs.Logic.{none-due}
 use Rattle.call_laws.specs.Accepted.{accepted-due}
 use Rattle.call_laws.specs.Effects.{run-outcome, after-append, kept-book}
 use Rattle.call_laws.specs.Keyed.{keyed-calls, keyed-append}

@@ -17,12 +17,12 @@ use Rattle.calls.specs.Outcomes.{accepted}
 use Rattle.calls.specs.Calls.{checkOf, loadOf, reportOf}
 use Rattle.calls.specs.History.{Call, State, after-calls, Account, loaded, account-calls, choice-clauses, meaning}
 use Rattle.calls.specs.History.{is-stretch, steps-of, ends-settled}
-use Rattle.theory.specs.Steps.{steps-bound}
+use Rattle.theory_rewriting.specs.Steps.{steps-bound}
 use Rattle.call_laws.specs.Valuations.{same-of, same-report, same-contradictory, same-derived}
-use Rattle.theory.specs.Loading.{Accepted, loaded-sheet, loaded-meaning}
+use Rattle.theory_formats.specs.Loading.{Accepted, loaded-sheet, loaded-meaning}
 use Rattle.call_laws.specs.Books.{accepted-book}
 use Rattle.call_laws.specs.LoadingAndWriting.{load-accepted}
-use Rattle.theory.specs.Sheets.{sheet-shaped, options-made}
+use Rattle.theory_forms.specs.Sheets.{sheet-shaped, options-made}
 use Rattle.call_laws.specs.Effects.{Keeps, calls-effect}
 use Rattle.call_laws.specs.SettledLists.{ends-no-rule, sheet-normal}
 use Rattle.promise.specs.Refusals.{check-none}

@@ -13,7 +13,7 @@ use Rattle.calls.specs.Refusals.{option-refused, full-refused, rule-refused, st
 use Rattle.calls.specs.Outcomes.{refused, accepted, answer, Outcome, outcome}
 use Rattle.calls.specs.Chains.{book-refusal}
 use Rattle.calls.specs.Calls.{checkOf, loadOf, writeOf, reportOf, chooseOf, stepOf, runOf}
-use Rattle.theory.specs.Loading.{Accepted}
+use Rattle.theory_formats.specs.Loading.{Accepted}
 use Rattle.call_laws.specs.Books.{accepted-book, book-accepted}
 
 -- "A result or one refusal numbered 1 to 12."

@@ -15,7 +15,7 @@ use Rattle.model.specs.Sheet.{is-sheet, options-in, clauses-in, report-in}
 use Rattle.calls.specs.Outcomes.{accepted, Outcome, outcome}
 use Rattle.calls.specs.Chains.{report-refusal}
 use Rattle.calls.specs.Calls.{reportOf}
-use Rattle.theory.specs.ExactReports.{report-tells}
+use Rattle.theory_meaning.specs.ExactReports.{report-tells}
 
 -- The outcome of an accepted report that gives these bytes and this result.
 abbrev pub reported : Report → Outcome (List ℕ) Bool

@@ -12,8 +12,8 @@ use Rattle.calls.specs.Outcomes.{accepted}
 use Rattle.calls.specs.Calls.{checkOf, loadOf, writeOf}
 use Rattle.call_laws.specs.Books.{accepted-book, book-accepted}
 use Rattle.call_laws.specs.LoadingAndWriting as round
-use Rattle.theory.specs.Writing.{written-accepted, written-loads}
-use Rattle.theory.specs.Sheets.{sheet-formed}
+use Rattle.theory_formats.specs.Writing.{written-accepted, written-loads}
+use Rattle.theory_forms.specs.Sheets.{sheet-formed}
 use Rattle.promise.specs.Refusals.{check-none}
 
 -- "A book loaded and written is the same bytes": the writer gives the book's bytes and its length, and bytes beyond stay. (A slice

@@ -13,10 +13,10 @@ use Rattle.calls.specs.Refusals.{Refusal}
 use Rattle.calls.specs.Outcomes.{outcome}
 use Rattle.calls.specs.Chains.{step-refusal, run-refusal}
 use Rattle.calls.specs.Calls.{stepOf, runOf}
-use Rattle.theory.specs.Logic.{is-some-of}
-use Rattle.theory.specs.Steps.{done, more}
-use Rattle.theory.specs.Runs.{run-steps}
-use Rattle.theory.specs.Reached.{strategy-steps}
+use Rattle.theory_forms.specs.Logic.{is-some-of}
+use Rattle.theory_rewriting.specs.Steps.{done, more}
+use Rattle.theory_rewriting.specs.Runs.{run-steps}
+use Rattle.theory_rewriting.specs.Reached.{strategy-steps}
 use Rattle.call_laws.specs.Accepted.{step-accepted, run-accepted}
 use Rattle.call_laws.specs.Effects.{steps-lighter}
 

@@ -9,7 +9,7 @@ use lib.Dec.{ltb}
 use lib.ListN.{length, getD, set}
 use lib.Seq.{getD-set-same, getD-set-other}
 use Rattle.model.specs.Code.{Node}
-use Rattle.theory.specs.Logic.{either}
+use Rattle.theory_forms.specs.Logic.{either}
 use Rattle.run_bounds_after.specs.SetBack.{Constant-free, Set-back}
 
 -- Bounds set back up to a place: none at first, then one place more, which has stayed or gone back to 1.

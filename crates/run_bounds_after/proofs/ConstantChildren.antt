@@ -13,18 +13,18 @@ use Rattle.model.specs.Limits.{sheet-room}
 use Rattle.model.specs.Forest.{Conn, and, or, root, Forest, nil, lit, node, size, after, kids, constant-at}
 use Rattle.model.specs.Code.{Node, encode, decode, number, conn-kind}
 use Rattle.model.specs.Sheet.{used-in, nodes-in}
-use Rattle.theory.specs.Logic.{either}
-use Rattle.theory.specs.Forests.{past-end}
-use Rattle.theory.specs.Rooted.{no-root, no-root-node, Rooted, below-root}
-use Rattle.theory.specs.Shape.{shaped-rooted}
-use Rattle.theory.specs.Sheets.{Formed}
-use Rattle.theory.specs.Spans.{arity, arity-none, arity-leaf, arity-head, span, child-at}
-use Rattle.theory.specs.Flat.{spell, Fits, fits-lit, fits-tree}
-use Rattle.theory.specs.Children.{Group, first-left, child-constant, child-room}
-use Rattle.sizes.specs.TreeHops.{inner-at}
-use Rattle.search.proofs.LentStretch.{sheet-spelled}
+use Rattle.theory_forms.specs.Logic.{either}
+use Rattle.theory_forms.specs.Forests.{past-end}
+use Rattle.theory_forms.specs.Rooted.{no-root, no-root-node, Rooted, below-root}
+use Rattle.theory_forms.specs.Shape.{shaped-rooted}
+use Rattle.theory_forms.specs.Sheets.{Formed}
+use Rattle.theory_reading.specs.Spans.{arity, arity-none, arity-leaf, arity-head, span, child-at}
+use Rattle.theory_reading.specs.Flat.{spell, Fits, fits-lit, fits-tree}
+use Rattle.theory_rewriting.specs.Children.{Group, first-left, child-constant, child-room}
+use Rattle.search_sizes.specs.TreeHops.{inner-at}
+use Rattle.search_place.proofs.LentStretch.{sheet-spelled}
 use Rattle.run_bounds_after.specs.SetBack.{Constant-free}
-use Rattle.run_bounds_after.proofs.ChildPlaces.{group-of}
+use Rattle.run_bounds_after.proofs.ZoneChildren.{group-of}
 
 -- The root stands at the head of a sheet alone, so that no child of a node is an empty root.
 kids-no-root : (f : Forest) → no-root f ≡ true → no-root (kids f) ≡ true

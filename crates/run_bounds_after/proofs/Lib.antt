@@ -1,4 +1,4 @@
-pub mod ChildPlaces
+pub mod ZoneChildren
 pub mod SheetZones
 pub mod RenewedEntries
 pub mod ConstantChildren

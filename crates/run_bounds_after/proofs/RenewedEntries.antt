@@ -10,7 +10,7 @@ use lib.Dec.{eqb}
 use lib.ListN.{length, getD, take, drop, set, replicate, length-drop, length-set, take-append-drop, List·getD-append}
 use lib.Seq.{getD-set-same, getD-set-other, getD-take, getD-drop, getD-append-add, length-take-le}
 use Rattle.model.specs.Limits.{sheet-room}
-use Rattle.theory.specs.Logic.{either}
+use Rattle.theory_forms.specs.Logic.{either}
 use Rattle.run_bounds_after.specs.Renewed.{Planned, Apart, Renewed}
 use Rattle.run_bounds_after.specs.declared.Plan.{Plan}
 

@@ -12,25 +12,25 @@ use Rattle.model.specs.Forest.{and, Forest, node, lit, size, after, kids, _⊕_
 use Rattle.model.specs.Code.{Node, decode, trees, weight}
 use Rattle.model.specs.Rules.{Family, absorbs, omits, unwraps, spreads, lifts, change, lift, step}
 use Rattle.model.specs.Sheet.{used-in, nodes-in}
-use Rattle.theory.specs.Logic.{is-some-of, then-some}
-use Rattle.theory.specs.Forests.{conjunction-here, literal-here, size-after}
-use Rattle.theory.specs.Codes.{size-length, decode-encode}
-use Rattle.theory.specs.Shape.{shaped-trees}
-use Rattle.theory.specs.Sheets.{Formed}
-use Rattle.theory.specs.Steps.{done, more, steps-weight}
-use Rattle.theory.specs.Bounds.{step-within, step-child}
-use Rattle.theory.specs.Turns.{family-at}
+use Rattle.theory_forms.specs.Logic.{is-some-of, then-some}
+use Rattle.theory_forms.specs.Forests.{conjunction-here, literal-here, size-after}
+use Rattle.theory_forms.specs.Codes.{size-length, decode-encode}
+use Rattle.theory_forms.specs.Shape.{shaped-trees}
+use Rattle.theory_forms.specs.Sheets.{Formed}
+use Rattle.theory_rewriting.specs.Steps.{done, more, steps-weight}
+use Rattle.theory_rewriting.specs.Bounds.{step-within, step-child}
+use Rattle.theory_rewriting.specs.Turns.{family-at}
 use Rattle.locality.specs.Zones.{between, zone, tree-length, tree-end, child-place}
 use Rattle.locality.specs.ChildPlaces.{read-here, length-here, child-here}
 use Rattle.locality.specs.Turned.{Turned, turned, old-here}
 use Rattle.locality.specs.Locality.{step-extent, step-after}
-use Rattle.theory.specs.Turns.{family-1, family-4, family-7, family-9, family-11}
-use Rattle.sizes.specs.SizeTables.{Sizes-from}
-use Rattle.search.specs.declared.Redex.{Redex}
-use Rattle.search.specs.Redexes.{Applies}
+use Rattle.theory_rewriting.specs.Turns.{family-1, family-4, family-7, family-9, family-11}
+use Rattle.search_sizes.specs.SizeTables.{Sizes-from}
+use Rattle.search_place.specs.declared.Redex.{Redex}
+use Rattle.search_place.specs.Redexes.{Applies}
 use Rattle.run_bounds_after.specs.declared.Zone.{Zone}
 use Rattle.run_bounds_after.specs.Zoned.{after-step, own-zone, Zoned}
-use Rattle.run_bounds_after.proofs.ChildPlaces.{size-here}
+use Rattle.run_bounds_after.proofs.ZoneChildren.{size-here}
 
 lit-size : (l : Literal) (f : Forest) → 1 ≤ size (lit l f)
 unfolding size

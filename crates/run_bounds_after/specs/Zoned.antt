@@ -7,9 +7,9 @@ use Rattle.model.specs.Base.{maybe}
 use Rattle.model.specs.Limits.{sheet-room}
 use Rattle.model.specs.Code.{Node}
 use Rattle.model.specs.Rules.{step}
-use Rattle.theory.specs.Turns.{family-at}
+use Rattle.theory_rewriting.specs.Turns.{family-at}
 use Rattle.locality.specs.Zones as L
-use Rattle.search.specs.declared.Redex.{Redex}
+use Rattle.search_place.specs.declared.Redex.{Redex}
 use Rattle.run_bounds_after.specs.declared.Zone.{Zone}
 
 -- The nodes after a step, where it applies.

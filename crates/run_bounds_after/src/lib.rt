@@ -9,15 +9,15 @@ ghost use Rattle.model.specs.Limits.{«sheet-room»};
 ghost use Rattle.model.specs.Forest.{size, kids};
 ghost use Rattle.model.specs.Code.{decode};
 ghost use Rattle.model.specs.Sheet.{«used-in», «nodes-in»};
-ghost use Rattle.theory.specs.Sheets.{Formed};
+ghost use Rattle.theory_forms.specs.Sheets.{Formed};
 ghost use Rattle.locality.specs.Zones.{«child-place»};
-ghost use Rattle.sizes.specs.SizeTables.{Measured};
-ghost use Rattle.search.specs.Redexes.{Applies};
+ghost use Rattle.search_sizes.specs.SizeTables.{Measured};
+ghost use Rattle.search_place.specs.Redexes.{Applies};
 ghost use Rattle.run_bounds_after.specs.Zoned.{Zoned};
 ghost use Rattle.run_bounds_after.specs.Renewed.{Planned, «close-up», Renewed};
 ghost use Rattle.run_bounds_after.specs.SetBack.{«Constant-free», «Set-back»};
-use limits::SHEET_ROOM;
-use search::Redex;
+use common_limits::SHEET_ROOM;
+use search_place::Redex;
 
 // The places that a step may change: from one place on, up to `old` before the step and up to `new` after it.
 pub struct Zone {
@@ -42,7 +42,7 @@ fn child_place(sheet: &[u16], place: usize, i: usize) -> usize
         × (r < «sheet-room») ⌝ }
 {
     let from = 2 + place;
-    place + spans::child_at(&sheet[from..], i)
+    place + common_nodes::child_at(&sheet[from..], i)
 }
 
 // The zone of rules 11 and 12: from child i on, up to the literal that is lifted.
@@ -96,7 +96,7 @@ pub fn zone_of(sheet: &[u16], sizes: &[u16], redex: Redex) -> Zone
 {
     let rule = redex.rule;
     let place = redex.place;
-    let end = place + numbers::wide16(sizes[place]);
+    let end = place + common_nodes::wide16(sizes[place]);
     match rule {
         1..=3 => Zone {
             from: place,
@@ -134,7 +134,7 @@ fn close_up(low: &mut [u16], new: usize, old: usize)
     ensures { λ r. ⌜ now (low .exit) ≡ «close-up» new old (now (low .entry)) ⌝ }
 {
     if new < old {
-        shifts::remove(low, new, old - new);
+        sheet_shifts::remove(low, new, old - new);
     }
 }
 
@@ -161,7 +161,7 @@ fn has_constant(sheet: &[u16], sizes: &[u16], place: usize) -> bool
     requires { ⌜ place < «used-in» (now sheet) ⌝ }
     ensures { λ r. ⌜ (r ≡ false → «Constant-free» place («nodes-in» (now (sheet .entry)))) ⌝ }
 {
-    let k = spans::arity_of(numbers::wide16(sheet[2 + place]));
+    let k = common_nodes::arity_of(common_nodes::wide16(sheet[2 + place]));
     let mut i = 0;
     let mut at = place + 1;
     while i < k {
@@ -169,7 +169,7 @@ fn has_constant(sheet: &[u16], sizes: &[u16], place: usize) -> bool
         if x == 12288 || x == 16384 {
             return true;
         }
-        at += numbers::wide16(sizes[at]);
+        at += common_nodes::wide16(sizes[at]);
         i += 1;
     }
     false

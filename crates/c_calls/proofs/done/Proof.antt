@@ -1,7 +1,7 @@
 -- `c_calls::done` meets its contract.
 use mathlib.Core.Path.{sym, ap, _∙_}
 use borrow.Author.Needs.{needs}
-use Rattle.answers.specs.AnswerMeaning.{doneOf}
+use Rattle.call_answers.specs.AnswerMeaning.{doneOf}
 use Rattle.c_calls.specs.Packed.{packedDone}
 use Rattle.c_calls.proofs.done.Statement.{statement}
 use Rattle.c_calls.proofs.done.Tie as tie

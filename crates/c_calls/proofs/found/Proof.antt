@@ -2,7 +2,7 @@
 use mathlib.Core.Path.{sym, ap, _∙_}
 use native.Mathlib.Omega.{arith}
 use borrow.Author.Needs.{needs}
-use Rattle.answers.specs.AnswerMeaning.{foundOf}
+use Rattle.call_answers.specs.AnswerMeaning.{foundOf}
 use Rattle.c_calls.specs.Packed.{packedValue}
 use Rattle.c_calls.proofs.found.Statement.{statement}
 use Rattle.c_calls.proofs.found.Tie as tie

@@ -2,7 +2,7 @@
 use mathlib.Core.Path.{sym}
 use borrow.Author.Needs.{needs}
 use lib.Seq.{length-take-le}
-use Rattle.sessions.proofs.PrintedAnswers.{session-within}
+use Rattle.desk_session.proofs.PrintedAnswers.{session-within}
 use Rattle.desk.proofs.main.Statement.{statement}
 use Rattle.desk.proofs.main.Tie as tie
 

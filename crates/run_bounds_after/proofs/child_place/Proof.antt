@@ -4,9 +4,9 @@ use Prim.Native.Nat.{_+_}
 use native.Mathlib.Omega.{arith}
 use borrow.Author.Needs.{needs}
 use lib.ListN.{drop}
-use Rattle.lists.proofs.Lent.{lent-part}
-use Rattle.theory.specs.Spans.{child-at}
-use Rattle.run_bounds_after.proofs.ChildPlaces.{Here, here}
+use Rattle.common_lists.proofs.Lent.{lent-part}
+use Rattle.theory_reading.specs.Spans.{child-at}
+use Rattle.run_bounds_after.proofs.ZoneChildren.{Here, here}
 use Rattle.run_bounds_after.proofs.child_place.Statement.{statement}
 use Rattle.run_bounds_after.proofs.child_place.Tie as tie
 

@@ -6,11 +6,11 @@ use borrow.Author.Needs.{needs}
 use borrow.Author.Tests.{eqb-false}
 use lib.ListN.{length, getD, drop, length-drop}
 use Rattle.model.specs.Limits.{sheet-room, sheet-length}
-use Rattle.theory.specs.Logic.{true-false}
-use Rattle.theory.specs.Spans.{arity}
-use Rattle.theory.specs.Places.{lend}
-use Rattle.sizes.specs.TreeHops.{Passed, passed-first, hop-within, passed-more}
-use Rattle.sizes.proofs.SizeEntries.{sheet-sizes}
+use Rattle.theory_forms.specs.Logic.{true-false}
+use Rattle.theory_reading.specs.Spans.{arity}
+use Rattle.theory_rewriting.specs.SheetPlaces.{lend}
+use Rattle.search_sizes.specs.TreeHops.{Passed, passed-first, hop-within, passed-more}
+use Rattle.search_sizes.proofs.SizeEntries.{sheet-sizes}
 use Rattle.run_bounds_after.proofs.ConstantChildren.{Plain-child, passed-all, child-inside, plain-child}
 use Rattle.run_bounds_after.proofs.has_constant.Statement.{statement}
 use Rattle.run_bounds_after.proofs.has_constant.Tie as tie

@@ -1,7 +1,0 @@
-pub mod Quiets
-pub mod Following
-pub mod Bounding
-pub mod Arities
-pub mod Sizing
-pub mod Stepping
-pub mod Moving

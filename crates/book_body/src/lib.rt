@@ -1,0 +1,89 @@
+// The contents and the bodies of a book.
+ghost use mathlib.Core.Path.{_≡_};
+ghost use mathlib.Core.Bool.{true};
+ghost use mathlib.Core.List.{map};
+ghost use Prim.Native.Nat.{_*_, _≤_};
+ghost use lib.ListN.{length};
+ghost use Rattle.model.specs.Base.{all};
+ghost use Rattle.model.specs.Limits.{«most-rules», «most-nodes»};
+ghost use Rattle.model.specs.Code.{literals, «node-of»};
+ghost use Rattle.model.specs.Book.{words, entries, «in-line», cut, «body-ok»};
+use common_nodes::Trees;
+
+// The entries of the contents are in line, and their counts add up to the total.
+pub fn are_in_line(s: &[u8], m: usize, total: usize) -> bool
+    requires { ⌜ (m ≤ «most-rules») × (4 * m ≤ length (now s)) ⌝ }
+    ensures { λ r. ⌜ r ≡ «in-line» total 0 (entries m (now (s .entry))) ⌝ }
+{
+    let mut sum = 0;
+    let mut i = 0;
+    while i < m {
+        let at = 4 * i;
+        let first = common_nodes::word_at(s, at);
+        let count = common_nodes::word_at(s, at + 2);
+        if first != sum {
+            return false;
+        }
+        if count < 1 {
+            return false;
+        }
+        sum += count;
+        i += 1;
+    }
+    sum == total
+}
+
+// A body of so many nodes is one tree of nodes for n options.
+fn is_body(s: &[u8], count: usize, n: usize) -> bool
+    requires { ⌜ (count ≤ «most-nodes») × (2 * count ≤ length (now s)) ⌝ }
+    ensures { λ r. ⌜ r ≡ «body-ok» n (words count (now (s .entry))) ⌝ }
+{
+    let mut trees = Trees::Count(0);
+    let mut i = count;
+    while 0 < i {
+        i -= 1;
+        trees = common_nodes::join(common_nodes::word_at(s, 2 * i), n, trees);
+    }
+    if let Trees::Count(t) = trees {
+        t == 1
+    } else {
+        false
+    }
+}
+
+// Every body is one tree. The contents are in line, so that the bodies lie within the nodes.
+pub fn are_bodies(contents: &[u8], m: usize, s: &[u8], total: usize, n: usize) -> bool
+    requires { ⌜ (m ≤ «most-rules») × (total ≤ «most-nodes») ⌝ }
+    requires { ⌜ (4 * m ≤ length (now contents)) × (2 * total ≤ length (now s)) ⌝ }
+    requires { ⌜ «in-line» total 0 (entries m (now contents)) ≡ true ⌝ }
+    ensures { λ r. ⌜ r ≡ all («body-ok» n) (cut (entries m (now (contents .entry))) (words total (now (s .entry)))) ⌝ }
+{
+    let mut sum = 0;
+    let mut i = 0;
+    while i < m {
+        let count = common_nodes::word_at(contents, 4 * i + 2);
+        let from = 2 * sum;
+        if !is_body(&s[from..], count, n) {
+            return false;
+        }
+        sum += count;
+        i += 1;
+    }
+    true
+}
+
+// The literals among so many nodes.
+pub fn count_literals(s: &[u8], total: usize) -> usize
+    requires { ⌜ (total ≤ «most-nodes») × (2 * total ≤ length (now s)) ⌝ }
+    ensures { λ r. ⌜ r ≡ literals (map «node-of» (words total (now (s .entry)))) ⌝ }
+{
+    let mut sum = 0;
+    let mut i = 0;
+    while i < total {
+        if common_nodes::is_literal(common_nodes::word_at(s, 2 * i)) {
+            sum += 1;
+        }
+        i += 1;
+    }
+    sum
+}

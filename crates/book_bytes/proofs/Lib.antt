@@ -1,0 +1,3 @@
+pub mod NumberBytes
+pub mod TreeContents
+pub mod ReadNumbers

@@ -1,0 +1,64 @@
+-- An outcome told apart, and the bounds by which each value fits beside the refusal.
+use mathlib.Core.Bool.{true}
+use mathlib.Core.List.{List}
+use mathlib.Core.Option.{none}
+use mathlib.Core.Path.{_≡_, ap, _∙_}
+use Prim.Native.Nat.{ℕ, _*_, _≤_, _<_}
+use native.Mathlib.Nat.{mul-le-mul-right}
+use native.Mathlib.Omega.{arith}
+use lib.ListN.{length}
+use Rattle.model.specs.Code.{weight}
+use Rattle.model.specs.Sheet.{options-in, used-in, nodes-in, is-sheet}
+use Rattle.model.specs.Book.{options-of, written}
+use Rattle.calls.specs.Outcomes.{Answer, accepted, Outcome}
+use Rattle.calls.specs.Chains.{book-refusal}
+use Rattle.calls.specs.Calls.{writeOf, Ran, runOf}
+use Rattle.model.specs.Strategy.{cube}
+use Rattle.theory_forms.specs.Sheets.{sheet-weight, sheet-formed}
+use Rattle.theory_rewriting.specs.Measure.{bulk}
+use Rattle.theory_rewriting.specs.Reached.{run-bounded}
+use Rattle.call_laws.specs.Books.{accepted-book}
+use Rattle.call_laws.specs.Accepted.{accepted-due, write-accepted, run-accepted}
+use Rattle.call_answers.specs.AnswerMeaning.{afterCall}
+use Rattle.book_write.proofs.Written.{sizes-of, length-written}
+use Rattle.c_calls.specs.Packed.{Fits}
+
+-- The number of an answer, and the buffer after it.
+pub told :
+    {A : Type 0} (pack : Answer A → ℕ) {a : Answer A} {l : List ℕ} {o : Outcome (List ℕ) A} {r : ℕ} →
+    r ≡ pack a →
+    afterCall a l ≡ o →
+    (r ≡ pack (o .answer)) × (l ≡ o .lent)
+told pack p e = (p ∙ ap (λ x. pack (x .answer)) e, ap (λ x. x .lent) e)
+
+written-small :
+    (s b : List ℕ) →
+    is-sheet s ≡ true →
+    book-refusal b ≡ none →
+    options-of b ≡ options-in s →
+    length (written s b) < 72057594037927936
+unfolding options-in used-in
+written-small s b sheet book same =
+    omega (arith, length-written s b (sheet-formed s sheet) (accepted-book b book) same, sizes-of s (sheet-formed s sheet))
+
+pub write-fits : (s b out : List ℕ) → Fits (writeOf s b out .answer)
+unfolding writeOf
+write-fits s b out v e =
+    let a = accepted-due _ (length (written s b)) v _ _ e in
+    let w = write-accepted s b out (a .0) in
+    rw (a .1) (written-small s b (w .sheet) (w .book) (w .same))
+
+-- The cube of a sheet's nodes and twice its literals, for its weight of at most 4,096.
+cube-small : (x : ℕ) → x ≤ 12288 → cube x ≤ 1855425871872
+cube-small x h =
+    let once : x * x ≤ 12288 * x = mul-le-mul-right x h in
+    let twice : x * x * x ≤ 12288 * x * x = mul-le-mul-right x once in
+    omega arith
+
+pub run-fits : (s : List ℕ) (b : ℕ) (v : Ran) → accepted v ≡ runOf s b .answer → v .count ≤ 1855425871872
+unfolding runOf weight
+run-fits s b v e =
+    let a = accepted-due _ _ v _ _ e in
+    let sheet = run-accepted s (a .0) in
+    let few = run-bounded s b (sheet-formed s sheet) in
+    omega (arith, ap (λ r. r .count) (a .1), cube-small (bulk 2 (nodes-in s)) (omega (arith, sheet-weight s sheet)))

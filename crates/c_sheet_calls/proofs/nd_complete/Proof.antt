@@ -1,0 +1,37 @@
+-- `c_sheet_calls::nd_complete` meets its contract: the answer as one number.
+use mathlib.Core.Path.{sym, ap, _∙_}
+use borrow.Author.Needs.{needs}
+use Rattle.model.specs.Base.{pick}
+use Rattle.call_report.specs.ReportMeaning.{completedOf}
+use Rattle.c_sheet_calls.specs.PackedValues.{packedBool}
+use Rattle.c_sheet_calls.proofs.nd_complete.Statement.{statement}
+use Rattle.c_sheet_calls.proofs.nd_complete.Tie as tie
+
+enum-told : tie.Need-enum-told
+enum-told c = search needs
+
+returns : tie.Need-returns
+unfolding pick
+returns c = ap packedBool (ap completedOf (sym (c .enum-told .given .1)) ∙ c .before .before .complete .ensures)
+
+returns-2 : tie.Need-returns-2
+unfolding pick
+returns-2 c = ap packedBool (ap completedOf (sym (c .enum-told2 .given .1)) ∙ c .before .before .complete .ensures)
+
+returns-3 : tie.Need-returns-3
+returns-3 c =
+    c .refused .ensures
+    ∙ ap packedBool (ap completedOf (sym (c .before .before .answer .given .1)) ∙ c .before .before .before .before .complete .ensures)
+
+pub nd-complete-spec : {M : Type 1} → statement M
+nd-complete-spec =
+    tie.close
+    (tie.spec
+    (λ c κs. search needs)
+    enum-told
+    (λ c. search needs)
+    (λ c. search needs)
+    (λ c κs. search needs)
+    returns
+    returns-2
+    returns-3)

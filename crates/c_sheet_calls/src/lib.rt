@@ -1,0 +1,91 @@
+// Every call on sheets, for C (include/nibdrumlin_sheets.h). Each answers one number, as the calls of `c_calls` do: the low 8 bits are
+// the refusal (0: accepted), the rest is the value.
+ghost use mathlib.Core.Path.{_≡_};
+ghost use Rattle.calls.specs.Calls.{loadOf, writeOf, reportOf, completeOf, chooseOf, stepOf, runOf};
+ghost use Rattle.c_calls.specs.Packed.{packedDone, packedValue};
+ghost use Rattle.c_sheet_calls.specs.PackedValues.{packedBool, packedRan};
+use call_report::Completed;
+use call_report::Reported;
+use call_run::Ran;
+
+// A value begins above the refusal's 8 bits. Of a run's value the lowest bit says whether it is settled, and the count stands above it.
+const VALUE: u64 = 256;
+
+const COUNT: u64 = 2 * VALUE;
+
+// The loader.
+#[no_mangle]
+pub extern "C" fn nd_load(book: &[u8], sheet: &mut [u16]) -> u64
+    ensures { λ r. ⌜ r ≡ packedDone (loadOf (now (book .entry)) (now (sheet .entry)) .answer) ⌝ }
+    ensures { λ r. ⌜ now (sheet .exit) ≡ loadOf (now (book .entry)) (now (sheet .entry)) .lent ⌝ }
+{
+    c_calls::done(call_transfer::load(book, sheet))
+}
+
+// The writer; the value is the length.
+#[no_mangle]
+pub extern "C" fn nd_write(sheet: &[u16], book: &[u8], out: &mut [u8]) -> u64
+    ensures { λ r. ⌜ r ≡ packedValue (writeOf (now (sheet .entry)) (now (book .entry)) (now (out .entry)) .answer) ⌝ }
+    ensures { λ r. ⌜ now (out .exit) ≡ writeOf (now (sheet .entry)) (now (book .entry)) (now (out .entry)) .lent ⌝ }
+{
+    c_calls::found(call_transfer::write(sheet, book, out))
+}
+
+// The report; the value is 1 where the sheet is contradictory.
+#[no_mangle]
+pub extern "C" fn nd_report(sheet: &[u16], out: &mut [u8]) -> u64
+    ensures { λ r. ⌜ r ≡ packedBool (reportOf (now (sheet .entry)) (now (out .entry)) .answer) ⌝ }
+    ensures { λ r. ⌜ now (out .exit) ≡ reportOf (now (sheet .entry)) (now (out .entry)) .lent ⌝ }
+{
+    let answer = call_report::report(sheet, out);
+    match answer {
+        Reported::Consistent => 0,
+        Reported::Contradictory => VALUE,
+        Reported::Refused(r) => c_calls::refused(r),
+    }
+}
+
+// The "complete" question; the value is 1 where the sheet is complete.
+#[no_mangle]
+pub extern "C" fn nd_complete(sheet: &[u16]) -> u64
+    ensures { λ r. ⌜ r ≡ packedBool (completeOf (now (sheet .entry))) ⌝ }
+{
+    let answer = call_report::complete(sheet);
+    match answer {
+        Completed::Complete => VALUE,
+        Completed::Incomplete => 0,
+        Completed::Refused(r) => c_calls::refused(r),
+    }
+}
+
+// The choice of an option, taken or barred.
+#[no_mangle]
+pub extern "C" fn nd_choose(sheet: &mut [u16], option: u16, negative: bool) -> u64
+    ensures { λ r. ⌜ r ≡ packedDone (chooseOf (now (sheet .entry)) option negative .answer) ⌝ }
+    ensures { λ r. ⌜ now (sheet .exit) ≡ chooseOf (now (sheet .entry)) option negative .lent ⌝ }
+{
+    c_calls::done(call_choice::choose(sheet, option, negative))
+}
+
+// A single step.
+#[no_mangle]
+pub extern "C" fn nd_step(sheet: &mut [u16], rule: u64, place: u64, i: u64, j: u64) -> u64
+    ensures { λ r. ⌜ r ≡ packedDone (stepOf (now (sheet .entry)) rule place i j .answer) ⌝ }
+    ensures { λ r. ⌜ now (sheet .exit) ≡ stepOf (now (sheet .entry)) rule place i j .lent ⌝ }
+{
+    c_calls::done(call_step::step(sheet, rule, place, i, j))
+}
+
+// A run; the value is twice the count, plus 1 where it is settled.
+#[no_mangle]
+pub extern "C" fn nd_run(sheet: &mut [u16], budget: u64) -> u64
+    ensures { λ r. ⌜ r ≡ packedRan (runOf (now (sheet .entry)) budget .answer) ⌝ }
+    ensures { λ r. ⌜ now (sheet .exit) ≡ runOf (now (sheet .entry)) budget .lent ⌝ }
+{
+    let answer = call_run::run(sheet, budget);
+    match answer {
+        Ran::Settled(n) => COUNT * n + VALUE,
+        Ran::Stopped(n) => COUNT * n,
+        Ran::Refused(r) => c_calls::refused(r),
+    }
+}

@@ -1,0 +1,42 @@
+-- What each case of an answer is in the definitions: its refusal, by document 01's number, and its values.
+use mathlib.Core.Option.{Option, none, some}
+use Prim.Native.Nat.{ℕ}
+use Rattle.calls.specs.Refusals as M
+use Rattle.calls.specs.Outcomes.{Answer, refused, accepted, Outcome}
+use Rattle.call_answers.specs.declared.Refusal as R
+use Rattle.call_answers.specs.declared.Refusal.the-variants as V₁
+use Rattle.call_answers.specs.declared.Done as D
+use Rattle.call_answers.specs.declared.Done.the-variants as V₂
+use Rattle.call_answers.specs.declared.Found as F
+use Rattle.call_answers.specs.declared.Found.the-variants as V₃
+
+abbrev pub refusalOf : R.Refusal → M.Refusal
+refusalOf V₁.Length = M.length-refused
+refusalOf V₁.Head = M.head-refused
+refusalOf V₁.Code = M.code-refused
+refusalOf V₁.Contents = M.contents-refused
+refusalOf V₁.Body = M.body-refused
+refusalOf V₁.Weight = M.weight-refused
+refusalOf V₁.Unknown = M.option-refused
+refusalOf V₁.Full = M.full-refused
+refusalOf V₁.Rule = M.rule-refused
+refusalOf V₁.Step = M.step-refused
+refusalOf V₁.Sheet = M.sheet-refused
+refusalOf V₁.Output = M.output-refused
+
+-- The refusal that is due, if any.
+abbrev pub dueOf : D.Done → Option M.Refusal
+dueOf V₂.Accepted = none
+dueOf (V₂.Refused r) = some (refusalOf r)
+
+abbrev pub doneOf : D.Done → Answer (Unit {0})
+doneOf V₂.Accepted = accepted tt
+doneOf (V₂.Refused r) = refused (refusalOf r)
+
+abbrev pub foundOf : F.Found → Answer ℕ
+foundOf (V₃.Value v) = accepted v
+foundOf (V₃.Refused r) = refused (refusalOf r)
+
+-- An answer, with what the call leaves in all that it may write.
+abbrev pub afterCall : {L A : Type 0} → Answer A → L → Outcome L A
+afterCall a l = record { answer = a; lent = l }

@@ -1,0 +1,51 @@
+// The report, and the "complete" question.
+ghost use mathlib.Core.Path.{_≡_};
+ghost use Rattle.calls.specs.Calls.{reportOf, completeOf};
+ghost use Rattle.call_answers.specs.AnswerMeaning.{afterCall};
+ghost use Rattle.call_report.specs.ReportMeaning.{reportedOf, completedOf};
+use call_answers::Refusal;
+
+// What a report says beside its bytes.
+pub enum Reported {
+    Consistent,
+    Contradictory,
+    Refused(Refusal),
+}
+
+// What the "complete" question answers.
+pub enum Completed {
+    Complete,
+    Incomplete,
+    Refused(Refusal),
+}
+
+// The report: a byte for each option.
+pub fn report(sheet: &[u16], out: &mut [u8]) -> Reported
+    ensures { λ r. ⌜ afterCall (reportedOf r) (now (out .exit)) ≡ reportOf (now (sheet .entry)) (now (out .entry)) ⌝ }
+{
+    if !sheet_check::is_sheet(sheet) {
+        return Reported::Refused(Refusal::Sheet);
+    }
+    if out.len() != common_nodes::wide16(sheet[0]) {
+        return Reported::Refused(Refusal::Output);
+    }
+    if report_marks::put_report(sheet, out) {
+        Reported::Contradictory
+    } else {
+        Reported::Consistent
+    }
+}
+
+// The "complete" question.
+pub fn complete(sheet: &[u16]) -> Completed
+    ensures { λ r. ⌜ completedOf r ≡ completeOf (now (sheet .entry)) ⌝ }
+{
+    if !sheet_check::is_sheet(sheet) {
+        return Completed::Refused(Refusal::Sheet);
+    }
+    if report_marks::is_complete(sheet) {
+        Completed::Complete
+    } else {
+        Completed::Incomplete
+    }
+}

@@ -1,0 +1,27 @@
+-- `common_nodes::arity_of` meets its contract: no child for a literal, and else as many as the node's number says.
+use mathlib.Core.Path.{sym, _∙_}
+use native.Mathlib.Omega.{arith}
+use borrow.Author.Needs.{needs}
+use Rattle.theory_reading.specs.Spans.{arity-literal, arity-inner, arity-small}
+use Rattle.common_nodes.proofs.arity_of.Statement.{statement}
+use Rattle.common_nodes.proofs.arity_of.Tie as tie
+
+is-literal-requires : tie.Need-is-literal-requires
+is-literal-requires c κs = search needs
+
+returns : tie.Need-returns
+returns c =
+    let literal = sym (c .before .is-literal .ensures) ∙ c .if1 .taken in
+    omega (arith, arity-literal (c .before .before .args .x) literal)
+
+children-of-requires : tie.Need-children-of-requires
+children-of-requires c κs = search needs
+
+returns-2 : tie.Need-returns-2
+returns-2 c =
+    let x = c .before .before .before .args .x in
+    let inner = sym (c .before .before .is-literal .ensures) ∙ c .before .if1 .left in
+    omega (arith, arity-inner x inner, arity-small x)
+
+pub arity-of-spec : {M : Type 1} → statement M
+arity-of-spec = tie.close (tie.spec is-literal-requires returns children-of-requires returns-2)

@@ -1,0 +1,113 @@
+-- `desk_session::put_lines` meets its contract: the first line, and the rest is lent for the lines of the options.
+use mathlib.Core.Bool.{false}
+use mathlib.Core.Path.{ap, _∙_}
+use Prim.Native.Nat.{_-_, _≤_}
+use native.Mathlib.Omega.{arith}
+use borrow.Author.Needs.{needs}
+use borrow.Rule.Slice.PartAt.{part-to-end}
+use borrow.Rule.Slice.PartMut.{midOf}
+use lib.ListN.{length, take, drop, length-drop}
+use Rattle.model.specs.Book.{codes-of, pieces}
+use Rattle.calls.specs.Calls.{Ran}
+use Rattle.calls.specs.Desk.{first-line, option-lines}
+use Rattle.desk_printing.specs.Placed.{filled}
+use Rattle.desk_printing.proofs.PlacedBytes.{placed-count, placed-within, placed-then}
+use Rattle.desk_session.proofs.PrintedAnswers.{few-options, codes-fit, codes-lent, short-first}
+use Rattle.desk_session.proofs.put_lines.Statement.{statement}
+use Rattle.desk_session.proofs.put_lines.Tie as tie
+
+-- The first line is short.
+first-here : (c : tie.After-put-first) → c .put-first .result ≤ 35
+first-here c =
+    let start = c .before .before .before .before .before in
+    let ran : Ran = record { settled = start .args .settled; count = start .args .count } in
+    omega (
+      arith,
+      placed-count (first-line false ran) (start .args .out .now) (c .put-first .ensures),
+      short-first false ran (start .fits .count .fits),
+    )
+
+sub-put-options : tie.Need-sub-put-options
+sub-put-options c =
+    let start = c .before .before .before .before .before .before .before in
+    omega (arith, codes-fit (start .args .book .now) (start .pre .0))
+
+part-put-options-start : tie.Need-part-put-options-start
+part-put-options-start c =
+    let start = c .before .before .before .before .before .before .before in
+    omega (arith, codes-fit (start .args .book .now) (start .pre .0))
+
+sub-put-options-2 : tie.Need-sub-put-options-2
+sub-put-options-2 c =
+    let call = c .before .before .before in
+    omega (arith, first-here call, call .put-first .kept .1 .1 .1 .0, call .before .before .before .before .before .pre)
+
+part-put-options-start-2 : tie.Need-part-put-options-start-2
+part-put-options-start-2 c =
+    let call = c .before .before .before in
+    omega (arith, first-here call, call .put-first .kept .1 .1 .1 .0, call .before .before .before .before .before .pre)
+
+put-options-requires : tie.Need-put-options-requires
+put-options-requires c κs =
+    let call = c .before .before .before .before in
+    let start = call .before .before .before .before .before in
+    let book = start .args .book .now in
+    let out = call .put-first .last .1 .1 .1 .0 in
+    let many = few-options book (start .pre .0) in (
+      rw (part-to-end book 8) (omega (arith, length-drop 8 book, codes-fit book (start .pre .0), start .pre)),
+      rw (part-to-end out (call .put-first .result))
+          (omega (arith, length-drop (call .put-first .result) out, first-here call, call .put-first .kept .1 .1 .1 .0, start .pre)),
+    )
+
+add-result : tie.Need-add-result
+add-result c =
+    let call = c .before .before .before .before .before .before .before in
+    let start = call .before .before .before .before .before in
+    let book = start .args .book .now in
+    let marks = start .args .marks .now in
+    let out = call .put-first .last .1 .1 .1 .0 in
+    let options = c .before .before .put-options in
+    let rest = midOf (call .put-first .result) (length out - call .put-first .result) out in
+    let within =
+    placed-within (option-lines (pieces 13 (length marks) (take (length book - 8) (drop 8 book))) marks) rest (options .ensures) in
+    omega (
+      arith,
+      within,
+      options .kept .1 .1 .0,
+      ap length (part-to-end out (call .put-first .result)),
+      length-drop (call .put-first .result) out,
+      first-here call,
+      call .put-first .kept .1 .1 .1 .0,
+      start .pre,
+    )
+
+returns : tie.Need-returns
+returns c =
+    let call = c .before .before .before .before .before .before .before in
+    let start = call .before .before .before .before .before in
+    let book = start .args .book .now in
+    let marks = start .args .marks .now in
+    let old = start .args .out .now in
+    let out = call .put-first .last .1 .1 .1 .0 in
+    let ran : Ran = record { settled = start .args .settled; count = start .args .count } in
+    let rest = midOf (call .put-first .result) (length out - call .put-first .result) out in
+    placed-then (first-line false ran) (option-lines (codes-of book) marks) old (call .put-first .ensures)
+    (placed-within (first-line false ran) old (call .put-first .ensures))
+    (c .before .before .put-options .ensures
+    ∙ ap (λ cs. filled (option-lines cs marks) rest) (codes-lent book (length marks) (start .pre .1)))
+
+pub put-lines-spec : {M : Type 1} → statement M
+put-lines-spec =
+    tie.close
+    (tie.spec
+    (λ c κs. search needs)
+    sub-put-options
+    part-put-options-start
+    (λ c. search needs)
+    sub-put-options-2
+    part-put-options-start-2
+    (λ c. search needs)
+    put-options-requires
+    add-result
+    (λ c. search needs)
+    returns)

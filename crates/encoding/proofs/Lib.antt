@@ -1,2 +1,0 @@
-pub mod NumberBytes
-pub mod TreeContents

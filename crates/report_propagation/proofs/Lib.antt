@@ -1,0 +1,5 @@
+pub mod Learning
+pub mod Looking
+pub mod LoneLiterals
+pub mod Watching
+pub mod Following

@@ -1,0 +1,74 @@
+-- `rule_lift::is_literal_child` meets its contract: the head says whether there is such a child, and its number whether it is a literal.
+use mathlib.Core.Path.{_≡_, ap, _∙_}
+use native.Mathlib.Omega.{arith}
+use borrow.Author.Needs.{needs}
+use borrow.Author.Tests.{lt-ltb, le-ltb}
+use lib.ListN.{getD}
+use Rattle.model.specs.Code.{children}
+use Rattle.theory_forms.specs.Numbers.{children-small}
+use Rattle.theory_forms.specs.Scan.{is-literal}
+use Rattle.rule_lift.specs.Asked.{literalChild}
+use Rattle.rule_lift.proofs.is_literal_child.Statement.{statement}
+use Rattle.rule_lift.proofs.is_literal_child.Tie as tie
+
+shared-slice-read-wide16 : tie.Need-shared-slice-read-wide16
+shared-slice-read-wide16 c = search needs
+
+wide16-requires : tie.Need-wide16-requires
+wide16-requires c κs = search needs
+
+children-of-requires : tie.Need-children-of-requires
+children-of-requires c κs = search needs
+
+-- The number of children.
+counted : (c : tie.After-children-of) → c .children-of .result ≡ children (getD (c .before .before .before .before .args .part .now) 0 0)
+counted c = c .children-of .ensures ∙ ap children (c .before .wide16 .ensures .0)
+
+returns : tie.Need-returns
+unfolding literalChild
+returns c =
+    let n = c .before in
+    rw (le-ltb (n .before .before .before .before .args .j) (children (getD (n .before .before .before .before .args .part .now) 0 0)) (omega (arith, counted n)))
+
+child-at-requires : tie.Need-child-at-requires
+child-at-requires c κs =
+    let l = c .before .before .before .before .before .args .part .now in
+    omega (arith, counted (c .before), children-small (getD l 0 0))
+
+mul-wide16 : tie.Need-mul-wide16
+mul-wide16 c = search needs
+
+shared-slice-read-wide16-2 : tie.Need-shared-slice-read-wide16-2
+shared-slice-read-wide16-2 c =
+    let n = c .before .before .before in
+    let inside = n .before .before .before .before .pre .1 (omega (arith, counted n)) in
+    omega arith
+
+wide16-requires-2 : tie.Need-wide16-requires-2
+wide16-requires-2 c κs = search needs
+
+is-literal-requires : tie.Need-is-literal-requires
+is-literal-requires c κs = search needs
+
+returns-2 : tie.Need-returns-2
+unfolding literalChild
+returns-2 c =
+    let d = c .before .before .before in
+    let n = d .before .before in
+    rw (lt-ltb (n .before .before .before .before .args .j) (children (getD (n .before .before .before .before .args .part .now) 0 0)) (omega (arith, counted n)), ← d .child-at .ensures .0)
+    (c .is-literal .ensures ∙ ap is-literal (c .before .wide162 .ensures .0))
+
+pub is-literal-child-spec : {M : Type 1} → statement M
+is-literal-child-spec =
+    tie.close
+    (tie.spec
+    shared-slice-read-wide16
+    wide16-requires
+    children-of-requires
+    returns
+    child-at-requires
+    mul-wide16
+    shared-slice-read-wide16-2
+    wide16-requires-2
+    is-literal-requires
+    returns-2)

@@ -1,0 +1,2 @@
+pub mod HeadTests
+pub mod Rows

@@ -1,0 +1,24 @@
+-- `rule_table::kind_for` meets its contract: the array is the table's column.
+use mathlib.Core.Path.{refl}
+use borrow.Author.Needs.{needs}
+use Rattle.model.specs.Rules.{table}
+use Rattle.rule_table.specs.Columns.{kindFor}
+use Rattle.rule_table.proofs.Rows.{column}
+use Rattle.rule_table.proofs.kind_for.Statement.{statement}
+use Rattle.rule_table.proofs.kind_for.Tie as tie
+
+sub-row : tie.Need-sub-row
+sub-row c = search needs
+
+mul-result : tie.Need-mul-result
+mul-result c = search needs
+
+array-read-result : tie.Need-array-read-result
+array-read-result c = search needs
+
+returns : tie.Need-returns
+unfolding kindFor table
+returns c = column (λ w. w .kind) 0 _ refl (c .args .rule) (c .pre .0) (c .pre .1)
+
+pub kind-for-spec : {M : Type 1} → statement M
+kind-for-spec = tie.close (tie.spec sub-row mul-result array-read-result returns)

@@ -1,0 +1,154 @@
+-- `run_bounds::try_at` meets its contract: a bound past the rule says that it does not apply, and so does a literal; else the place is searched, and its bound rises where nothing was found.
+use mathlib.Core.Bool.{true}
+use mathlib.Core.Path.{_≡_, sym, ap, _∙_}
+use Prim.Native.Nat.{_+_, _<_}
+use native.Mathlib.Omega.{arith}
+use borrow.Author.Needs.{needs}
+use lib.ListN.{length, getD}
+use lib.Seq.{getD-set-same}
+use Rattle.model.specs.Limits.{no-rule}
+use Rattle.theory_forms.specs.Logic.{none-some}
+use Rattle.theory_forms.specs.Scan.{is-literal}
+use Rattle.search_place.specs.Redexes.{spotOf}
+use Rattle.run_bounds.proofs.RisingBounds.{raised-same, entry-there, bound-tells, tells-more, raised-to, literal-none}
+use Rattle.run_bounds.proofs.try_at.Statement.{statement}
+use Rattle.run_bounds.proofs.try_at.Tie as tie
+
+-- The place has an entry.
+inside : (c : tie.Start) → c .args .place < length (c .args .low .now)
+inside c = entry-there (c .pre .1 .0) (c .pre .1 .1 .0)
+
+-- Past the first test the bound has just come to the rule.
+come : (c : tie.Else1) → let a = c .before .before .before .before .before .before .args in getD (a .low .now) (a .place) 0 ≡ a .rule
+come c =
+    let b = c .before .before .before .before .before .before in
+    omega (arith, c .before .wide16 .ensures .0, c .if1 .left, b .pre .1 .1 .1)
+
+-- Back to where the function starts.
+abbrev start : tie.Else1 → tie.Start
+start c = let d = c .before .before .before in d .before .before .before
+
+mul-wide16 : tie.Need-mul-wide16
+mul-wide16 c = let b = c .before .before .before in omega (arith, inside b, b .pre .1 .0 .long)
+
+slice-read-wide16 : tie.Need-slice-read-wide16
+slice-read-wide16 c = inside (c .before .before .before .before)
+
+wide16-requires : tie.Need-wide16-requires
+wide16-requires c κs = search needs
+
+returns : tie.Need-returns
+returns c =
+    let b = c .before .before .before .before .before .before in
+    let a = b .args in
+    let past : a .rule < getD (a .low .now) (a .place) 0 = omega (arith, c .before .wide16 .ensures .0, c .if1 .taken) in
+    (bound-tells (b .pre .1 .0) (b .pre .1 .1 .0) (a .rule) (b .pre .0 .0) past, (raised-same (b .pre .1 .0), λ e. past))
+
+add-from : tie.Need-add-from
+add-from c = let b = c .before .before .before .before .before .before in omega (arith, inside b, b .pre .1 .0 .long)
+
+mul-wide16-2 : tie.Need-mul-wide16-2
+mul-wide16-2 c = let b = c .before .before .before .before .before .before in omega (arith, inside b, b .pre .1 .0 .long)
+
+shared-slice-read-wide16 : tie.Need-shared-slice-read-wide16
+shared-slice-read-wide16 c =
+    let b = c .before .before .before .before .before .before .before in
+    omega (arith, inside b, b .pre .1 .0 .long, b .pre .1 .0 .measured .sheet .whole)
+
+wide16-requires-2 : tie.Need-wide16-requires-2
+wide16-requires-2 c κs = search needs
+
+is-literal-requires : tie.Need-is-literal-requires
+is-literal-requires c κs = search needs
+
+mul-low : tie.Need-mul-low
+mul-low c =
+    let b = start (c .before .before .before .before) in
+    omega (arith, inside b, b .pre .1 .0 .long)
+
+slice-write-low : tie.Need-slice-write-low
+slice-write-low c = inside (start (c .before .before .before .before))
+
+same-length : tie.Need-same-length
+same-length c = search needs
+
+returns-2 : tie.Need-returns-2
+returns-2 c =
+    let e = c .before .before .before .before in
+    let b = e .before .before .before .before .before .before in
+    let a = b .args in
+    let it : is-literal (getD (a .sheet .now) (2 + a .place) 0) ≡ true = sym (c .before .is-literal .ensures ∙ ap is-literal (c .before .before .wide162 .ensures .0)) ∙ c .if2 .taken in
+    let none-here = literal-none (b .pre .1 .0 .measured .sheet) (a .place) (b .pre .1 .1 .0) it in
+    let new = getD-set-same (a .low .now) (a .place) no-rule 0 (inside b) in
+    (none-here (a .rule), (raised-to (b .pre .1 .0) (b .pre .1 .1 .0) (omega (arith, come e, b .pre .0 .1)) (λ r one lt. none-here r), λ k. omega (arith, new, b .pre .0 .1)))
+
+least-at-requires : tie.Need-least-at-requires
+least-at-requires c κs = search needs
+
+enum-known-spot : tie.Need-enum-known-spot
+enum-known-spot c = search needs
+
+returns-3 : tie.Need-returns-3
+returns-3 c =
+    let d = c .before .before .before in
+    let b = start (d .before .before .before .before .before) in
+    let a = b .args in
+    (ap (spotOf (a .rule) (a .place)) (sym (c .before .spot .given .1)) ∙ d .least-at .ensures, (raised-same (b .pre .1 .0), λ e. none-some (sym e)))
+
+enum-told : tie.Need-enum-told
+enum-told c = search needs
+
+add-low : tie.Need-add-low
+add-low c = search needs
+
+cast-low : tie.Need-cast-low
+cast-low c = search needs
+
+mul-low-2 : tie.Need-mul-low-2
+mul-low-2 c =
+    let b = start (c .before .before .before .before .before .before .before) in
+    omega (arith, inside b, b .pre .1 .0 .long)
+
+slice-write-low-2 : tie.Need-slice-write-low-2
+slice-write-low-2 c = inside (start (c .before .before .before .before .before .before .before))
+
+same-length-2 : tie.Need-same-length-2
+same-length-2 c = search needs
+
+returns-4 : tie.Need-returns-4
+returns-4 c =
+    let d = c .before .before in
+    let e = d .before .before .before .before .before in
+    let b = e .before .before .before .before .before .before in
+    let a = b .args in
+    let nothing = ap (spotOf (a .rule) (a .place)) (sym (c .enum-told .given .1)) ∙ d .least-at .ensures in
+    let new = getD-set-same (a .low .now) (a .place) (a .rule + 1) 0 (inside b) in
+    (nothing, (raised-to (b .pre .1 .0) (b .pre .1 .1 .0) (omega (arith, come e)) (tells-more (b .pre .1 .0) (b .pre .1 .1 .0) (come e) nothing), λ k. omega (arith, new)))
+
+pub try-at-spec : {M : Type 1} → statement M
+try-at-spec =
+    tie.close
+    (tie.spec
+    mul-wide16
+    slice-read-wide16
+    wide16-requires
+    returns
+    add-from
+    mul-wide16-2
+    shared-slice-read-wide16
+    wide16-requires-2
+    is-literal-requires
+    mul-low
+    slice-write-low
+    same-length
+    returns-2
+    least-at-requires
+    enum-known-spot
+    returns-3
+    enum-told
+    add-low
+    cast-low
+    mul-low-2
+    slice-write-low-2
+    same-length-2
+    returns-4)

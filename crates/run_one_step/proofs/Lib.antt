@@ -1,0 +1,7 @@
+pub mod Quiets
+pub mod FollowedBounds
+pub mod Bounding
+pub mod Arities
+pub mod Sizing
+pub mod Stepping
+pub mod Moving

@@ -1,0 +1,91 @@
+-- `run_one_step::resize` meets its contract: no size is made anew, or those of the zone, or those of all nodes.
+use mathlib.Core.Logic.{inl, inr}
+use mathlib.Core.Path.{subst, _∙_}
+use native.Mathlib.Omega.{arith}
+use borrow.Author.Needs.{needs}
+use lib.ListN.{drop, length-drop}
+use Rattle.common_lists.proofs.Lent.{lent-part}
+use Rattle.search_sizes.specs.SizeTables.{Sizes-from}
+use Rattle.run_one_step.proofs.Sizing.{sizes-both}
+use Rattle.run_one_step.proofs.resize.Statement.{statement}
+use Rattle.run_one_step.proofs.resize.Tie as tie
+
+sub-refill : tie.Need-sub-refill
+sub-refill c = search needs
+
+part-refill-start : tie.Need-part-refill-start
+part-refill-start c = search needs
+
+part-refill-end : tie.Need-part-refill-end
+part-refill-end c = search needs
+
+refill-requires : tie.Need-refill-requires
+refill-requires c κs =
+    let e = c .before .before in
+    let b = e .before .before .before .before .before in
+    let w = b .pre in
+    let l = length-drop 2 (b .args .sheet .now) in
+    let outside = w .outside (omega (arith, e .before .if2 .left)) (omega (arith, e .if3 .taken)) in
+    rw (lent-part 2 (b .args .sheet .now))
+    ((omega (arith, w .whole), omega (arith, w .whole, w .long), w .order, omega (arith, w .whole, w .within)), λ q from to. outside q to (inr from))
+
+sub-refill-2 : tie.Need-sub-refill-2
+sub-refill-2 c = search needs
+
+part-refill-start-2 : tie.Need-part-refill-start-2
+part-refill-start-2 c = search needs
+
+part-refill-end-2 : tie.Need-part-refill-end-2
+part-refill-end-2 c = search needs
+
+refill-requires-2 : tie.Need-refill-requires-2
+refill-requires-2 c κs =
+    let b = c .before .before .before .before .before in
+    let w = b .pre in
+    let l = length-drop 2 (b .args .sheet .now) in
+    rw (lent-part 2 (b .args .sheet .now))
+    ((omega (arith, w .whole), omega (arith, w .whole, w .long), omega arith, omega (arith, w .whole, w .few)), w .past)
+
+returns : tie.Need-returns
+returns c = c .before .before .before .before .pre .same (omega arith) (omega arith)
+
+same-length : tie.Need-same-length
+same-length c = search needs
+
+returns-2 : tie.Need-returns-2
+returns-2 c =
+    let d = c .before .before in
+    let e = d .before .before .before in
+    let b = e .before .before .before .before .before in
+    let a = b .args in
+    let from = a .zone .from in
+    let outside = b .pre .outside (omega (arith, e .before .if2 .left)) (omega (arith, e .if3 .taken)) in
+    let right = subst (λ l. Sizes-from from l (d .refill .last .1 .0)) (lent-part 2 (a .sheet .now)) (d .refill .ensures .0) in
+    sizes-both from (drop 2 (a .sheet .now)) (d .refill .last .1 .0) right (λ q l m. d .refill .ensures .1 q l ∙ outside q m (inl l))
+
+same-length-2 : tie.Need-same-length-2
+same-length-2 c = search needs
+
+returns-3 : tie.Need-returns-3
+returns-3 c =
+    let d = c .before .before in
+    let a = d .before .before .before .before .before .before .args in
+    subst (λ l. Sizes-from 0 l (d .refill2 .last .1 .0)) (lent-part 2 (a .sheet .now)) (d .refill2 .ensures .0)
+
+pub resize-spec : {M : Type 1} → statement M
+resize-spec =
+    tie.close
+    (tie.spec
+    sub-refill
+    part-refill-start
+    part-refill-end
+    refill-requires
+    sub-refill-2
+    part-refill-start-2
+    part-refill-end-2
+    refill-requires-2
+    returns
+    same-length
+    returns-2
+    same-length-2
+    returns-3)

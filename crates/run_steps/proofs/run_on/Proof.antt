@@ -1,0 +1,67 @@
+-- `run_steps::run_on` meets its contract: the run with tables made for it.
+use mathlib.Core.Path.{_≡_, subst}
+use native.Mathlib.Omega.{arith}
+use borrow.Author.Needs.{needs}
+use lib.ListN.{length, length-drop}
+use Rattle.common_lists.proofs.Lent.{lent-part}
+use Rattle.model.specs.Limits.{sheet-length}
+use Rattle.search_sizes.specs.SizeTables.{Sizes-from}
+use Rattle.run_steps.proofs.StartAndEnd.{come-to-start}
+use Rattle.run_steps.proofs.run_on.Statement.{statement}
+use Rattle.run_steps.proofs.run_on.Tie as tie
+
+whole : (c : tie.Start) → length (c .args .sheet .now) ≡ sheet-length
+whole c = (c .pre) .whole
+
+sub-fill : tie.Need-sub-fill
+sub-fill c = omega (arith, whole (c .before))
+
+part-fill-start : tie.Need-part-fill-start
+part-fill-start c = omega (arith, whole (c .before .before))
+
+part-fill-end : tie.Need-part-fill-end
+part-fill-end c = search needs
+
+slice-aggregate-fill : tie.Need-slice-aggregate-fill
+slice-aggregate-fill c = search needs
+
+fill-requires : tie.Need-fill-requires
+fill-requires c κs =
+    let a = c .before .before .before .before in
+    let s = a .args .sheet .now in
+    rw (lent-part 2 s) (omega (arith, length-drop 2 s, whole a), omega (arith, length-drop 2 s, whole a))
+
+slice-aggregate-run-by : tie.Need-slice-aggregate-run-by
+slice-aggregate-run-by c = search needs
+
+slice-aggregate-run-by-2 : tie.Need-slice-aggregate-run-by-2
+slice-aggregate-run-by-2 c = search needs
+
+run-by-requires : tie.Need-run-by-requires
+run-by-requires c κs =
+    let f = c .before .before .before .before in
+    let a = f .before .before .before .before .before in
+    let s = a .args .sheet .now in
+    let each = subst (λ l. Sizes-from 0 l (f .fill .last .1 .0)) (lent-part 2 s) (f .fill .ensures) in
+    come-to-start (record { sheet = a .pre; long = f .fill .kept .1 .0; each = each })
+
+same-length : tie.Need-same-length
+same-length c = search needs
+
+returns : tie.Need-returns
+returns c = search needs
+
+pub run-on-spec : {M : Type 1} → statement M
+run-on-spec =
+    tie.close
+    (tie.spec
+    sub-fill
+    part-fill-start
+    part-fill-end
+    slice-aggregate-fill
+    fill-requires
+    slice-aggregate-run-by
+    slice-aggregate-run-by-2
+    run-by-requires
+    same-length
+    returns)

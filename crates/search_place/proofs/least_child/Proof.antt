@@ -1,0 +1,88 @@
+-- `search_place::least_child` meets its contract: the head is right for the rule, or the rule does not apply.
+use mathlib.Core.Logic.{⊎-elim}
+use mathlib.Core.Path.{_≡_, sym, ap, _∙_}
+use Prim.Native.Nat.{_≤_}
+use native.Mathlib.Omega.{arith}
+use borrow.Author.Needs.{needs}
+use borrow.Author.Tests.{not-true, not-false}
+use lib.ListN.{getD}
+use Rattle.model.specs.Code.{children}
+use Rattle.theory_reading.specs.Stretches.{forest-in}
+use Rattle.theory_rewriting.specs.Heads.{Headed}
+use Rattle.rule_table.proofs.HeadTests.{head-right, head-wrong}
+use Rattle.search_place.proofs.SearchLevels.{i-never}
+use Rattle.search_place.proofs.FirstChildren.{first-found, first-none}
+use Rattle.search_place.proofs.least_child.Statement.{statement}
+use Rattle.search_place.proofs.least_child.Tie as tie
+
+-- Past the test the head is right for the rule.
+right : (c : tie.Else1) → let a = c .before .before .before .before .args in Headed (a .rule) (a .part .now)
+right c =
+    let b = c .before .before .before .before in
+    head-right (b .args .rule) (b .pre .1 .0) (sym (c .before .is-headed .ensures) ∙ not-false (c .before .is-headed .result) (c .if1 .left))
+
+is-headed-requires : tie.Need-is-headed-requires
+is-headed-requires c κs = search needs
+
+returns : tie.Need-returns
+returns c =
+    let b = c .before .before .before .before in
+    λ p. i-never (b .args .rule) p (forest-in (b .args .part .now)) (head-wrong (b .args .rule) (b .pre .1 .0) (sym (c .before .is-headed .ensures) ∙ not-true (c .before .is-headed .result) (c .if1 .taken)))
+
+first-beside-requires : tie.Need-first-beside-requires
+first-beside-requires c κs =
+    let e = c .before .before in
+    let b = e .before .before .before .before in
+    ((b .pre .0 .0, omega arith), (b .pre .1 .0, (right e, b .pre .1 .1)))
+
+shared-slice-read-wide16 : tie.Need-shared-slice-read-wide16
+shared-slice-read-wide16 c = let d = c .before .before .before .before in d .before .before .before .before .pre .0 .2
+
+wide16-requires : tie.Need-wide16-requires
+wide16-requires c κs = search needs
+
+children-of-requires : tie.Need-children-of-requires
+children-of-requires c κs = search needs
+
+-- What the first child with which the rule applies is to the search, by the number of the children.
+counted : (c : tie.After-children-of) → let d = c .before .before .before .before .before in let a = d .before .before .before .before .before .args in c .children-of .result ≡ children (getD (a .part .now) 0 0)
+counted c = c .children-of .ensures ∙ ap children (c .before .wide16 .ensures .0)
+
+returns-2 : tie.Need-returns-2
+returns-2 c =
+    let f = c .before .before .before .before in
+    let e = f .before .before .before in
+    let b = e .before .before .before .before in
+    first-found (b .pre .1 .0) (right e) (omega (arith, f .before .if3 .taken)) (f .first-beside .ensures) (omega (arith, counted (c .before)))
+
+returns-3 : tie.Need-returns-3
+returns-3 c =
+    let f = c .before .before .before .before in
+    let e = f .before .before .before in
+    let b = e .before .before .before .before in
+    first-none (b .pre .1 .0) (right e) (omega (arith, f .before .if3 .taken)) (f .first-beside .ensures) (omega (arith, counted (c .before)))
+
+least-inside-requires : tie.Need-least-inside-requires
+least-inside-requires c κs =
+    let e = c .before in
+    let b = e .before .before .before .before in
+    let late : 11 ≤ b .args .rule = let p = b .pre .0 .0 in ⊎-elim (λ w. omega arith) (λ w. omega arith) (c .if2 .came) in
+    ((late, b .pre .0 .1), (b .pre .1 .0, (right e, b .pre .1 .1)))
+
+returns-4 : tie.Need-returns-4
+returns-4 c = c .least-inside .ensures
+
+pub least-child-spec : {M : Type 1} → statement M
+least-child-spec =
+    tie.close
+    (tie.spec
+    is-headed-requires
+    returns
+    first-beside-requires
+    shared-slice-read-wide16
+    wide16-requires
+    children-of-requires
+    returns-2
+    least-inside-requires
+    returns-3
+    returns-4)

@@ -1,0 +1,104 @@
+// The order sheet: 4,098 numbers.
+ghost use mathlib.Core.Path.{_≡_};
+ghost use mathlib.Core.Bool.{_&&_};
+ghost use mathlib.Core.List.{map};
+ghost use Prim.Native.Nat.{_≤_};
+ghost use lib.Dec.{eqb};
+ghost use lib.ListN.{length, take};
+ghost use Rattle.model.specs.Base.{all};
+ghost use Rattle.model.specs.Limits.{«sheet-room»};
+ghost use Rattle.model.specs.Code.{literals, «node-of», «one-tree»};
+ghost use Rattle.model.specs.Sheet.{rooted, «is-sheet»};
+use common_limits::MOST_OPTIONS;
+use common_limits::MOST_WEIGHT;
+use common_limits::SHEET_LENGTH;
+use common_limits::SHEET_ROOM;
+use common_nodes::Trees;
+
+// The first so many numbers are one tree with the root at its head and nowhere else, for n options.
+fn is_rooted_tree(s: &[u16], used: usize, n: usize) -> bool
+    requires { ⌜
+        (1 ≤ used)
+        × (used ≤ «sheet-room»)
+        × (used ≤ length (now s)) ⌝ }
+    ensures { λ r. ⌜
+        r
+        ≡ (rooted n (take used (now (s .entry)))
+        && «one-tree» (map «node-of» (take used (now (s .entry))))) ⌝ }
+{
+    let head = common_nodes::wide16(s[0]);
+    if common_nodes::kind_of(head) != 5 {
+        return false;
+    }
+    let mut trees = Trees::Count(0);
+    let mut i = used;
+    while 1 < i {
+        i -= 1;
+        trees = common_nodes::join(common_nodes::wide16(s[i]), n, trees);
+    }
+    if let Trees::Count(t) = trees {
+        t == common_nodes::children_of(head)
+    } else {
+        false
+    }
+}
+
+// Every number is zero.
+fn is_clear(s: &[u16]) -> bool
+    ensures { λ r. ⌜ r ≡ all (eqb 0) (now (s .entry)) ⌝ }
+{
+    let mut i = 0;
+    while i < s.len() {
+        if s[i] != 0 {
+            return false;
+        }
+        i += 1;
+    }
+    true
+}
+
+// The literals among the first so many numbers.
+pub fn count_literals(s: &[u16], used: usize) -> usize
+    requires { ⌜
+        (used ≤ «sheet-room»)
+        × (used ≤ length (now s)) ⌝ }
+    ensures { λ r. ⌜ r ≡ literals (map «node-of» (take used (now (s .entry)))) ⌝ }
+{
+    let mut sum = 0;
+    let mut i = 0;
+    while i < used {
+        if common_nodes::is_literal(common_nodes::wide16(s[i])) {
+            sum += 1;
+        }
+        i += 1;
+    }
+    sum
+}
+
+// Is it a sheet?
+pub fn is_sheet(s: &[u16]) -> bool
+    ensures { λ r. ⌜ r ≡ «is-sheet» (now (s .entry)) ⌝ }
+{
+    if s.len() != SHEET_LENGTH {
+        return false;
+    }
+    let n = common_nodes::wide16(s[0]);
+    let used = common_nodes::wide16(s[1]);
+    if MOST_OPTIONS < n {
+        return false;
+    }
+    if used < 1 {
+        return false;
+    }
+    if SHEET_ROOM < used {
+        return false;
+    }
+    if !is_rooted_tree(&s[2..], used, n) {
+        return false;
+    }
+    let end = 2 + used;
+    if !is_clear(&s[end..]) {
+        return false;
+    }
+    used + count_literals(&s[2..], used) <= MOST_WEIGHT
+}

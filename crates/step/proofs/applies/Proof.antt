@@ -1,0 +1,72 @@
+-- `step::applies` meets its contract: the head is tested, child i is looked for among its children, and the rule's family is asked.
+use mathlib.Core.Path.{_≡_, sym, ap, _∙_}
+use native.Mathlib.Omega.{arith}
+use borrow.Author.Needs.{needs}
+use borrow.Author.Tests.{not-true, not-false}
+use lib.ListN.{getD}
+use Rattle.model.specs.Code.{children}
+use Rattle.theory_rewriting.specs.Children.{headed-group, group-children, group-few}
+use Rattle.theory_rewriting.specs.Heads.{Headed}
+use Rattle.rule_table.proofs.HeadTests.{head-right, head-wrong, past-children}
+use Rattle.step.proofs.applies.Statement.{statement}
+use Rattle.step.proofs.applies.Tie as tie
+
+-- Past the first test the head is right for the rule.
+right : (c : tie.Else1) → let a = c .before .before .before in Headed (a .args .rule) (a .args .part .now)
+right c =
+    let a = c .before .before .before in
+    head-right (a .args .rule) (a .pre .1) (sym (c .before .is-headed .ensures) ∙ not-false (c .before .is-headed .result) (c .if1 .left))
+
+counted : (c : tie.After-children-of) → c .children-of .result ≡ children (getD (c .before .before .before .before .before .before .args .part .now) 0 0)
+counted c = c .children-of .ensures ∙ ap children (c .before .wide16 .ensures .0)
+
+is-headed-requires : tie.Need-is-headed-requires
+is-headed-requires c κs = search needs
+
+returns : tie.Need-returns
+returns c =
+    let a = c .before .before .before in
+    head-wrong (a .args .rule) (a .pre .1) (sym (c .before .is-headed .ensures) ∙ not-true (c .before .is-headed .result) (c .if1 .taken)) (a .args .i) (a .args .j)
+
+shared-slice-read-wide16 : tie.Need-shared-slice-read-wide16
+shared-slice-read-wide16 c = search needs
+
+wide16-requires : tie.Need-wide16-requires
+wide16-requires c κs = search needs
+
+children-of-requires : tie.Need-children-of-requires
+children-of-requires c κs = search needs
+
+returns-2 : tie.Need-returns-2
+returns-2 c =
+    let a = c .before .before .before .before .before .before .before in
+    past-children (a .args .rule) (a .args .i) (a .args .j) (a .pre .1) (right (c .before .before .before .before)) (omega (arith, counted (c .before)))
+
+child-at-requires : tie.Need-child-at-requires
+child-at-requires c κs =
+    let a = c .before .before .before .before .before .before .before in
+    let g = headed-group (a .pre .1) (right (c .before .before .before .before)) in
+    (omega arith, a .pre .1 .short, omega (arith, counted (c .before), group-children g, group-few g))
+
+asks-requires : tie.Need-asks-requires
+asks-requires c κs =
+    let e = c .before .before .before .before .before in
+    let a = e .before .before .before in
+    ((a .pre .0 .0, a .pre .0 .1), (a .pre .1, (right e, (omega (arith, counted (c .before .before)), c .child-at .ensures .0))))
+
+returns-3 : tie.Need-returns-3
+returns-3 c = search needs
+
+pub applies-spec : {M : Type 1} → statement M
+applies-spec =
+    tie.close
+    (tie.spec
+    is-headed-requires
+    returns
+    shared-slice-read-wide16
+    wide16-requires
+    children-of-requires
+    returns-2
+    child-at-requires
+    asks-requires
+    returns-3)

@@ -1,0 +1,15 @@
+-- Laws of the combinators, lists, literals and forests.
+pub mod Logic
+pub mod Lists
+pub mod Literals
+pub mod Forests
+-- Codes of forests, and their numbers.
+pub mod Codes
+pub mod Numbers
+pub mod Scan
+pub mod Rooted
+pub mod Fine
+pub mod Shape
+-- Sheets, choices on them, and runs under way.
+pub mod Sheets
+pub mod Choice
