@@ -22,7 +22,7 @@ use Rattle.theory_reading.specs.Flat.{spell, spell-⊕, spell-node, Fits}
 use Rattle.theory_reading.specs.Stretches.{Stretch, forest-in}
 use Rattle.theory_rewriting.specs.Heads.{Headed}
 use Rattle.theory_rewriting.specs.Children.{code, Group, group-children, child-place, child-room, child-fits, child-literal, child-conjunction, headed-group, group-long, literal-within, literal-fits, literal-number, asked-child, conjunction-group}
-use Rattle.theory_rewriting.specs.Turns.{family-at, family-asks}
+use Rattle.theory_rewriting.specs.Turns.{family-at, family-applies}
 use Rattle.rule_factor.specs.Walks.{among, unit-of, sharing}
 use Rattle.theory_reading.specs.Leaves.{leaf-literal}
 use Rattle.rule_factor.proofs.TreeNumbers.{fits-parts, code-⊕}
@@ -148,13 +148,13 @@ module _ {l : List ℕ} (s : Stretch l) (h : Headed 14 l) where
   kids-numbers = ap (drop 1) (group-numbers (headed-group s h))
 
   module _ (i j : ℕ) where
-    pub rule-asks : is-some (rewrite 14 i j (forest-in l)) ≡ is-some (factor (h .conn) i j (h .children))
+    pub rule-applies : is-some (rewrite 14 i j (forest-in l)) ≡ is-some (factor (h .conn) i j (h .children))
     unfolding family-at pick change
-    rule-asks = family-asks h i j
+    rule-applies = family-applies h i j
 
-    asks-not : (Applied i j (h .children) → ⊥) → false ≡ is-some (rewrite 14 i j (forest-in l))
-    asks-not n =
-        sym (rule-asks ∙ fails-if (is-some (factor (h .conn) i j (h .children))) (λ t. n (applied (h .conn) i j (h .children) t)))
+    applies-not : (Applied i j (h .children) → ⊥) → false ≡ is-some (rewrite 14 i j (forest-in l))
+    applies-not n =
+        sym (rule-applies ∙ fails-if (is-some (factor (h .conn) i j (h .children))) (λ t. n (applied (h .conn) i j (h .children) t)))
 
     -- Child i is a conjunction: its own children stand where they should.
     module _ {m : Forest} (e : conjunction-at (after i (h .children)) ≡ some m) where
@@ -164,9 +164,9 @@ module _ {l : List ℕ} (s : Stretch l) (h : Headed 14 l) where
           (group-long g, λ b. omega (arith, group-children g, child-room g j (omega (arith, group-children g))))
 
     -- No literal but the first copy counts.
-    pub asks-nothing : unit-of j (drop (child-at i l) l) ≡ 0 → false ≡ is-some (rewrite 14 i j (forest-in l))
-    asks-nothing e =
-        asks-not
+    pub applies-nothing : unit-of j (drop (child-at i l) l) ≡ 0 → false ≡ is-some (rewrite 14 i j (forest-in l))
+    applies-nothing e =
+        applies-not
         (λ t. let g = conjunction-group s h i (t .conjunction) in
         leaf-some (t .literal) (literal-fits g j (t .there) .0) (sym (unit-first g j (t .there) (t .new)) ∙ e))
 
@@ -180,25 +180,25 @@ module _ {l : List ℕ} (s : Stretch l) (h : Headed 14 l) where
           omega (arith, child-place (headed-group s h) i (omega (arith, child-there)), length-map (encode (first i k)) number-of)
 
       -- Only literals may stand before child i, so it stands at place 1 + i.
-      pub asks-late : (child-at i l ≡ 1 + i → ⊥) → false ≡ is-some (rewrite 14 i j (forest-in l))
-      asks-late no-place =
-          asks-not
+      pub applies-late : (child-at i l ≡ 1 + i → ⊥) → false ≡ is-some (rewrite 14 i j (forest-in l))
+      applies-late no-place =
+          applies-not
           (λ t. no-place (omega (arith, place, literals-short (first i (h .children)) (t .before), size-first i (h .children) (omega (arith, child-there)))))
 
       -- Child i is a conjunction.
-      pub asks-other : (kind (getD l (child-at i l) 0) ≡ 3 → ⊥) → false ≡ is-some (rewrite 14 i j (forest-in l))
+      pub applies-other : (kind (getD l (child-at i l) 0) ≡ 3 → ⊥) → false ≡ is-some (rewrite 14 i j (forest-in l))
       unfolding is-some
-      asks-other no-kind =
-          asks-not (λ t. no-kind (eqb-true (kind (getD l (child-at i l) 0)) 3 (child-conjunction (headed-group s h) i child-there ∙ ap is-some (t .conjunction))))
+      applies-other no-kind =
+          applies-not (λ t. no-kind (eqb-true (kind (getD l (child-at i l) 0)) 3 (child-conjunction (headed-group s h) i child-there ∙ ap is-some (t .conjunction))))
 
       module _ (e : kind (getD l (child-at i l) 0) ≡ 3) where
         pub conjunction-there : (m : Forest) × (conjunction-at (after i (h .children)) ≡ some m)
         conjunction-there =
             is-some-of (conjunction-at (after i (h .children))) (sym (child-conjunction (headed-group s h) i child-there) ∙ eq-eqb (kind (getD l (child-at i l) 0)) 3 e)
 
-        pub asks-shared : child-at i l ≡ 1 + i → (unit-of j (drop (child-at i l) l) ≡ 0 → ⊥) → leb 2 (sharing (unit-of j (drop (child-at i l) l)) (children (getD l 0 0)) (drop 1 l)) ≡ is-some (rewrite 14 i j (forest-in l))
+        pub applies-shared : child-at i l ≡ 1 + i → (unit-of j (drop (child-at i l) l) ≡ 0 → ⊥) → leb 2 (sharing (unit-of j (drop (child-at i l) l)) (children (getD l 0 0)) (drop 1 l)) ≡ is-some (rewrite 14 i j (forest-in l))
         unfolding pick
-        asks-shared p some-unit =
+        applies-shared p some-unit =
             let k = h .children in
             let u = unit-found (conjunction-group s h i (conjunction-there .1)) j some-unit in
             let a = u .literal in
@@ -207,7 +207,7 @@ module _ {l : List ℕ} (s : Stretch l) (h : Headed 14 l) where
             ap₂ (λ x m. sharing x m (drop 1 l)) (u .its-number) (group-children (headed-group s h)) ∙ ap (sharing (number-of (leaf a)) (size k)) kids-numbers ∙ sharing-trees a (u .fitting) k (spell (h .rest) (h .zeros)) (group-fits (headed-group s h)) in
             ap (leb 2) count
             ∙ go (groups k) (shares a k) (literals-only (first i k)) before
-            ∙ sym (rule-asks ∙ asked (h .conn) i j k (conjunction-there .1) (u .there) (u .new))
+            ∙ sym (rule-applies ∙ asked (h .conn) i j k (conjunction-there .1) (u .there) (u .new))
           where
             go : (x : ℕ) (b lo : Bool) → (b ≡ true → lo ≡ true) → leb 2 (pick b x 0) ≡ (lo && b && leb 2 x)
             go x true lo f = rw (f refl)

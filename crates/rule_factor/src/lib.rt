@@ -95,7 +95,7 @@ pub fn sharing_groups(part: &[u16], trees: usize, literal: u16) -> u16
 
 // Whether the rule applies to the first tree of the stretch, whose head is right for it. Before child i only literals may stand,
 // a number each, so it stands at place 1 + i; and where it does and all children share, those before it are literals.
-pub fn asks(part: &[u16], i: usize, j: usize, at: usize) -> bool
+pub fn applies(part: &[u16], i: usize, j: usize, at: usize) -> bool
     requires { ⌜ Stretch (now part) ⌝ }
     requires { ⌜ Headed 14 (now part) ⌝ }
     requires { ⌜ (i < children (getD (now part) 0 0)) × (at ≡ «child-at» i (now part)) ⌝ }

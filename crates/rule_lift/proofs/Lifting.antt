@@ -25,7 +25,7 @@ use Rattle.theory_reading.specs.Flat.{spell, spell-⊕, Fits, fits-⊕, fits-li
 use Rattle.theory_reading.specs.Stretches.{Stretch, forest-in}
 use Rattle.theory_rewriting.specs.Heads.{Headed, rewritten-to}
 use Rattle.theory_rewriting.specs.Children.{moved-at, first-left, code, spell-parts, Group, group-head, group-children, group-bounds, opening, child-opened, child-within, child-place, headed-group, child-stands, child-room, child-fits, child-split, child-group, child-literal, literal-within, conjunction-group}
-use Rattle.theory_rewriting.specs.Turns.{family-at, family-11, family-asks, family-turn}
+use Rattle.theory_rewriting.specs.Turns.{family-at, family-11, family-applies, family-turn}
 use Rattle.rule_lift.specs.Asked.{literalChild, othersLiteral}
 
 -- Trees that are literals, counted by their numbers.
@@ -107,27 +107,27 @@ module _ (r : ℕ) (c : Conn) (i j : ℕ) (k : Forest) where
 
 -- The test, on the numbers.
 module _ {r : ℕ} {l : List ℕ} (s : Stretch l) (h : Headed r l) (i j : ℕ) where
-  pub asks-nothing : 11 ≤ r → r ≤ 13 → is-some (conjunction-at (after i (h .children))) ≡ false →
+  pub applies-nothing : 11 ≤ r → r ≤ 13 → is-some (conjunction-at (after i (h .children))) ≡ false →
       false ≡ is-some (rewrite r i j (forest-in l))
-  asks-nothing a b e =
-      sym (fails-if (is-some (rewrite r i j (forest-in l))) (λ t. true-false (sym (conjunction-asked r (h .conn) i j (h .children) a b (sym (family-asks h i j) ∙ t)) ∙ e)))
+  applies-nothing a b e =
+      sym (fails-if (is-some (rewrite r i j (forest-in l))) (λ t. true-false (sym (conjunction-asked r (h .conn) i j (h .children) a b (sym (family-applies h i j) ∙ t)) ∙ e)))
 
   -- Child i is a conjunction.
   module _ {m : Forest} (e : conjunction-at (after i (h .children)) ≡ some m) where
-    pub asks-literal : 11 ≤ r → r ≤ 12 → literalChild j (drop (child-at i l) l) ≡ is-some (rewrite r i j (forest-in l))
-    asks-literal a b =
-        literal-child (conjunction-group s h i e) j ∙ sym (family-asks h i j ∙ literal-asked r (h .conn) i j (h .children) e a b)
+    pub applies-literal : 11 ≤ r → r ≤ 12 → literalChild j (drop (child-at i l) l) ≡ is-some (rewrite r i j (forest-in l))
+    applies-literal a b =
+        literal-child (conjunction-group s h i e) j ∙ sym (family-applies h i j ∙ literal-asked r (h .conn) i j (h .children) e a b)
 
-    asks-beside : r ≡ 13 →
+    applies-beside : r ≡ 13 →
         is-some (rewrite r i j (forest-in l)) ≡ (eqb j 0 && literals-only (first i (h .children)) && literals-only (after (suc i) (h .children)))
-    asks-beside q = family-asks h i j ∙ others-asked r (h .conn) i j (h .children) e q
+    applies-beside q = family-applies h i j ∙ others-asked r (h .conn) i j (h .children) e q
 
-    pub asks-others-none : r ≡ 13 → (j ≡ 0 → ⊥) → false ≡ is-some (rewrite r i j (forest-in l))
-    asks-others-none q n = sym (asks-beside q ∙ rw (ne-eqb j 0 n))
+    pub applies-others-none : r ≡ 13 → (j ≡ 0 → ⊥) → false ≡ is-some (rewrite r i j (forest-in l))
+    applies-others-none q n = sym (applies-beside q ∙ rw (ne-eqb j 0 n))
 
-    pub asks-others : r ≡ 13 → j ≡ 0 → i < size (h .children) →
+    pub applies-others : r ≡ 13 → j ≡ 0 → i < size (h .children) →
         othersLiteral i (size (h .children)) l ≡ is-some (rewrite r i j (forest-in l))
-    asks-others q n b = others-literals (headed-group s h) i b ∙ sym (asks-beside q ∙ rw (eq-eqb j 0 n))
+    applies-others q n b = others-literals (headed-group s h) i b ∙ sym (applies-beside q ∙ rw (eq-eqb j 0 n))
 
 -- Where the literal of an inner conjunction moves to before it.
 literal-moved : {l : List ℕ} {c : Conn} {k f : Forest} {z : ℕ} (g : Group l c k f z) (i j : ℕ) {m q u : Forest} {x : Literal} →
@@ -163,11 +163,11 @@ module _ {r : ℕ} {l : List ℕ} (s : Stretch l) (h : Headed r l) (i j : ℕ) (
   -- The conjunction among the children, and the place of its literal.
   pub conjunction-there : 11 ≤ r → r ≤ 13 → (m : Forest) × (conjunction-at (after i (h .children)) ≡ some m)
   conjunction-there a b =
-      is-some-of (conjunction-at (after i (h .children))) (conjunction-asked r (h .conn) i j (h .children) a b (sym (family-asks h i j) ∙ t))
+      is-some-of (conjunction-at (after i (h .children))) (conjunction-asked r (h .conn) i j (h .children) a b (sym (family-applies h i j) ∙ t))
 
   pub inner-within : 11 ≤ r → r ≤ 12 → {m : Forest} → conjunction-at (after i (h .children)) ≡ some m → j < size m
   inner-within a b {m} e =
-      let w = is-some-of (literal-at (after j m)) (sym (family-asks h i j ∙ literal-asked r (h .conn) i j (h .children) e a b) ∙ t) in
+      let w = is-some-of (literal-at (after j m)) (sym (family-applies h i j ∙ literal-asked r (h .conn) i j (h .children) e a b) ∙ t) in
       literal-within (conjunction-group s h i e) j (w .1)
 
   -- The conjunction's head goes.

@@ -57,7 +57,7 @@ fn are_others_literals(part: &[u16], i: usize, k: usize) -> bool
 }
 
 // Whether the rule applies to the first tree of the stretch, whose head is right for it, at the child i that begins at a place.
-pub fn asks(part: &[u16], rule: usize, i: usize, j: usize, at: usize) -> bool
+pub fn applies(part: &[u16], rule: usize, i: usize, j: usize, at: usize) -> bool
     requires { ⌜ (11 ≤ rule) × (rule ≤ 13) ⌝ }
     requires { ⌜ Stretch (now part) ⌝ }
     requires { ⌜ Headed rule (now part) ⌝ }

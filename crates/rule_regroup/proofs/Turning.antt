@@ -25,7 +25,7 @@ use Rattle.theory_rewriting.specs.Turns.{family-at, family-turn}
 use Rattle.rule_factor.specs.Walks.{unit-of, sharing, all-share}
 use Rattle.rule_factor.proofs.TreeNumbers.{code-⊕, code-lit, code-node}
 use Rattle.rule_factor.proofs.WalkedTrees.{share-trees}
-use Rattle.rule_factor.proofs.Asking.{group-numbers, group-fits, unit-first, Applied, applied, sharing-trees, kids-numbers, rule-asks}
+use Rattle.rule_factor.proofs.Asking.{group-numbers, group-fits, unit-first, Applied, applied, sharing-trees, kids-numbers, rule-applies}
 use Rattle.rule_regroup.specs.Regrouped.{factored, tree-after, step-after}
 use Rattle.model.specs.Limits.{kind-factor}
 use Rattle.rule_regroup.proofs.KeptTrees.{units-trees, groups-kept}
@@ -68,7 +68,7 @@ module _ {l : List ℕ} (s : Stretch l) (h : Headed 14 l) where
   rule-group = rw rule-conn at (headed-group s h)
 
   pub rule-found : (i j : ℕ) → is-some (rewrite 14 i j (forest-in l)) ≡ true → Applied i j (h .children)
-  rule-found i j t = applied (h .conn) i j (h .children) (sym (rule-asks s h i j) ∙ t)
+  rule-found i j t = applied (h .conn) i j (h .children) (sym (rule-applies s h i j) ∙ t)
 
   rule-forest : forest-in l ≡ node or (h .children) (h .rest)
   rule-forest = h .forest ∙ ap (λ c. node c (h .children) (h .rest)) rule-conn

@@ -20,7 +20,7 @@ use Rattle.theory_reading.specs.Flat.{spell, spell-node}
 use Rattle.theory_reading.specs.Stretches.{Stretch, forest-in}
 use Rattle.theory_rewriting.specs.Heads.{Headed, rewritten-to}
 use Rattle.theory_rewriting.specs.Children.{Group, code, headed-group, group-head, group-few, child-place, child-split, child-later, child-constant, child-opened, spell-zeros, removed-at, applied-child}
-use Rattle.theory_rewriting.specs.Turns.{family-at, family-1, family-4, family-7, family-of, family-asks, family-turn}
+use Rattle.theory_rewriting.specs.Turns.{family-at, family-1, family-4, family-7, family-of, family-applies, family-turn}
 use Rattle.rule_simplify.specs.Constants.{wanted, group-of, constantFor}
 
 -- Rules 2, 4 and 6 look for true.
@@ -76,23 +76,23 @@ constant-number {r} h = rw (h .its-row, family-of r (h .its-row), h .its-kind, g
 
 -- The test, on the numbers.
 module _ {r : ℕ} {l : List ℕ} (s : Stretch l) (h : Headed r l) (i j : ℕ) where
-  pub asks-nothing : r ≤ 8 → (j ≡ 0 → ⊥) → false ≡ is-some (rewrite r i j (forest-in l))
-  asks-nothing b n = sym (fails-if (is-some (rewrite r i j (forest-in l))) (λ t. n (second-zero r (h .conn) i j (h .children) b (sym (family-asks h i j) ∙ t))))
+  pub applies-nothing : r ≤ 8 → (j ≡ 0 → ⊥) → false ≡ is-some (rewrite r i j (forest-in l))
+  applies-nothing b n = sym (fails-if (is-some (rewrite r i j (forest-in l))) (λ t. n (second-zero r (h .conn) i j (h .children) b (sym (family-applies h i j) ∙ t))))
 
-  pub asks-single : 7 ≤ r → r ≤ 8 → j ≡ 0 → i < size (h .children) → eqb (size (h .children)) 1 ≡ is-some (rewrite r i j (forest-in l))
-  asks-single a b e n =
+  pub applies-single : 7 ≤ r → r ≤ 8 → j ≡ 0 → i < size (h .children) → eqb (size (h .children)) 1 ≡ is-some (rewrite r i j (forest-in l))
+  applies-single a b e n =
       let k = h .children in
       same-test (eqb (size k) 1) (eqb i 0 && eqb j 0 && eqb (size k) 1)
       (λ q. let one = eqb-true (size k) 1 q in and-join (and-join (eq-eqb i 0 (omega arith)) (eq-eqb j 0 e)) q)
       (λ q. and-split (eqb i 0 && eqb j 0) (eqb (size k) 1) q .1)
-      ∙ sym (family-asks h i j ∙ single-asked r (h .conn) i j k a b)
+      ∙ sym (family-applies h i j ∙ single-asked r (h .conn) i j k a b)
 
-  pub asks-constant : r ≤ 6 → j ≡ 0 → i < size (h .children) →
+  pub applies-constant : r ≤ 6 → j ≡ 0 → i < size (h .children) →
       eqb (getD l (child-at i l) 0) (constantFor r) ≡ is-some (rewrite r i j (forest-in l))
-  asks-constant b e n =
+  applies-constant b e n =
       let c = h .conn in
       let k = h .children in
-      let asked : is-some (rewrite r i j (forest-in l)) ≡ (eqb j 0 && constant-at (wanted (family-at r) c) (after i k)) = family-asks h i j ∙ constant-asked r c i j k b in
+      let asked : is-some (rewrite r i j (forest-in l)) ≡ (eqb j 0 && constant-at (wanted (family-at r) c) (after i k)) = family-applies h i j ∙ constant-asked r c i j k b in
       rw (asked, constant-number h, eq-eqb j 0 e) (child-constant (headed-group s h) i n (wanted (family-at r) c))
 
 -- Where a constant is written after the head, and the other numbers of the children go.

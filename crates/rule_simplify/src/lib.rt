@@ -25,7 +25,7 @@ pub fn constant_for(rule: usize) -> u16
 }
 
 // Whether the rule applies to the first tree of the stretch, whose head is right for it, at the child i that begins at a place.
-pub fn asks(part: &[u16], rule: usize, i: usize, j: usize, at: usize) -> bool
+pub fn applies(part: &[u16], rule: usize, i: usize, j: usize, at: usize) -> bool
     requires { ⌜ (1 ≤ rule) × (rule ≤ 8) ⌝ }
     requires { ⌜ Stretch (now part) ⌝ }
     requires { ⌜ Headed rule (now part) ⌝ }

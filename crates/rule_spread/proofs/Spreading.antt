@@ -29,7 +29,7 @@ use Rattle.theory_reading.specs.Flat.{spell, Fits, fits-⊕, fits-lit, fits-tre
 use Rattle.theory_reading.specs.Stretches.{Stretch, forest-in}
 use Rattle.theory_rewriting.specs.Heads.{Headed, rewritten-to}
 use Rattle.theory_rewriting.specs.Children.{code, Group, headed-group, group-end, child-place, child-split, child-fits, child-literal, literal-within, literal-fits, literal-number, opening, spell-parts}
-use Rattle.theory_rewriting.specs.Turns.{family-9, family-asks, family-turn}
+use Rattle.theory_rewriting.specs.Turns.{family-9, family-applies, family-turn}
 use Rattle.sheet_shifts.specs.Replaced.{replaced}
 use Rattle.rule_spread.specs.Assigning.{names, spreads-from, opposite, empty, assign, around}
 
@@ -217,15 +217,15 @@ spread-asked {l} {c} {k} g i h = go (literal-at (after i k)) refl
 
 -- The test, on the numbers.
 module _ {r : ℕ} {l : List ℕ} (s : Stretch l) (h : Headed r l) (i j : ℕ) (lo : 9 ≤ r) (hi : r ≤ 10) where
-  asks-spread : is-some (rewrite r i j (forest-in l)) ≡ is-some (spread (h .conn) i j (h .children))
+  applies-spread : is-some (rewrite r i j (forest-in l)) ≡ is-some (spread (h .conn) i j (h .children))
   unfolding change
-  asks-spread = family-asks h i j ∙ rw (family-9 r lo hi)
+  applies-spread = family-applies h i j ∙ rw (family-9 r lo hi)
 
-  pub asks-none : (j ≡ 0 → ⊥) → false ≡ is-some (rewrite r i j (forest-in l))
-  asks-none n = sym (asks-spread ∙ no-second (h .conn) i j (h .children) n)
+  pub applies-none : (j ≡ 0 → ⊥) → false ≡ is-some (rewrite r i j (forest-in l))
+  applies-none n = sym (applies-spread ∙ no-second (h .conn) i j (h .children) n)
 
-  pub asks-around : j ≡ 0 → i < size (h .children) → spreads-from (child-at i l) (child-at (size (h .children)) l) l ≡ is-some (rewrite r i j (forest-in l))
-  asks-around e n = sym (asks-spread ∙ rw e (spread-asked (headed-group s h) i n))
+  pub applies-around : j ≡ 0 → i < size (h .children) → spreads-from (child-at i l) (child-at (size (h .children)) l) l ≡ is-some (rewrite r i j (forest-in l))
+  applies-around e n = sym (applies-spread ∙ rw e (spread-asked (headed-group s h) i n))
 
 -- The numbers that the code puts for a literal and its complement.
 opposite-number : (x : Literal) → fits (leaf x) ≡ true → opposite (number-of (leaf x)) ≡ number-of (leaf (complement x))

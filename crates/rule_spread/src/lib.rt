@@ -51,7 +51,7 @@ pub fn occurs_around(part: &[u16], at: usize, end: usize) -> bool
 
 // Whether the rule applies to the first tree of the stretch, whose head is right for it, at the child i that begins at a place:
 // rules 9 and 10 have no use for j.
-pub fn asks(part: &[u16], rule: usize, i: usize, j: usize, at: usize) -> bool
+pub fn applies(part: &[u16], rule: usize, i: usize, j: usize, at: usize) -> bool
     requires { ⌜ (9 ≤ rule) × (rule ≤ 10) ⌝ }
     requires { ⌜ Stretch (now part) ⌝ }
     requires { ⌜ Headed rule (now part) ⌝ }

@@ -24,7 +24,7 @@ use Rattle.theory_rewriting.specs.Children.{headed-group, group-children, first
 use Rattle.search_sizes.specs.FirstApplying.{First-inner, first-here, first-past}
 use Rattle.rule_factor.specs.Walks.{unit-place, unit-of, sharing}
 use Rattle.rule_factor.proofs.Here.{unit-past, unit-inner, unit-again, unit-new}
-use Rattle.rule_factor.proofs.Asking.{asks-nothing, asks-other, asks-shared, conjunction-there, conjunction-room}
+use Rattle.rule_factor.proofs.Asking.{applies-nothing, applies-other, applies-shared, conjunction-there, conjunction-room}
 use Rattle.search_common.specs.Held.{Filter, Barred}
 
 -- The number of a child announces its own children.
@@ -88,17 +88,17 @@ module _ {l : List ℕ} (s : Stretch l) (h : Headed 14 l) (i : ℕ) (there : (i 
       conj =
           ⊎-elim
           (eqb-true (kind (getD l at 0)) 3)
-          (λ e. true-false (sym t ∙ sym (asks-other s h i j (there .0) (eqb-false (kind (getD l at 0)) 3 e))))
+          (λ e. true-false (sym t ∙ sym (applies-other s h i j (there .0) (eqb-false (kind (getD l at 0)) 3 e))))
           (either (eqb (kind (getD l at 0)) 3))
 
       some-unit : unit-of j (drop at l) ≡ 0 → ⊥
-      some-unit e = true-false (sym t ∙ sym (asks-nothing s h i j e))
+      some-unit e = true-false (sym t ∙ sym (applies-nothing s h i j e))
 
       here : Common at j l
       here =
           let u = unit-literal j (drop at l) some-unit in
           let its : unit-of j (drop at l) ≡ getD l (at + child-at j (drop at l)) 0 = u .2 ∙ getD-drop at l (child-at j (drop at l)) 0 in
-          let two = leb-true 2 (sharing (unit-of j (drop at l)) (children (getD l 0 0)) (drop 1 l)) (asks-shared s h i j (there .0) conj (sym (there .1)) some-unit ∙ t) in
+          let two = leb-true 2 (sharing (unit-of j (drop at l)) (children (getD l 0 0)) (drop 1 l)) (applies-shared s h i j (there .0) conj (sym (there .1)) some-unit ∙ t) in
           record {
             conjunction = conj;
             within = rw (first-left at l) at (u .0);

@@ -106,7 +106,7 @@ fn first_sifted(part: &[u16], sizes: &[u16], i: usize, held: &[u16], groups: u16
     let mut from = at + 1;
     while j < m {
         let x = common_nodes::wide16(part[from]);
-        if may_share(held, x, groups) && rule_factor::asks(part, i, j, at) {
+        if may_share(held, x, groups) && rule_factor::applies(part, i, j, at) {
             return j;
         }
         from += common_nodes::wide16(sizes[from]);
@@ -140,7 +140,7 @@ fn first_tried(part: &[u16], i: usize) -> usize
     let m = common_nodes::arity_of(common_nodes::wide16(part[1 + i]));
     let mut j = 0;
     while j <= m {
-        if rule_factor::asks(part, i, j, 1 + i) {
+        if rule_factor::applies(part, i, j, 1 + i) {
             return j;
         }
         j += 1;

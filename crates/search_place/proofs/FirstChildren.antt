@@ -23,10 +23,10 @@ use Rattle.theory_reading.specs.Stretches.{Stretch, forest-in}
 use Rattle.theory_rewriting.specs.Heads.{Headed}
 use Rattle.theory_rewriting.specs.Children.{headed-group, group-children, group-long, child-room, child-later}
 use Rattle.rule_simplify.specs.Constants.{constantFor}
-use Rattle.rule_simplify.proofs.Simplifying.{asks-single, asks-constant}
+use Rattle.rule_simplify.proofs.Simplifying.{applies-single, applies-constant}
 use Rattle.rule_lift.specs.Asked.{othersLiteral}
-use Rattle.rule_lift.proofs.Lifting.{conjunction-there, asks-others}
-use Rattle.rule_factor.proofs.Asking.{asks-late}
+use Rattle.rule_lift.proofs.Lifting.{conjunction-there, applies-others}
+use Rattle.rule_factor.proofs.Asking.{applies-late}
 use Rattle.search_common.proofs.FactorChildren.{child-arity}
 use Rattle.search_sizes.specs.FirstApplying.{First-child, First-inner, first-here, first-past}
 use Rattle.search_place.proofs.SearchLevels.{j-found, j-none, i-found, i-none}
@@ -51,25 +51,25 @@ module _ {r : ℕ} {l : List ℕ} (s : Stretch l) (h : Headed r l) where
   pub single-first : 7 ≤ r → r ≤ 8 → children (getD l 0 0) ≡ 1 → First-child r 0 l
   single-first a b e =
       let count = group-children (headed-group s h) in
-      first-here (omega arith) (λ k m. absurd (omega arith)) (sym (asks-single s h 0 0 a b refl (omega (arith, count))) ∙ eq-eqb (size (h .children)) 1 (sym count ∙ e))
+      first-here (omega arith) (λ k m. absurd (omega arith)) (sym (applies-single s h 0 0 a b refl (omega (arith, count))) ∙ eq-eqb (size (h .children)) 1 (sym count ∙ e))
 
   pub single-none : 7 ≤ r → r ≤ 8 → {n : ℕ} → n ≡ children (getD l 0 0) → (n ≡ 1 → ⊥) → First-child r n l
   single-none a b c n =
       let count = group-children (headed-group s h) in
-      first-past c (λ k m. sym (asks-single s h k 0 a b refl (omega (arith, count))) ∙ ne-eqb (size (h .children)) 1 (λ e. n (c ∙ count ∙ e)))
+      first-past c (λ k m. sym (applies-single s h k 0 a b refl (omega (arith, count))) ∙ ne-eqb (size (h .children)) 1 (λ e. n (c ∙ count ∙ e)))
 
   -- Rules 1 to 6: whether child i is the constant that the rule looks for.
   pub constant-asked : r ≤ 6 → {i at x : ℕ} → i < children (getD l 0 0) → at ≡ child-at i l → x ≡ constantFor r → eqb (getD l at 0) x ≡ is-some (rewrite r i 0 (forest-in l))
   constant-asked low {i} {at} {x} lt here looked =
       ap (λ n. eqb (getD l n 0) x) here
       ∙ ap (eqb (getD l (child-at i l) 0)) looked
-      ∙ asks-constant s h i 0 low refl (omega (arith, group-children (headed-group s h)))
+      ∙ applies-constant s h i 0 low refl (omega (arith, group-children (headed-group s h)))
 
 -- Rule 14: the first inner child as the search's answer, and where child i stands too far on.
 module _ {l : List ℕ} (s : Stretch l) (h : Headed 14 l) (i : ℕ) {at : ℕ} (there : i < children (getD l 0 0)) (e : at ≡ child-at i l) where
   pub late-none : (at ≡ 1 + i → ⊥) → (p : ℕ) → none ≡ least-j 14 p i (forest-in l)
   late-none n p =
-      j-none 14 p (forest-in l) i (λ j m. sym (asks-late s h i j there (λ q. n (e ∙ q))))
+      j-none 14 p (forest-in l) i (λ j m. sym (applies-late s h i j there (λ q. n (e ∙ q))))
 
   module _ {j : ℕ} (w : First-inner 14 i j l) {m : ℕ} (count : m ≡ arity (getD l at 0)) where
     pub inner-found : j ≤ m → (p : ℕ) → some (redex 14 p i j) ≡ least-j 14 p i (forest-in l)
@@ -101,7 +101,7 @@ module _ {l : List ℕ} (s : Stretch l) (h : Headed 13 l) (i : ℕ) {at : ℕ} (
       let g = headed-group s h in
       let within : i < size (h .children) = omega (arith, group-children g) in
       let m = conjunction-there s h i 0 t (omega arith) (omega arith) in
-      let others = asks-others s h i 0 (m .1) refl refl within ∙ t in
+      let others = applies-others s h i 0 (m .1) refl refl within ∙ t in
       let room = child-room g i (omega arith) in
       let later = child-later g i (omega arith) in
       let before = sym (ap (all is-literal) (after-head i l (group-long g))) ∙ and-split (all is-literal (slice 1 (1 + i) l)) _ others .0 in

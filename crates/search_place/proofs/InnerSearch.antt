@@ -21,10 +21,10 @@ use Rattle.theory_reading.specs.Spans.{child-at}
 use Rattle.theory_reading.specs.Stretches.{Stretch, forest-in}
 use Rattle.theory_rewriting.specs.Heads.{Headed}
 use Rattle.theory_rewriting.specs.Children.{Group, headed-group, group-children, first-left, child-room, child-conjunction}
-use Rattle.theory_rewriting.specs.Turns.{family-at, family-asks}
+use Rattle.theory_rewriting.specs.Turns.{family-at, family-applies}
 use Rattle.rule_lift.specs.Asked.{literalChild}
 use Rattle.theory_rewriting.specs.Children.{conjunction-group}
-use Rattle.rule_lift.proofs.Lifting.{asks-nothing, asks-literal}
+use Rattle.rule_lift.proofs.Lifting.{applies-nothing, applies-literal}
 use Rattle.search_place.proofs.SearchLevels.{j-found, j-none}
 
 -- But for rules 11, 12 and 14 an inner child other than 0 gives nothing.
@@ -65,7 +65,7 @@ module _ {r : ℕ} {l : List ℕ} (s : Stretch l) (h : Headed r l) (i : ℕ) whe
     where
       go : (j : ℕ) → is-some (rewrite r i j (forest-in l)) ≡ false
       go zero = t
-      go (suc j) = family-asks h i (suc j) ∙ ap is-some (flat-family r flat (h .conn) i (suc j) (h .children) (λ e. omega arith))
+      go (suc j) = family-applies h i (suc j) ∙ ap is-some (flat-family r flat (h .conn) i (suc j) (h .children) (λ e. omega arith))
 
   -- Rules 11 and 12: child i begins at a place.
   module _ {at : ℕ} (a : 11 ≤ r) (b : r ≤ 12) (there : i < children (getD l 0 0)) (e : at ≡ child-at i l) where
@@ -77,7 +77,7 @@ module _ {r : ℕ} {l : List ℕ} (s : Stretch l) (h : Headed r l) (i : ℕ) whe
 
     pub lifts-nothing : (kind (getD l at 0) ≡ 3 → ⊥) → (p : ℕ) → none ≡ least-j r p i (forest-in l)
     lifts-nothing n p =
-        j-none r p (forest-in l) i (λ j m. sym (asks-nothing s h i j a (omega arith) (sym conjunction-test ∙ ne-eqb (kind (getD l at 0)) 3 n)))
+        j-none r p (forest-in l) i (λ j m. sym (applies-nothing s h i j a (omega arith) (sym conjunction-test ∙ ne-eqb (kind (getD l at 0)) 3 n)))
 
     module _ (conj : kind (getD l at 0) ≡ 3) where
       found : (m : Forest) × (conjunction-at (after i (h .children)) ≡ some m)
@@ -93,7 +93,7 @@ module _ {r : ℕ} {l : List ℕ} (s : Stretch l) (h : Headed r l) (i : ℕ) whe
       asked : (j : ℕ) → (ltb j (children (getD l at 0)) && is-literal (getD l (at + child-at j (drop at l)) 0)) ≡ is-some (rewrite r i j (forest-in l))
       unfolding literalChild
       asked j =
-          let here : literalChild j (drop at l) ≡ is-some (rewrite r i j (forest-in l)) = rw e (asks-literal s h i j (found .1) a b) in
+          let here : literalChild j (drop at l) ≡ is-some (rewrite r i j (forest-in l)) = rw e (applies-literal s h i j (found .1) a b) in
           rw (sym count, sym (getD-drop at l (child-at j (drop at l)) 0)) here
 
       -- Where inner child j stands, and what the rule asks of it.

@@ -71,7 +71,7 @@ fn least_merged(part: &[u16], i: usize, at: usize) -> Spot
     if at != 1 + i {
         return Spot::Nowhere;
     }
-    if rule_lift::asks(part, 13, i, 0, at) {
+    if rule_lift::applies(part, 13, i, 0, at) {
         return Spot::At(i, 0);
     }
     Spot::Nowhere

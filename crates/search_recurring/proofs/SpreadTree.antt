@@ -17,7 +17,7 @@ use Rattle.theory_rewriting.specs.Children.{Group, headed-group, group-head, gr
 use Rattle.search_sizes.specs.TreeHops.{span-tree}
 use Rattle.rule_spread.specs.Assigning.{spreads-from}
 use Rattle.theory_rewriting.specs.Children.{child-inside}
-use Rattle.rule_spread.proofs.Spreading.{asks-around}
+use Rattle.rule_spread.proofs.Spreading.{applies-around}
 use Rattle.search_sizes.specs.FirstApplying.{First-child, first-same}
 use Rattle.search_recurring.specs.Recurring.{Ends-at, First-again}
 
@@ -50,7 +50,7 @@ module _ {r : ℕ} {l : List ℕ} (s : Stretch l) (h : Headed r l) where
     -- The rule applies with the children that are literals whose option occurs again.
     module _ (lo : 9 ≤ r) (hi : r ≤ 10) where
       applies : (i : ℕ) → i < children (getD l 0 0) → spreads-from (child-at i l) end l ≡ is-some (rewrite r i 0 (forest-in l))
-      applies i m = rw end-place (asks-around s h i 0 lo hi refl (omega (arith, group-children group)))
+      applies i m = rw end-place (applies-around s h i 0 lo hi refl (omega (arith, group-children group)))
 
       pub again-applies : {i : ℕ} → First-again end i l → First-child r i l
       again-applies = first-same applies

@@ -16,7 +16,7 @@ ghost use Rattle.theory_rewriting.specs.Heads.{Headed, «rewritten-to»};
 ghost use Rattle.theory_forms.specs.Sheets.{Formed};
 
 // Whether the rule applies to the first tree of the stretch, whose head is right for it and whose child i stands at a place.
-pub fn asks(part: &[u16], rule: usize, i: usize, j: usize, at: usize) -> bool
+pub fn applies_headed(part: &[u16], rule: usize, i: usize, j: usize, at: usize) -> bool
     requires { ⌜ (1 ≤ rule) × (rule ≤ «last-rule») ⌝ }
     requires { ⌜ Stretch (now part) ⌝ }
     requires { ⌜ Headed rule (now part) ⌝ }
@@ -24,10 +24,10 @@ pub fn asks(part: &[u16], rule: usize, i: usize, j: usize, at: usize) -> bool
     ensures { λ r. ⌜ r ≡ «is-some» (rewrite rule i j («forest-in» (now (part .entry)))) ⌝ }
 {
     match rule {
-        1..=8 => rule_simplify::asks(part, rule, i, j, at),
-        9..=10 => rule_spread::asks(part, rule, i, j, at),
-        11..=13 => rule_lift::asks(part, rule, i, j, at),
-        _ => rule_factor::asks(part, i, j, at),
+        1..=8 => rule_simplify::applies(part, rule, i, j, at),
+        9..=10 => rule_spread::applies(part, rule, i, j, at),
+        11..=13 => rule_lift::applies(part, rule, i, j, at),
+        _ => rule_factor::applies(part, i, j, at),
     }
 }
 
@@ -62,7 +62,7 @@ pub fn applies(part: &[u16], rule: usize, i: u64, j: u64) -> bool
     }
     let child = i as usize;
     let at = common_nodes::child_at(part, child);
-    asks(part, rule, child, j as usize, at)
+    applies_headed(part, rule, child, j as usize, at)
 }
 
 // The step on a sheet on which it applies: from its place on the numbers are rewritten, and the used count follows, but for rules 9

@@ -298,8 +298,8 @@ module _ {r : ℕ} {l : List ℕ} (s : Stretch l) (h : Headed r l) (i : ℕ) whe
 
 -- What a rule does to a stretch, from what its family does to the group's children.
 module _ {r : ℕ} {l : List ℕ} (h : Headed r l) (i j : ℕ) where
-  pub headed-asks : is-some (rewrite r i j (forest-in l)) ≡ is-some (change (h .row .family) (h .conn) i j (h .children))
-  headed-asks =
+  pub headed-applies : is-some (rewrite r i j (forest-in l)) ≡ is-some (change (h .row .family) (h .conn) i j (h .children))
+  headed-applies =
       ap is-some (headed-rewrite r h i j) ∙ is-some-then (change (h .row .family) (h .conn) i j (h .children)) (λ g. g ⊕ h .rest)
 
   pub headed-turn : {g : Forest} {out : List ℕ} (z : ℕ) → change (h .row .family) (h .conn) i j (h .children) ≡ some g →

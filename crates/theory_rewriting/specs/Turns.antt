@@ -17,7 +17,7 @@ use Rattle.theory_forms.specs.Logic.{none-some, some-inj, is-some-of}
 use Rattle.theory_reading.specs.Flat.{spell}
 use Rattle.theory_reading.specs.Stretches.{forest-in}
 use Rattle.theory_rewriting.specs.Heads.{Headed, rewritten-to}
-use Rattle.theory_rewriting.specs.Children.{headed-asks, headed-turn}
+use Rattle.theory_rewriting.specs.Children.{headed-applies, headed-turn}
 
 -- The family of a rule.
 unfoldable pub family-at : ℕ → Family
@@ -69,12 +69,12 @@ module _ {r : ℕ} {l : List ℕ} (h : Headed r l) (i j : ℕ) where
   family-change : change (h .row .family) (h .conn) i j (h .children) ≡ change (family-at r) (h .conn) i j (h .children)
   family-change = ap (λ x. change x (h .conn) i j (h .children)) (family-of r (h .its-row))
 
-  pub family-asks : is-some (rewrite r i j (forest-in l)) ≡ is-some (change (family-at r) (h .conn) i j (h .children))
-  family-asks = headed-asks h i j ∙ ap is-some family-change
+  pub family-applies : is-some (rewrite r i j (forest-in l)) ≡ is-some (change (family-at r) (h .conn) i j (h .children))
+  family-applies = headed-applies h i j ∙ ap is-some family-change
 
   pub family-turn : {out : List ℕ} (z : ℕ) → is-some (rewrite r i j (forest-in l)) ≡ true →
       ((g : Forest) → change (family-at r) (h .conn) i j (h .children) ≡ some g → out ≡ spell (g ⊕ h .rest) z) →
       length out ≡ length l → out ≡ rewritten-to r i j l
   family-turn z t shape n =
-      let w = is-some-of (change (family-at r) (h .conn) i j (h .children)) (sym family-asks ∙ t) in
+      let w = is-some-of (change (family-at r) (h .conn) i j (h .children)) (sym family-applies ∙ t) in
       headed-turn h i j z (family-change ∙ w .1) (shape (w .0) (w .1)) n

@@ -41,14 +41,14 @@ slice-aggregate-marks : tie.Need-slice-aggregate-marks
 slice-aggregate-marks c = sym (lent-here (c .before))
 
 -- After the run: what is asked for before its answer is told, and what that answer is.
-told-asks :
+told-applies :
     (c : tie.After-run) →
     let word = c .before .before .before in
     let a = word .before .before .before .before .args in
     (book-refusal (a .book .now) ≡ none)
     × (length {A = ℕ} (take (word .word-at .result) (replicate most-options 0)) ≡ options-of (a .book .now))
     × (room ≤ length (a .out .now))
-told-asks c =
+told-applies c =
     let word = c .before .before .before in
     let start = word .before .before .before .before in
     (start .pre .0, lent-here word ∙ count-here word, start .pre .1)
@@ -76,10 +76,10 @@ told-here c ran said told =
     told ∙ ap (λ l. filled l (a .out .now)) same
 
 put-told-requires : tie.Need-put-told-requires
-put-told-requires c κs = told-asks (c .before .before .before .before .before .before .before)
+put-told-requires c κs = told-applies (c .before .before .before .before .before .before .before)
 
 put-told-requires-2 : tie.Need-put-told-requires-2
-put-told-requires-2 c κs = told-asks (c .before .before .before .before .before .before .before)
+put-told-requires-2 c κs = told-applies (c .before .before .before .before .before .before .before)
 
 returns : tie.Need-returns
 returns c =

@@ -112,8 +112,8 @@ wide16-requires-2 c κs = search needs
 may-share-requires : tie.Need-may-share-requires Inv-loop μ-loop
 may-share-requires c κs = start (c .before .before .before .before) .pre .1 .1 .1 .1 .0
 
-asks-requires : tie.Need-asks-requires Inv-loop μ-loop
-asks-requires c κs =
+applies-requires : tie.Need-applies-requires Inv-loop μ-loop
+applies-requires c κs =
     let s = start (c .before .before .before .before .before .before) in
     (s .pre .0, (s .pre .1 .0, s .pre .1 .1 .0))
 
@@ -121,7 +121,7 @@ returns-2 : tie.Need-returns-2 Inv-loop μ-loop
 returns-2 c =
     let n = c .before .before .before .before .before .before .before in
     let s = start (n .before) in
-    found-first (s .pre .0) (s .pre .1 .0) (s .args .i) (s .pre .1 .1 .0) (counted (n .before .before .before .before)) (n .loop .j) (n .loop .inv .0) (sym (c .before .asks .ensures) ∙ c .if4 .taken) (n .loop .inv .1 .before)
+    found-first (s .pre .0) (s .pre .1 .0) (s .args .i) (s .pre .1 .1 .0) (counted (n .before .before .before .before)) (n .loop .j) (n .loop .inv .0) (sym (c .before .applies .ensures) ∙ c .if4 .taken) (n .loop .inv .1 .before)
 
 mul-wide16-3 : tie.Need-mul-wide16-3 Inv-loop μ-loop
 mul-wide16-3 c = omega (arith, inside (c .before .before .before .before))
@@ -192,7 +192,7 @@ first-sifted-spec =
     shared-slice-read-wide16-2
     wide16-requires-2
     may-share-requires
-    asks-requires
+    applies-requires
     returns-2
     mul-wide16-3
     shared-slice-read-wide16-3

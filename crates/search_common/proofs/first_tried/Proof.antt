@@ -48,17 +48,17 @@ arity-of-requires c κs = search needs
 loop-holds : tie.Need-loop-holds Inv-loop μ-loop
 loop-holds c = (omega arith, λ k l. absurd (omega arith))
 
-add-asks : tie.Need-add-asks Inv-loop μ-loop
-add-asks c = omega (arith, child (c .before .before .before .before .before .before))
+add-applies : tie.Need-add-applies Inv-loop μ-loop
+add-applies c = omega (arith, child (c .before .before .before .before .before .before))
 
-asks-requires : tie.Need-asks-requires Inv-loop μ-loop
-asks-requires c κs = c .before .before .before .before .before .before .pre
+applies-requires : tie.Need-applies-requires Inv-loop μ-loop
+applies-requires c κs = c .before .before .before .before .before .before .pre
 
 returns : tie.Need-returns Inv-loop μ-loop
 returns c =
     let n = c .before .before .before in
     let s = n .before .before .before .before .before in
-    found-first (s .pre .0) (s .pre .1 .0) (s .args .i) (s .pre .1 .1) (counted (n .before)) (n .loop .j) (omega (arith, c .before .before .loop-test .taken)) (sym (c .before .asks .ensures) ∙ c .if1 .taken) (n .loop .inv .1)
+    found-first (s .pre .0) (s .pre .1 .0) (s .args .i) (s .pre .1 .1) (counted (n .before)) (n .loop .j) (omega (arith, c .before .before .loop-test .taken)) (sym (c .before .applies .ensures) ∙ c .if1 .taken) (n .loop .inv .1)
 
 add-j : tie.Need-add-j Inv-loop μ-loop
 add-j c = let n = c .before .before .before in omega (arith, n .before .arity-of .ensures .1)
@@ -69,7 +69,7 @@ loop-less c = omega arith
 loop-again : tie.Need-loop-again Inv-loop μ-loop
 loop-again c =
     let n = c .before .before .before in
-    (omega arith, below-more _ (n .loop .j) (n .loop .inv .1) (sym (c .before .asks .ensures) ∙ c .if1 .left))
+    (omega arith, below-more _ (n .loop .j) (n .loop .inv .1) (sym (c .before .applies .ensures) ∙ c .if1 .left))
 
 add-result : tie.Need-add-result Inv-loop μ-loop
 add-result c = omega (arith, c .before .before .arity-of .ensures .1)
@@ -92,8 +92,8 @@ first-tried-spec =
     wide16-requires
     arity-of-requires
     loop-holds
-    add-asks
-    asks-requires
+    add-applies
+    applies-requires
     returns
     add-j
     loop-less

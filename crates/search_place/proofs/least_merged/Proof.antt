@@ -19,20 +19,20 @@ returns c =
     let b = c .before .before in
     merged-late (b .pre .0) (b .pre .1 .0) (b .args .i) (b .pre .1 .1 .0) (b .pre .1 .1 .1) (c .if1 .taken)
 
-asks-requires : tie.Need-asks-requires
-asks-requires c κs =
+applies-requires : tie.Need-applies-requires
+applies-requires c κs =
     let b = c .before .before in
     ((omega arith, omega arith), (b .pre .0, (b .pre .1 .0, b .pre .1 .1)))
 
 returns-2 : tie.Need-returns-2
 returns-2 c =
     let b = c .before .before .before .before in
-    flat-found (b .pre .0) (b .pre .1 .0) (b .args .i) (inr refl) (sym (c .before .asks .ensures) ∙ c .if2 .taken)
+    flat-found (b .pre .0) (b .pre .1 .0) (b .args .i) (inr refl) (sym (c .before .applies .ensures) ∙ c .if2 .taken)
 
 returns-3 : tie.Need-returns-3
 returns-3 c =
     let b = c .before .before .before .before in
-    flat-none (b .pre .0) (b .pre .1 .0) (b .args .i) (inr refl) (sym (c .before .asks .ensures) ∙ c .if2 .left)
+    flat-none (b .pre .0) (b .pre .1 .0) (b .args .i) (inr refl) (sym (c .before .applies .ensures) ∙ c .if2 .left)
 
 pub least-merged-spec : {M : Type 1} → statement M
-least-merged-spec = tie.close (tie.spec add-if1 returns asks-requires returns-2 returns-3)
+least-merged-spec = tie.close (tie.spec add-if1 returns applies-requires returns-2 returns-3)

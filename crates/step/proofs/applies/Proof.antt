@@ -48,8 +48,8 @@ child-at-requires c κs =
     let g = headed-group (a .pre .1) (right (c .before .before .before .before)) in
     (omega arith, a .pre .1 .short, omega (arith, counted (c .before), group-children g, group-few g))
 
-asks-requires : tie.Need-asks-requires
-asks-requires c κs =
+applies-headed-requires : tie.Need-applies-headed-requires
+applies-headed-requires c κs =
     let e = c .before .before .before .before .before in
     let a = e .before .before .before in
     ((a .pre .0 .0, a .pre .0 .1), (a .pre .1, (right e, (omega (arith, counted (c .before .before)), c .child-at .ensures .0))))
@@ -68,5 +68,5 @@ applies-spec =
     children-of-requires
     returns-2
     child-at-requires
-    asks-requires
+    applies-headed-requires
     returns-3)

@@ -1,4 +1,4 @@
--- `rule_simplify::asks` meets its contract: the number of child i is the constant that the rule looks for, or the head counts one child.
+-- `rule_simplify::applies` meets its contract: the number of child i is the constant that the rule looks for, or the head counts one child.
 use mathlib.Core.Logic.{⊎-elim}
 use mathlib.Core.Path.{ap, _∙_}
 use Prim.Native.Nat.{_≤_}
@@ -6,9 +6,9 @@ use native.Mathlib.Omega.{arith}
 use borrow.Author.Needs.{needs}
 use Rattle.model.specs.Code.{children}
 use Rattle.theory_rewriting.specs.Children.{Child, asked-child}
-use Rattle.rule_simplify.proofs.Simplifying.{asks-nothing, asks-single, asks-constant}
-use Rattle.rule_simplify.proofs.asks.Statement.{statement}
-use Rattle.rule_simplify.proofs.asks.Tie as tie
+use Rattle.rule_simplify.proofs.Simplifying.{applies-nothing, applies-single, applies-constant}
+use Rattle.rule_simplify.proofs.applies.Statement.{statement}
+use Rattle.rule_simplify.proofs.applies.Tie as tie
 
 child : (c : tie.Start) → Child (c .args .part .now) (c .pre .1 .1 .0 .children) (c .args .i) (c .args .at)
 child c = asked-child (c .pre .1 .0) (c .pre .1 .1 .0) (c .pre .1 .1 .1)
@@ -16,7 +16,7 @@ child c = asked-child (c .pre .1 .0) (c .pre .1 .1 .0) (c .pre .1 .1 .1)
 returns : tie.Need-returns
 returns c =
     let a = c .before .before in
-    asks-nothing (a .pre .1 .0) (a .pre .1 .1 .0) (a .args .i) (a .args .j) (a .pre .0 .1) (c .if1 .taken)
+    applies-nothing (a .pre .1 .0) (a .pre .1 .1 .0) (a .args .i) (a .args .j) (a .pre .0 .1) (c .if1 .taken)
 
 mul-result : tie.Need-mul-result
 mul-result c = let k = child (c .before .before .before .before) in omega arith
@@ -40,7 +40,7 @@ returns-2 : tie.Need-returns-2
 returns-2 c =
     let a = c .before .before .before .before .before .before in
     rw (a .pre .1 .1 .1 .1, c .constant-for .ensures)
-    (asks-constant (a .pre .1 .0) (a .pre .1 .1 .0) (a .args .i) (a .args .j) (omega arith) (omega arith) (child a .there))
+    (applies-constant (a .pre .1 .0) (a .pre .1 .1 .0) (a .args .i) (a .args .j) (omega arith) (omega arith) (child a .there))
 
 returns-3 : tie.Need-returns-3
 returns-3 c =
@@ -48,10 +48,10 @@ returns-3 c =
     let a = d .before .before .before in
     let late : 7 ≤ a .args .rule = ⊎-elim (λ w. omega arith) (λ w. omega arith) (d .if2 .came) in
     rw (c .children-of .ensures ∙ ap children (c .before .wide16 .ensures .0) ∙ child a .counted)
-    (asks-single (a .pre .1 .0) (a .pre .1 .1 .0) (a .args .i) (a .args .j) late (a .pre .0 .1) (omega arith) (child a .there))
+    (applies-single (a .pre .1 .0) (a .pre .1 .1 .0) (a .args .i) (a .args .j) late (a .pre .0 .1) (omega arith) (child a .there))
 
-pub asks-spec : {M : Type 1} → statement M
-asks-spec =
+pub applies-spec : {M : Type 1} → statement M
+applies-spec =
     tie.close
     (tie.spec
     returns

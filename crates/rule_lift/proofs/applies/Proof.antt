@@ -1,4 +1,4 @@
--- `rule_lift::asks` meets its contract: the number of child i says whether it is a conjunction, and the others what the rule asks besides.
+-- `rule_lift::applies` meets its contract: the number of child i says whether it is a conjunction, and the others what the rule asks besides.
 use mathlib.Core.Logic.{⊎-elim}
 use mathlib.Core.Option.{some}
 use mathlib.Core.Path.{_≡_, sym, ap, _∙_}
@@ -15,9 +15,9 @@ use Rattle.model.specs.Forest.{Forest, size, after, conjunction-at}
 use Rattle.theory_forms.specs.Logic.{is-some-of}
 use Rattle.theory_reading.specs.Spans.{child-at}
 use Rattle.theory_rewriting.specs.Children.{Child, asked-child, headed-group, conjunction-group, group-children, group-long, child-room, child-conjunction}
-use Rattle.rule_lift.proofs.Lifting.{asks-nothing, asks-literal, asks-others-none, asks-others}
-use Rattle.rule_lift.proofs.asks.Statement.{statement}
-use Rattle.rule_lift.proofs.asks.Tie as tie
+use Rattle.rule_lift.proofs.Lifting.{applies-nothing, applies-literal, applies-others-none, applies-others}
+use Rattle.rule_lift.proofs.applies.Statement.{statement}
+use Rattle.rule_lift.proofs.applies.Tie as tie
 
 -- Child i of the group that the stretch begins with.
 child : (c : tie.Start) → Child (c .args .part .now) (c .pre .1 .1 .0 .children) (c .args .i) (c .args .at)
@@ -60,7 +60,7 @@ returns : tie.Need-returns
 returns c =
     let k = c .before in
     let a = k .before .before .before .before in
-    asks-nothing (a .pre .1 .0) (a .pre .1 .1 .0) (a .args .i) (a .args .j) (a .pre .0 .0) (a .pre .0 .1)
+    applies-nothing (a .pre .1 .0) (a .pre .1 .1 .0) (a .args .i) (a .args .j) (a .pre .0 .0) (a .pre .0 .1)
     (sym (is-conjunction k) ∙ ne-eqb (k .kind-of .result) 3 (c .if1 .taken))
 
 mul-is-literal-child : tie.Need-mul-is-literal-child
@@ -115,7 +115,7 @@ returns-2 c =
     let a = start e in
     c .is-literal-child .ensures
     ∙ rw (lent-at (a .args .at) (a .args .part .now) (a .pre .1 .1 .1 .1))
-    (asks-literal (a .pre .1 .0) (a .pre .1 .1 .0) (a .args .i) (a .args .j) (conjunction e .1) (omega arith) (omega arith))
+    (applies-literal (a .pre .1 .0) (a .pre .1 .1 .0) (a .args .i) (a .args .j) (conjunction e .1) (omega arith) (omega arith))
 
 returns-3 : tie.Need-returns-3
 returns-3 c =
@@ -124,7 +124,7 @@ returns-3 c =
     let a = start (d .before) in
     c .are-others-literals .ensures
     ∙ rw (counted v)
-    (asks-others (a .pre .1 .0) (a .pre .1 .1 .0) (a .args .i) (a .args .j) (conjunction (d .before) .1) (last d) (omega arith)
+    (applies-others (a .pre .1 .0) (a .pre .1 .1 .0) (a .args .i) (a .args .j) (conjunction (d .before) .1) (last d) (omega arith)
     (child a .there))
 
 returns-4 : tie.Need-returns-4
@@ -132,10 +132,10 @@ returns-4 c =
     let d = c .before .before .before .before in
     let a = start (d .before) in
     ne-eqb (a .args .j) 0 (c .if4 .left)
-    ∙ asks-others-none (a .pre .1 .0) (a .pre .1 .1 .0) (a .args .i) (a .args .j) (conjunction (d .before) .1) (last d) (c .if4 .left)
+    ∙ applies-others-none (a .pre .1 .0) (a .pre .1 .1 .0) (a .args .i) (a .args .j) (conjunction (d .before) .1) (last d) (c .if4 .left)
 
-pub asks-spec : {M : Type 1} → statement M
-asks-spec =
+pub applies-spec : {M : Type 1} → statement M
+applies-spec =
     tie.close
     (tie.spec
     mul-wide16

@@ -1,4 +1,4 @@
--- `rule_spread::asks` meets its contract: what stands at the child, and around it, is read off the numbers.
+-- `rule_spread::applies` meets its contract: what stands at the child, and around it, is read off the numbers.
 use mathlib.Core.Path.{_≡_, ap, ap₂, _∙_}
 use native.Mathlib.Omega.{arith}
 use borrow.Author.Needs.{needs}
@@ -7,9 +7,9 @@ use Rattle.model.specs.Forest.{size}
 use Rattle.theory_reading.specs.Spans.{child-at}
 use Rattle.theory_rewriting.specs.Children.{Child, asked-child}
 use Rattle.rule_spread.specs.Assigning.{spreads-from}
-use Rattle.rule_spread.proofs.Spreading.{asks-none, asks-around}
-use Rattle.rule_spread.proofs.asks.Statement.{statement}
-use Rattle.rule_spread.proofs.asks.Tie as tie
+use Rattle.rule_spread.proofs.Spreading.{applies-none, applies-around}
+use Rattle.rule_spread.proofs.applies.Statement.{statement}
+use Rattle.rule_spread.proofs.applies.Tie as tie
 
 child : (c : tie.Start) → Child (c .args .part .now) (c .pre .1 .1 .0 .children) (c .args .i) (c .args .at)
 child c = asked-child (c .pre .1 .0) (c .pre .1 .1 .0) (c .pre .1 .1 .1)
@@ -28,7 +28,7 @@ ended c = c .child-at .ensures .0 ∙ ap (λ n. child-at n (start (c .before) .a
 returns : tie.Need-returns
 returns c =
     let a = c .before .before in
-    asks-none (a .pre .1 .0) (a .pre .1 .1 .0) (a .args .i) (a .args .j) (a .pre .0 .0) (a .pre .0 .1) (c .if1 .taken)
+    applies-none (a .pre .1 .0) (a .pre .1 .1 .0) (a .args .i) (a .args .j) (a .pre .0 .0) (a .pre .0 .1) (c .if1 .taken)
 
 shared-slice-read-wide16 : tie.Need-shared-slice-read-wide16
 shared-slice-read-wide16 c = let k = child (c .before .before .before) in omega arith
@@ -51,10 +51,10 @@ returns-2 c =
     let a = start (e .before) in
     c .occurs-around .ensures
     ∙ ap₂ (λ p q. spreads-from p q (a .args .part .now)) (a .pre .1 .1 .1 .1) (ended e)
-    ∙ asks-around (a .pre .1 .0) (a .pre .1 .1 .0) (a .args .i) (a .args .j) (a .pre .0 .0) (a .pre .0 .1) (omega arith) (child a .there)
+    ∙ applies-around (a .pre .1 .0) (a .pre .1 .1 .0) (a .args .i) (a .args .j) (a .pre .0 .0) (a .pre .0 .1) (omega arith) (child a .there)
 
-pub asks-spec : {M : Type 1} → statement M
-asks-spec =
+pub applies-spec : {M : Type 1} → statement M
+applies-spec =
     tie.close
     (tie.spec
     returns

@@ -1,4 +1,4 @@
--- `rule_factor::asks` meets its contract, test by test.
+-- `rule_factor::applies` meets its contract, test by test.
 use mathlib.Core.Path.{_≡_, sym, ap, _∙_}
 use native.Mathlib.Omega.{arith}
 use borrow.Author.Needs.{needs}
@@ -9,9 +9,9 @@ use Rattle.model.specs.Code.{kind, children}
 use Rattle.theory_reading.specs.Spans.{child-at}
 use Rattle.theory_rewriting.specs.Children.{Child, asked-child}
 use Rattle.rule_factor.specs.Walks.{unit-of}
-use Rattle.rule_factor.proofs.Asking.{conjunction-room, conjunction-there, asks-late, asks-other, asks-nothing, asks-shared}
-use Rattle.rule_factor.proofs.asks.Statement.{statement}
-use Rattle.rule_factor.proofs.asks.Tie as tie
+use Rattle.rule_factor.proofs.Asking.{conjunction-room, conjunction-there, applies-late, applies-other, applies-nothing, applies-shared}
+use Rattle.rule_factor.proofs.applies.Statement.{statement}
+use Rattle.rule_factor.proofs.applies.Tie as tie
 
 -- Child i of the group that the stretch begins with.
 child : (c : tie.Start) → Child (c .args .part .now) (c .pre .1 .0 .children) (c .args .i) (c .args .at)
@@ -23,7 +23,7 @@ add-if1 c = let k = child (c .before) in omega arith
 returns : tie.Need-returns
 returns c =
     let s = c .before .before in
-    asks-late (s .pre .0) (s .pre .1 .0) (s .args .i) (s .args .j) (s .pre .1 .1 .0) (λ e. c .if1 .taken (s .pre .1 .1 .1 ∙ e))
+    applies-late (s .pre .0) (s .pre .1 .0) (s .args .i) (s .args .j) (s .pre .1 .1 .0) (λ e. c .if1 .taken (s .pre .1 .1 .1 ∙ e))
 
 mul-wide16 : tie.Need-mul-wide16
 mul-wide16 c = let k = child (c .before .before) in omega arith
@@ -53,7 +53,7 @@ conjunction c = sym (kinded (c .before)) ∙ c .if2 .left
 returns-2 : tie.Need-returns-2
 returns-2 c =
     let s = start (c .before) in
-    asks-other (s .pre .0) (s .pre .1 .0) (s .args .i) (s .args .j) (s .pre .1 .1 .0) (λ e. c .if2 .taken (kinded (c .before) ∙ e))
+    applies-other (s .pre .0) (s .pre .1 .0) (s .args .i) (s .args .j) (s .pre .1 .1 .0) (λ e. c .if2 .taken (kinded (c .before) ∙ e))
 
 mul-unit-of : tie.Need-mul-unit-of
 mul-unit-of c = let k = child (start (c .before)) in omega arith
@@ -88,7 +88,7 @@ found c = let s = begun c in rw (lent-at (s .args .at) (s .args .part .now) (s .
 returns-3 : tie.Need-returns-3
 returns-3 c =
     let s = begun (c .before) in
-    asks-nothing (s .pre .0) (s .pre .1 .0) (s .args .i) (s .args .j) (sym (found (c .before)) ∙ c .if3 .taken)
+    applies-nothing (s .pre .0) (s .pre .1 .0) (s .args .i) (s .args .j) (sym (found (c .before)) ∙ c .if3 .taken)
 
 shared-slice-read-wide16-2 : tie.Need-shared-slice-read-wide16-2
 shared-slice-read-wide16-2 c = let k = child (begun (c .before .before)) in omega arith
@@ -128,12 +128,12 @@ returns-4 c =
     let s = begun u in
     let l = s .args .part .now in
     ap (leb 2) (rw (found u, counted (c .before .before), lent-part 1 l) at (c .sharing-groups .ensures))
-    ∙ asks-shared (s .pre .0) (s .pre .1 .0) (s .args .i) (s .args .j) (s .pre .1 .1 .0) (conjunction e)
+    ∙ applies-shared (s .pre .0) (s .pre .1 .0) (s .args .i) (s .args .j) (s .pre .1 .1 .0) (conjunction e)
     (sym (s .pre .1 .1 .1) ∙ e .before .before .before .before .if1 .left)
     (λ q. c .before .before .before .before .before .if3 .left (found u ∙ q))
 
-pub asks-spec : {M : Type 1} → statement M
-asks-spec =
+pub applies-spec : {M : Type 1} → statement M
+applies-spec =
     tie.close
     (tie.spec
     add-if1
