@@ -39,9 +39,6 @@ mul-word-at c = omega arith
 word-at-requires : tie.Need-word-at-requires Inv-loop μ-loop
 word-at-requires c κs = omega arith
 
-is-literal-requires : tie.Need-is-literal-requires Inv-loop μ-loop
-is-literal-requires c κs = search needs
-
 add-sum : tie.Need-add-sum Inv-loop μ-loop
 add-sum c = omega arith
 
@@ -78,7 +75,7 @@ count-literals-spec =
     loop-holds
     mul-word-at
     word-at-requires
-    is-literal-requires
+    (λ c κs. search needs)
     add-sum
     add-i
     loop-less

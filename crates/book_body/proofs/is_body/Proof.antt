@@ -57,9 +57,6 @@ loop-again c =
     let back : l .i - 1 + 1 ≡ l .i = omega arith in
     (omega arith, c .join .ensures ∙ rw (l .inv .1, c .before .word-at .ensures) (sym (more (a .n) (a .count) (l .i - 1) (a .s .now) (omega arith) ∙ rw back)))
 
-enum-known-trees : tie.Need-enum-known-trees Inv-loop μ-loop
-enum-known-trees c = search needs
-
 enum-told : tie.Need-enum-told Inv-loop μ-loop
 enum-told c = search needs
 
@@ -92,7 +89,7 @@ is-body-spec =
     join-requires
     loop-less
     loop-again
-    enum-known-trees
+    (λ c. search needs)
     enum-told
     returns
     returns-2)

@@ -10,15 +10,6 @@ use Rattle.theory_formats.specs.Bytes.{length-words}
 use Rattle.book_bytes.proofs.fill_numbers.Statement.{statement}
 use Rattle.book_bytes.proofs.fill_numbers.Tie as tie
 
-put-numbers-requires : tie.Need-put-numbers-requires
-put-numbers-requires c κs = search needs
-
-clear-from-requires : tie.Need-clear-from-requires
-clear-from-requires c κs = search needs
-
-same-length : tie.Need-same-length
-same-length c = search needs
-
 returns : tie.Need-returns
 returns c =
     let p = c .before .before .before .before .before .before in
@@ -29,4 +20,4 @@ returns c =
     c .before .before .clear-from .ensures ∙ ap₂ (λ xs m. xs ++ replicate (m - n) 0) front (put .kept .1 .1 .0)
 
 pub fill-numbers-spec : {M : Type 1} → statement M
-fill-numbers-spec = tie.close (tie.spec put-numbers-requires clear-from-requires same-length returns)
+fill-numbers-spec = tie.close (tie.spec (λ c κs. search needs) (λ c κs. search needs) (λ c. search needs) returns)

@@ -23,27 +23,6 @@ loop-holds : tie.Need-loop-holds Inv-loop μ-loop
 unfolding bytes-of
 loop-holds c = (omega arith, refl, refl)
 
-mul-put-word : tie.Need-mul-put-word Inv-loop μ-loop
-mul-put-word c = search needs
-
-mul-wide16 : tie.Need-mul-wide16 Inv-loop μ-loop
-mul-wide16 c = search needs
-
-shared-slice-read-wide16 : tie.Need-shared-slice-read-wide16 Inv-loop μ-loop
-shared-slice-read-wide16 c = search needs
-
-wide16-requires : tie.Need-wide16-requires Inv-loop μ-loop
-wide16-requires c κs = search needs
-
-put-word-requires : tie.Need-put-word-requires Inv-loop μ-loop
-put-word-requires c κs = search needs
-
-add-i : tie.Need-add-i Inv-loop μ-loop
-add-i c = search needs
-
-loop-less : tie.Need-loop-less Inv-loop μ-loop
-loop-less c = search needs
-
 loop-again : tie.Need-loop-again Inv-loop μ-loop
 loop-again c =
     let n = c .before .before .before .before .before .before .before in
@@ -59,9 +38,6 @@ loop-again c =
       put .ensures ∙ rw (wide .ensures .0, two, add-one i, take-suc s i 0) (bytes-more (take i s) old (getD s i 0) (omega (arith, length-take-le i s (omega arith))) (omega arith) (n .loop .inv .2)),
     )
 
-same-length : tie.Need-same-length Inv-loop μ-loop
-same-length c = search needs
-
 returns : tie.Need-returns Inv-loop μ-loop
 returns c =
     let e : c .before .loop .i ≡ c .before .before .before .before .args .count = omega arith in cc
@@ -73,13 +49,13 @@ put-bytes-spec =
     Inv-loop
     μ-loop
     loop-holds
-    mul-put-word
-    mul-wide16
-    shared-slice-read-wide16
-    wide16-requires
-    put-word-requires
-    add-i
-    loop-less
+    (λ c. search needs)
+    (λ c. search needs)
+    (λ c. search needs)
+    (λ c κs. search needs)
+    (λ c κs. search needs)
+    (λ c. search needs)
+    (λ c. search needs)
     loop-again
-    same-length
+    (λ c. search needs)
     returns)

@@ -29,45 +29,6 @@ loop-holds : tie.Need-loop-holds Inv-loop μ-loop
 unfolding bytes-of lined-up spans total
 loop-holds c = (omega arith, omega arith, refl, refl, refl)
 
-mul-span-of : tie.Need-mul-span-of Inv-loop μ-loop
-mul-span-of c = search needs
-
-sub-span-of : tie.Need-sub-span-of Inv-loop μ-loop
-sub-span-of c = search needs
-
-part-span-of-start : tie.Need-part-span-of-start Inv-loop μ-loop
-part-span-of-start c = search needs
-
-part-span-of-end : tie.Need-part-span-of-end Inv-loop μ-loop
-part-span-of-end c = search needs
-
-span-of-requires : tie.Need-span-of-requires Inv-loop μ-loop
-span-of-requires c κs = search needs
-
-mul-put-word : tie.Need-mul-put-word Inv-loop μ-loop
-mul-put-word c = search needs
-
-put-word-requires : tie.Need-put-word-requires Inv-loop μ-loop
-put-word-requires c κs = search needs
-
-mul-put-word-2 : tie.Need-mul-put-word-2 Inv-loop μ-loop
-mul-put-word-2 c = search needs
-
-add-put-word : tie.Need-add-put-word Inv-loop μ-loop
-add-put-word c = search needs
-
-put-word-requires-2 : tie.Need-put-word-requires-2 Inv-loop μ-loop
-put-word-requires-2 c κs = search needs
-
-add-at : tie.Need-add-at Inv-loop μ-loop
-add-at c = search needs
-
-add-k : tie.Need-add-k Inv-loop μ-loop
-add-k c = search needs
-
-loop-less : tie.Need-loop-less Inv-loop μ-loop
-loop-less c = search needs
-
 loop-again : tie.Need-loop-again Inv-loop μ-loop
 loop-again c =
     let f = c .before .before .before .before .before .before in
@@ -87,9 +48,6 @@ loop-again c =
       contents-more s k here long old (omega arith) (n .loop .inv .4) (first .ensures) (second .ensures),
     )
 
-same-length : tie.Need-same-length Inv-loop μ-loop
-same-length c = search needs
-
 returns : tie.Need-returns Inv-loop μ-loop
 returns c =
     let e : c .before .loop .k ≡ c .before .before .before .before .args .m = omega arith in cc
@@ -101,19 +59,19 @@ put-contents-spec =
     Inv-loop
     μ-loop
     loop-holds
-    mul-span-of
-    sub-span-of
-    part-span-of-start
-    part-span-of-end
-    span-of-requires
-    mul-put-word
-    put-word-requires
-    mul-put-word-2
-    add-put-word
-    put-word-requires-2
-    add-at
-    add-k
-    loop-less
+    (λ c. search needs)
+    (λ c. search needs)
+    (λ c. search needs)
+    (λ c. search needs)
+    (λ c κs. search needs)
+    (λ c. search needs)
+    (λ c κs. search needs)
+    (λ c. search needs)
+    (λ c. search needs)
+    (λ c κs. search needs)
+    (λ c. search needs)
+    (λ c. search needs)
+    (λ c. search needs)
     loop-again
-    same-length
+    (λ c. search needs)
     returns)

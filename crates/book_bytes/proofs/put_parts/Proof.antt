@@ -12,24 +12,6 @@ use Rattle.common_lists.proofs.Lent.{lent-start}
 use Rattle.book_bytes.proofs.put_parts.Statement.{statement}
 use Rattle.book_bytes.proofs.put_parts.Tie as tie
 
-copy-requires : tie.Need-copy-requires
-copy-requires c κs = search needs
-
-sub-put-trees : tie.Need-sub-put-trees
-sub-put-trees c = search needs
-
-part-put-trees-start : tie.Need-part-put-trees-start
-part-put-trees-start c = search needs
-
-part-put-trees-end : tie.Need-part-put-trees-end
-part-put-trees-end c = search needs
-
-put-trees-requires : tie.Need-put-trees-requires
-put-trees-requires c κs = search needs
-
-same-length : tie.Need-same-length
-same-length c = search needs
-
 returns : tie.Need-returns
 returns c =
     let n = c .before .before .before .before .before .before in
@@ -47,10 +29,10 @@ pub put-parts-spec : {M : Type 1} → statement M
 put-parts-spec =
     tie.close
     (tie.spec
-    copy-requires
-    sub-put-trees
-    part-put-trees-start
-    part-put-trees-end
-    put-trees-requires
-    same-length
+    (λ c κs. search needs)
+    (λ c. search needs)
+    (λ c. search needs)
+    (λ c. search needs)
+    (λ c κs. search needs)
+    (λ c. search needs)
     returns)

@@ -12,27 +12,6 @@ use Rattle.book_bytes.proofs.TreeContents.{length-contents}
 use Rattle.book_bytes.proofs.put_trees.Statement.{statement}
 use Rattle.book_bytes.proofs.put_trees.Tie as tie
 
-put-contents-requires : tie.Need-put-contents-requires
-put-contents-requires c κs = search needs
-
-mul-bodies : tie.Need-mul-bodies
-mul-bodies c = search needs
-
-sub-put-bytes : tie.Need-sub-put-bytes
-sub-put-bytes c = search needs
-
-part-put-bytes-start : tie.Need-part-put-bytes-start
-part-put-bytes-start c = search needs
-
-part-put-bytes-end : tie.Need-part-put-bytes-end
-part-put-bytes-end c = search needs
-
-put-bytes-requires : tie.Need-put-bytes-requires
-put-bytes-requires c κs = search needs
-
-same-length : tie.Need-same-length
-same-length c = search needs
-
 returns : tie.Need-returns
 returns c =
     let n = c .before .before .before .before .before .before in
@@ -49,11 +28,11 @@ pub put-trees-spec : {M : Type 1} → statement M
 put-trees-spec =
     tie.close
     (tie.spec
-    put-contents-requires
-    mul-bodies
-    sub-put-bytes
-    part-put-bytes-start
-    part-put-bytes-end
-    put-bytes-requires
-    same-length
+    (λ c κs. search needs)
+    (λ c. search needs)
+    (λ c. search needs)
+    (λ c. search needs)
+    (λ c. search needs)
+    (λ c κs. search needs)
+    (λ c. search needs)
     returns)

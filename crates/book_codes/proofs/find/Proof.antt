@@ -52,9 +52,6 @@ part-is-spelled-start c = omega arith
 part-is-spelled-end : tie.Need-part-is-spelled-end Inv-loop μ-loop
 part-is-spelled-end c = omega arith
 
-is-spelled-requires : tie.Need-is-spelled-requires Inv-loop μ-loop
-is-spelled-requires c κs = search needs
-
 turn : (c : tie.In-loop Inv-loop μ-loop) → let a = c .before .before .before .before .args in option-of-code (a .given .now) 0 (pieces code-length (a .n) (a .s .now)) ≡ found-by (a .given .now) (a .n) (a .s .now) (c .before .loop .i)
 turn c = let n = c .before in let a = n .before .before .before .args in n .loop .inv .1 ∙ more (a .given .now) (a .n) (a .s .now) (n .loop .i) (omega arith)
 
@@ -89,7 +86,7 @@ find-spec =
     sub-is-spelled
     part-is-spelled-start
     part-is-spelled-end
-    is-spelled-requires
+    (λ c κs. search needs)
     returns
     add-i
     loop-less

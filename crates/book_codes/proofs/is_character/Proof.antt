@@ -7,15 +7,6 @@ use Rattle.model.specs.Book.{between, character}
 use Rattle.book_codes.proofs.is_character.Statement.{statement}
 use Rattle.book_codes.proofs.is_character.Tie as tie
 
-is-between-requires : tie.Need-is-between-requires
-is-between-requires c κs = search needs
-
-is-between-requires-2 : tie.Need-is-between-requires-2
-is-between-requires-2 c κs = search needs
-
-is-between-requires-3 : tie.Need-is-between-requires-3
-is-between-requires-3 c κs = search needs
-
 returns : tie.Need-returns
 unfolding character
 returns c = rw (← c .before .is-between .ensures, c .if1 .taken)
@@ -43,9 +34,9 @@ pub is-character-spec : {M : Type 1} → statement M
 is-character-spec =
     tie.close
     (tie.spec
-    is-between-requires
-    is-between-requires-2
-    is-between-requires-3
+    (λ c κs. search needs)
+    (λ c κs. search needs)
+    (λ c κs. search needs)
     returns
     returns-2
     returns-3

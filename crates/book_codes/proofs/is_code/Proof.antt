@@ -53,9 +53,6 @@ turn c = let n = c .before in n .loop .inv .1 ∙ more (n .before .before .befor
 shared-slice-read-is-character : tie.Need-shared-slice-read-is-character Inv-loop μ-loop
 shared-slice-read-is-character c = omega arith
 
-is-character-requires : tie.Need-is-character-requires Inv-loop μ-loop
-is-character-requires c κs = search needs
-
 returns : tie.Need-returns Inv-loop μ-loop
 returns c =
     let m = c .before in
@@ -68,12 +65,6 @@ loop-holds c =
 
 shared-slice-read-is-character-2 : tie.Need-shared-slice-read-is-character-2 Inv-loop μ-loop
 shared-slice-read-is-character-2 c = omega arith
-
-is-character-requires-2 : tie.Need-is-character-requires-2 Inv-loop μ-loop
-is-character-requires-2 c κs = search needs
-
-is-zero-from-requires : tie.Need-is-zero-from-requires Inv-loop μ-loop
-is-zero-from-requires c κs = search needs
 
 returns-2 : tie.Need-returns-2 Inv-loop μ-loop
 unfolding pick
@@ -106,12 +97,12 @@ is-code-spec =
     Inv-loop
     μ-loop
     shared-slice-read-is-character
-    is-character-requires
+    (λ c κs. search needs)
     returns
     loop-holds
     shared-slice-read-is-character-2
-    is-character-requires-2
-    is-zero-from-requires
+    (λ c κs. search needs)
+    (λ c κs. search needs)
     returns-2
     add-k
     loop-less

@@ -26,43 +26,10 @@ turn c = let n = c .before in let a = n .before .before .args in n .loop .inv .1
 loop-holds : tie.Need-loop-holds Inv-loop μ-loop
 loop-holds c = let a = c .before .args in (omega arith, rw (from-first (a .n) (a .s .now)))
 
-sub-loop : tie.Need-sub-loop Inv-loop μ-loop
-sub-loop c = search needs
-
-mul-at : tie.Need-mul-at Inv-loop μ-loop
-mul-at c = search needs
-
-sub-is-code : tie.Need-sub-is-code Inv-loop μ-loop
-sub-is-code c = search needs
-
-part-is-code-start : tie.Need-part-is-code-start Inv-loop μ-loop
-part-is-code-start c = search needs
-
-part-is-code-end : tie.Need-part-is-code-end Inv-loop μ-loop
-part-is-code-end c = search needs
-
-is-code-requires : tie.Need-is-code-requires Inv-loop μ-loop
-is-code-requires c κs = search needs
-
 returns : tie.Need-returns Inv-loop μ-loop
 returns c =
     let m = c .before in
     sym (turn (m .before .before) ∙ rw (← m .is-code .ensures, not-true (m .is-code .result) (c .if1 .taken)))
-
-sub-is-repeated : tie.Need-sub-is-repeated Inv-loop μ-loop
-sub-is-repeated c = search needs
-
-part-is-repeated-start : tie.Need-part-is-repeated-start Inv-loop μ-loop
-part-is-repeated-start c = search needs
-
-part-is-repeated-end : tie.Need-part-is-repeated-end Inv-loop μ-loop
-part-is-repeated-end c = search needs
-
-sub-is-repeated-2 : tie.Need-sub-is-repeated-2 Inv-loop μ-loop
-sub-is-repeated-2 c = search needs
-
-is-repeated-requires : tie.Need-is-repeated-requires Inv-loop μ-loop
-is-repeated-requires c κs = search needs
 
 returns-2 : tie.Need-returns-2 Inv-loop μ-loop
 returns-2 c =
@@ -71,36 +38,12 @@ returns-2 c =
     let m = l .before in
     sym (turn (m .before .before) ∙ rw (← m .is-code .ensures, not-false (m .is-code .result) (l .if1 .left), ← r .is-repeated .ensures, c .if2 .taken))
 
-add-i : tie.Need-add-i Inv-loop μ-loop
-add-i c = search needs
-
-loop-less : tie.Need-loop-less Inv-loop μ-loop
-loop-less c = search needs
-
 loop-again : tie.Need-loop-again Inv-loop μ-loop
 loop-again c =
     let r = c .before in
     let l = r .before .before in
     let m = l .before in
     (omega arith, turn (m .before .before) ∙ rw (← m .is-code .ensures, not-false (m .is-code .result) (l .if1 .left), ← r .is-repeated .ensures, c .if2 .left))
-
-mul-rest : tie.Need-mul-rest Inv-loop μ-loop
-mul-rest c = search needs
-
-sub-are-few-codes : tie.Need-sub-are-few-codes Inv-loop μ-loop
-sub-are-few-codes c = search needs
-
-part-are-few-codes-start : tie.Need-part-are-few-codes-start Inv-loop μ-loop
-part-are-few-codes-start c = search needs
-
-part-are-few-codes-end : tie.Need-part-are-few-codes-end Inv-loop μ-loop
-part-are-few-codes-end c = search needs
-
-sub-are-few-codes-2 : tie.Need-sub-are-few-codes-2 Inv-loop μ-loop
-sub-are-few-codes-2 c = search needs
-
-are-few-codes-requires : tie.Need-are-few-codes-requires Inv-loop μ-loop
-are-few-codes-requires c κs = search needs
 
 returns-3 : tie.Need-returns-3 Inv-loop μ-loop
 returns-3 c = c .are-few-codes .ensures ∙ sym (c .before .before .before .loop .inv .1)
@@ -112,26 +55,26 @@ are-codes-spec =
     Inv-loop
     μ-loop
     loop-holds
-    sub-loop
-    mul-at
-    sub-is-code
-    part-is-code-start
-    part-is-code-end
-    is-code-requires
+    (λ c. search needs)
+    (λ c. search needs)
+    (λ c. search needs)
+    (λ c. search needs)
+    (λ c. search needs)
+    (λ c κs. search needs)
     returns
-    sub-is-repeated
-    part-is-repeated-start
-    part-is-repeated-end
-    sub-is-repeated-2
-    is-repeated-requires
+    (λ c. search needs)
+    (λ c. search needs)
+    (λ c. search needs)
+    (λ c. search needs)
+    (λ c κs. search needs)
     returns-2
-    add-i
-    loop-less
+    (λ c. search needs)
+    (λ c. search needs)
     loop-again
-    mul-rest
-    sub-are-few-codes
-    part-are-few-codes-start
-    part-are-few-codes-end
-    sub-are-few-codes-2
-    are-few-codes-requires
+    (λ c. search needs)
+    (λ c. search needs)
+    (λ c. search needs)
+    (λ c. search needs)
+    (λ c. search needs)
+    (λ c κs. search needs)
     returns-3)

@@ -20,51 +20,12 @@ abbrev μ-loop : tie.MeasureT-loop
 loop-holds : tie.Need-loop-holds Inv-loop μ-loop
 loop-holds c = entered-none (c .before .args .n) (c .before .args .s .now) buckets most-options refl refl (omega arith)
 
-sub-i : tie.Need-sub-i Inv-loop μ-loop
-sub-i c = search needs
-
-mul-at : tie.Need-mul-at Inv-loop μ-loop
-mul-at c = search needs
-
-sub-is-code : tie.Need-sub-is-code Inv-loop μ-loop
-sub-is-code c = search needs
-
-part-is-code-start : tie.Need-part-is-code-start Inv-loop μ-loop
-part-is-code-start c = search needs
-
-part-is-code-end : tie.Need-part-is-code-end Inv-loop μ-loop
-part-is-code-end c = search needs
-
-is-code-requires : tie.Need-is-code-requires Inv-loop μ-loop
-is-code-requires c κs = search needs
-
 returns : tie.Need-returns Inv-loop μ-loop
 returns c =
     let m = c .before in
     let n = m .before .before .before in
     let a = n .before .before .args in
     sym (bad-from (a .n) (a .s .now) (n .loop .i - 1) (omega arith) (ok-more (a .n) (a .s .now) (n .loop .i - 1) (omega arith) ∙ rw (← m .is-code .ensures, not-true (m .is-code .result) (c .if1 .taken))))
-
-sub-hash-of : tie.Need-sub-hash-of Inv-loop μ-loop
-sub-hash-of c = search needs
-
-part-hash-of-start : tie.Need-part-hash-of-start Inv-loop μ-loop
-part-hash-of-start c = search needs
-
-part-hash-of-end : tie.Need-part-hash-of-end Inv-loop μ-loop
-part-hash-of-end c = search needs
-
-hash-of-requires : tie.Need-hash-of-requires Inv-loop μ-loop
-hash-of-requires c κs = search needs
-
-mul-p : tie.Need-mul-p Inv-loop μ-loop
-mul-p c = search needs
-
-array-read-p : tie.Need-array-read-p Inv-loop μ-loop
-array-read-p c = search needs
-
-wide16-requires : tie.Need-wide16-requires Inv-loop μ-loop
-wide16-requires c κs = search needs
 
 comes-again-requires : tie.Need-comes-again-requires Inv-loop μ-loop
 comes-again-requires c κs =
@@ -80,24 +41,6 @@ returns-2 c =
     let n = m .before .before .before in
     let a = n .before .before .args in
     sym (bad-from (a .n) (a .s .now) (n .loop .i - 1) (omega arith) (ok-more (a .n) (a .s .now) (n .loop .i - 1) (omega arith) ∙ rw (← m .is-code .ensures, not-false (m .is-code .result) (l .if1 .left), ← r .comes-again .ensures, c .if2 .taken)))
-
-mul-next : tie.Need-mul-next Inv-loop μ-loop
-mul-next c = search needs
-
-array-write-next : tie.Need-array-write-next Inv-loop μ-loop
-array-write-next c = search needs
-
-cast-first : tie.Need-cast-first Inv-loop μ-loop
-cast-first c = search needs
-
-mul-first : tie.Need-mul-first Inv-loop μ-loop
-mul-first c = search needs
-
-array-write-first : tie.Need-array-write-first Inv-loop μ-loop
-array-write-first c = search needs
-
-loop-less : tie.Need-loop-less Inv-loop μ-loop
-loop-less c = search needs
 
 loop-again : tie.Need-loop-again Inv-loop μ-loop
 loop-again c =
@@ -118,27 +61,27 @@ are-few-codes-spec =
     Inv-loop
     μ-loop
     loop-holds
-    sub-i
-    mul-at
-    sub-is-code
-    part-is-code-start
-    part-is-code-end
-    is-code-requires
+    (λ c. search needs)
+    (λ c. search needs)
+    (λ c. search needs)
+    (λ c. search needs)
+    (λ c. search needs)
+    (λ c κs. search needs)
     returns
-    sub-hash-of
-    part-hash-of-start
-    part-hash-of-end
-    hash-of-requires
-    mul-p
-    array-read-p
-    wide16-requires
+    (λ c. search needs)
+    (λ c. search needs)
+    (λ c. search needs)
+    (λ c κs. search needs)
+    (λ c. search needs)
+    (λ c. search needs)
+    (λ c κs. search needs)
     comes-again-requires
     returns-2
-    mul-next
-    array-write-next
-    cast-first
-    mul-first
-    array-write-first
-    loop-less
+    (λ c. search needs)
+    (λ c. search needs)
+    (λ c. search needs)
+    (λ c. search needs)
+    (λ c. search needs)
+    (λ c. search needs)
     loop-again
     returns-3)

@@ -48,50 +48,14 @@ Inv-loop s n i next from at q₀ q = Walked n s i q
 abbrev μ-loop : tie.MeasureT-loop
 μ-loop s n i next from at q₀ q = n - q
 
-mul-at : tie.Need-mul-at Inv-loop μ-loop
-mul-at c = search needs
-
 loop-holds : tie.Need-loop-holds Inv-loop μ-loop
 loop-holds c = begun (c .before .pre)
-
-mul-there : tie.Need-mul-there Inv-loop μ-loop
-mul-there c = search needs
-
-sub-is-same : tie.Need-sub-is-same Inv-loop μ-loop
-sub-is-same c = search needs
-
-part-is-same-start : tie.Need-part-is-same-start Inv-loop μ-loop
-part-is-same-start c = search needs
-
-part-is-same-end : tie.Need-part-is-same-end Inv-loop μ-loop
-part-is-same-end c = search needs
-
-sub-is-same-2 : tie.Need-sub-is-same-2 Inv-loop μ-loop
-sub-is-same-2 c = search needs
-
-part-is-same-start-2 : tie.Need-part-is-same-start-2 Inv-loop μ-loop
-part-is-same-start-2 c = search needs
-
-part-is-same-end-2 : tie.Need-part-is-same-end-2 Inv-loop μ-loop
-part-is-same-end-2 c = search needs
-
-is-same-requires : tie.Need-is-same-requires Inv-loop μ-loop
-is-same-requires c κs = search needs
 
 returns : tie.Need-returns Inv-loop μ-loop
 returns c =
     let m = c .before in
     let n = m .before .before .before .before in
     sym (met (n .before .before .pre) (n .loop .inv) (omega arith) (sym (m .is-same .ensures) ∙ c .if1 .taken))
-
-mul-wide16 : tie.Need-mul-wide16 Inv-loop μ-loop
-mul-wide16 c = search needs
-
-element-copy-out-wide16 : tie.Need-element-copy-out-wide16 Inv-loop μ-loop
-element-copy-out-wide16 c = search needs
-
-wide16-requires : tie.Need-wide16-requires Inv-loop μ-loop
-wide16-requires c κs = search needs
 
 loop-less : tie.Need-loop-less Inv-loop μ-loop
 loop-less c =
@@ -117,20 +81,20 @@ comes-again-spec =
     (tie.spec
     Inv-loop
     μ-loop
-    mul-at
+    (λ c. search needs)
     loop-holds
-    mul-there
-    sub-is-same
-    part-is-same-start
-    part-is-same-end
-    sub-is-same-2
-    part-is-same-start-2
-    part-is-same-end-2
-    is-same-requires
+    (λ c. search needs)
+    (λ c. search needs)
+    (λ c. search needs)
+    (λ c. search needs)
+    (λ c. search needs)
+    (λ c. search needs)
+    (λ c. search needs)
+    (λ c κs. search needs)
     returns
-    mul-wide16
-    element-copy-out-wide16
-    wide16-requires
+    (λ c. search needs)
+    (λ c. search needs)
+    (λ c κs. search needs)
     loop-less
     loop-again
     returns-2)

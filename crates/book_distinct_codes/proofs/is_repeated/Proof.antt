@@ -44,9 +44,6 @@ part-is-same-start c = omega arith
 part-is-same-end : tie.Need-part-is-same-end Inv-loop μ-loop
 part-is-same-end c = omega arith
 
-is-same-requires : tie.Need-is-same-requires Inv-loop μ-loop
-is-same-requires c κs = search needs
-
 returns : tie.Need-returns Inv-loop μ-loop
 returns c = let m = c .before in sym (turn (m .before .before) ∙ rw (← m .is-same .ensures, c .if1 .taken))
 
@@ -76,7 +73,7 @@ is-repeated-spec =
     sub-is-same
     part-is-same-start
     part-is-same-end
-    is-same-requires
+    (λ c κs. search needs)
     returns
     add-i
     loop-less

@@ -49,25 +49,10 @@ sub-fill-numbers c = let n = c .before .before .before .before in omega (arith, 
 part-fill-numbers-start : tie.Need-part-fill-numbers-start
 part-fill-numbers-start c = let n = c .before .before .before .before in omega (arith, known (n .before .before .before .before .before))
 
-part-fill-numbers-end : tie.Need-part-fill-numbers-end
-part-fill-numbers-end c = search needs
-
-sub-fill-numbers-2 : tie.Need-sub-fill-numbers-2
-sub-fill-numbers-2 c = search needs
-
-part-fill-numbers-start-2 : tie.Need-part-fill-numbers-start-2
-part-fill-numbers-start-2 c = search needs
-
-part-fill-numbers-end-2 : tie.Need-part-fill-numbers-end-2
-part-fill-numbers-end-2 c = search needs
-
 fill-numbers-requires : tie.Need-fill-numbers-requires
 fill-numbers-requires c κs =
     let n = c .before .before .before .before .before .before in
     simp (length-take, length-drop) (omega (arith, known (n .before .before .before .before .before)))
-
-same-length : tie.Need-same-length
-same-length c = search needs
 
 returns : tie.Need-returns
 returns c =
@@ -102,10 +87,10 @@ fill-sheet-spec =
     put-three-requires
     sub-fill-numbers
     part-fill-numbers-start
-    part-fill-numbers-end
-    sub-fill-numbers-2
-    part-fill-numbers-start-2
-    part-fill-numbers-end-2
+    (λ c. search needs)
+    (λ c. search needs)
+    (λ c. search needs)
+    (λ c. search needs)
     fill-numbers-requires
-    same-length
+    (λ c. search needs)
     returns)

@@ -9,9 +9,6 @@ use Rattle.book_write.proofs.nodes_below.Tie as tie
 shared-slice-read-wide16 : tie.Need-shared-slice-read-wide16
 shared-slice-read-wide16 c = omega (arith, sizes-of (c .before .before .args .sheet .now) (c .before .before .pre))
 
-wide16-requires : tie.Need-wide16-requires
-wide16-requires c κs = search needs
-
 sub-result : tie.Need-sub-result
 sub-result c = omega (arith, sizes-of (c .before .before .before .args .sheet .now) (c .before .before .before .pre))
 
@@ -20,4 +17,4 @@ unfolding used-in
 returns c = (omega arith, omega (arith, sizes-of (c .before .before .before .args .sheet .now) (c .before .before .before .pre)))
 
 pub nodes-below-spec : {M : Type 1} → statement M
-nodes-below-spec = tie.close (tie.spec shared-slice-read-wide16 wide16-requires sub-result returns)
+nodes-below-spec = tie.close (tie.spec shared-slice-read-wide16 (λ c κs. search needs) sub-result returns)

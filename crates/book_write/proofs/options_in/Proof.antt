@@ -9,12 +9,9 @@ use Rattle.book_write.proofs.options_in.Tie as tie
 shared-slice-read-wide16 : tie.Need-shared-slice-read-wide16
 shared-slice-read-wide16 c = omega (arith, sizes-of (c .before .before .args .sheet .now) (c .before .before .pre))
 
-wide16-requires : tie.Need-wide16-requires
-wide16-requires c κs = search needs
-
 returns : tie.Need-returns
 unfolding options-in
 returns c = (c .wide16 .ensures .0, omega (arith, sizes-of (c .before .before .before .args .sheet .now) (c .before .before .before .pre)))
 
 pub options-in-spec : {M : Type 1} → statement M
-options-in-spec = tie.close (tie.spec shared-slice-read-wide16 wide16-requires returns)
+options-in-spec = tie.close (tie.spec shared-slice-read-wide16 (λ c κs. search needs) returns)

@@ -33,41 +33,11 @@ known c =
     let long = length-written s b (p .0) (p .1 .0 .0) (p .1 .0 .1) in
     (sizes-of s (p .0) .whole, omega arith, omega arith)
 
-options-in-requires : tie.Need-options-in-requires
-options-in-requires c κs = search needs
-
-nodes-below-requires : tie.Need-nodes-below-requires
-nodes-below-requires c κs = search needs
-
-rules-in-requires : tie.Need-rules-in-requires
-rules-in-requires c κs = search needs
-
-mul-contents : tie.Need-mul-contents
-mul-contents c = search needs
-
-add-contents : tie.Need-add-contents
-add-contents c = search needs
-
-add-end : tie.Need-add-end
-add-end c = search needs
-
 put-head-requires : tie.Need-put-head-requires
 put-head-requires c κs = omega (arith, known (c .before))
 
-sub-put-parts : tie.Need-sub-put-parts
-sub-put-parts c = search needs
-
-part-put-parts-start : tie.Need-part-put-parts-start
-part-put-parts-start c = search needs
-
 part-put-parts-end : tie.Need-part-put-parts-end
 part-put-parts-end c = omega (arith, known (c .before .before .before .before))
-
-sub-put-parts-2 : tie.Need-sub-put-parts-2
-sub-put-parts-2 c = search needs
-
-part-put-parts-start-2 : tie.Need-part-put-parts-start-2
-part-put-parts-start-2 c = search needs
 
 part-put-parts-end-2 : tie.Need-part-put-parts-end-2
 part-put-parts-end-2 c = omega (arith, known (c .before .before .before .before .before))
@@ -78,9 +48,6 @@ sub-put-parts-3 c = omega (arith, known (c .before .before .before .before .befo
 part-put-parts-start-3 : tie.Need-part-put-parts-start-3
 part-put-parts-start-3 c = omega (arith, known (c .before .before .before .before .before .before))
 
-part-put-parts-end-3 : tie.Need-part-put-parts-end-3
-part-put-parts-end-3 c = search needs
-
 put-parts-requires : tie.Need-put-parts-requires
 put-parts-requires c κs =
     let v = c .before .before .before .before .before .before .before in
@@ -88,9 +55,6 @@ put-parts-requires c κs =
     let a = v .before .before .before .before .before .before .args in
     let head = c .before .before .before .before .before .put-head in
     parts-fit (a .sheet .now) (a .book .now) (head .last .0) _ _ _ (z .0) (v .before .nodes-below .ensures .1) (z .1) (omega (arith, head .kept .0))
-
-same-length : tie.Need-same-length
-same-length c = search needs
 
 returns : tie.Need-returns
 unfolding bytes-of
@@ -117,22 +81,22 @@ pub put-book-spec : {M : Type 1} → statement M
 put-book-spec =
     tie.close
     (tie.spec
-    options-in-requires
-    nodes-below-requires
-    rules-in-requires
-    mul-contents
-    add-contents
-    add-end
+    (λ c κs. search needs)
+    (λ c κs. search needs)
+    (λ c κs. search needs)
+    (λ c. search needs)
+    (λ c. search needs)
+    (λ c. search needs)
     put-head-requires
-    sub-put-parts
-    part-put-parts-start
+    (λ c. search needs)
+    (λ c. search needs)
     part-put-parts-end
-    sub-put-parts-2
-    part-put-parts-start-2
+    (λ c. search needs)
+    (λ c. search needs)
     part-put-parts-end-2
     sub-put-parts-3
     part-put-parts-start-3
-    part-put-parts-end-3
+    (λ c. search needs)
     put-parts-requires
-    same-length
+    (λ c. search needs)
     returns)

@@ -10,12 +10,6 @@ use Rattle.book_write.proofs.rules_in.Tie as tie
 shared-slice-read-wide16 : tie.Need-shared-slice-read-wide16
 shared-slice-read-wide16 c = omega (arith, sizes-of (c .before .before .args .sheet .now) (c .before .before .pre))
 
-wide16-requires : tie.Need-wide16-requires
-wide16-requires c κs = search needs
-
-children-of-requires : tie.Need-children-of-requires
-children-of-requires c κs = search needs
-
 returns : tie.Need-returns
 returns c =
     let e = c .children-of .ensures ∙ ap children (c .before .wide16 .ensures .0) in
@@ -23,4 +17,4 @@ returns c =
 
 pub rules-in-spec : {M : Type 1} → statement M
 rules-in-spec =
-    tie.close (tie.spec shared-slice-read-wide16 wide16-requires children-of-requires returns)
+    tie.close (tie.spec shared-slice-read-wide16 (λ c κs. search needs) (λ c κs. search needs) returns)

@@ -6,16 +6,10 @@ use Rattle.theory_reading.specs.Spans.{arity-literal, arity-inner, arity-small}
 use Rattle.common_nodes.proofs.arity_of.Statement.{statement}
 use Rattle.common_nodes.proofs.arity_of.Tie as tie
 
-is-literal-requires : tie.Need-is-literal-requires
-is-literal-requires c κs = search needs
-
 returns : tie.Need-returns
 returns c =
     let literal = sym (c .before .is-literal .ensures) ∙ c .if1 .taken in
     omega (arith, arity-literal (c .before .before .args .x) literal)
-
-children-of-requires : tie.Need-children-of-requires
-children-of-requires c κs = search needs
 
 returns-2 : tie.Need-returns-2
 returns-2 c =
@@ -24,4 +18,4 @@ returns-2 c =
     omega (arith, arity-inner x inner, arity-small x)
 
 pub arity-of-spec : {M : Type 1} → statement M
-arity-of-spec = tie.close (tie.spec is-literal-requires returns children-of-requires returns-2)
+arity-of-spec = tie.close (tie.spec (λ c κs. search needs) returns (λ c κs. search needs) returns-2)

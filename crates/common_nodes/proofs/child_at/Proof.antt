@@ -8,21 +8,6 @@ use Rattle.common_lists.proofs.Lent.{lent-part}
 use Rattle.common_nodes.proofs.child_at.Statement.{statement}
 use Rattle.common_nodes.proofs.child_at.Tie as tie
 
-sub-span-of : tie.Need-sub-span-of
-sub-span-of c = search needs
-
-part-span-of-start : tie.Need-part-span-of-start
-part-span-of-start c = search needs
-
-part-span-of-end : tie.Need-part-span-of-end
-part-span-of-end c = search needs
-
-span-of-requires : tie.Need-span-of-requires
-span-of-requires c κs = search needs
-
-add-result : tie.Need-add-result
-add-result c = search needs
-
 returns : tie.Need-returns
 returns c =
     let s = c .before .before .before .args .s .now in
@@ -32,4 +17,4 @@ returns c =
 pub child-at-spec : {M : Type 1} → statement M
 child-at-spec =
     tie.close
-    (tie.spec sub-span-of part-span-of-start part-span-of-end span-of-requires add-result returns)
+    (tie.spec (λ c. search needs) (λ c. search needs) (λ c. search needs) (λ c κs. search needs) (λ c. search needs) returns)

@@ -4,12 +4,9 @@ use Rattle.model.specs.Code.{children}
 use Rattle.common_nodes.proofs.children_of.Statement.{statement}
 use Rattle.common_nodes.proofs.children_of.Tie as tie
 
-value-of-requires : tie.Need-value-of-requires
-value-of-requires c κs = search needs
-
 returns : tie.Need-returns
 unfolding children
 returns c = c .value-of .ensures
 
 pub children-of-spec : {M : Type 1} → statement M
-children-of-spec = tie.close (tie.spec value-of-requires returns)
+children-of-spec = tie.close (tie.spec (λ c κs. search needs) returns)

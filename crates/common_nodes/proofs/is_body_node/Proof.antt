@@ -10,12 +10,6 @@ use Rattle.model.specs.Sheet.{body-node}
 use Rattle.common_nodes.proofs.is_body_node.Statement.{statement}
 use Rattle.common_nodes.proofs.is_body_node.Tie as tie
 
-kind-of-requires : tie.Need-kind-of-requires
-kind-of-requires c κs = search needs
-
-value-of-requires : tie.Need-value-of-requires
-value-of-requires c κs = search needs
-
 -- Where the two tests meet, one of them held.
 literal : (c : tie.Joined1) → (eqb (c .before .kind-of .result) 1 || eqb (c .before .kind-of .result) 2) ≡ true
 literal c = ⊎-elim
@@ -41,4 +35,4 @@ returns-3 c =
 
 pub is-body-node-spec : {M : Type 1} → statement M
 is-body-node-spec =
-    tie.close (tie.spec kind-of-requires value-of-requires returns returns-2 returns-3)
+    tie.close (tie.spec (λ c κs. search needs) (λ c κs. search needs) returns returns-2 returns-3)

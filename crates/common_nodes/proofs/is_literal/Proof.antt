@@ -5,9 +5,6 @@ use Rattle.theory_forms.specs.Scan.{is-literal}
 use Rattle.common_nodes.proofs.is_literal.Statement.{statement}
 use Rattle.common_nodes.proofs.is_literal.Tie as tie
 
-kind-of-requires : tie.Need-kind-of-requires
-kind-of-requires c κs = search needs
-
 returns : tie.Need-returns
 unfolding is-literal
 returns c = rw (← c .before .kind-of .ensures, c .if1 .taken)
@@ -17,4 +14,4 @@ unfolding is-literal
 returns-2 c = rw (← c .before .kind-of .ensures, ne-eqb (c .before .kind-of .result) 1 (c .if1 .left))
 
 pub is-literal-spec : {M : Type 1} → statement M
-is-literal-spec = tie.close (tie.spec kind-of-requires returns returns-2)
+is-literal-spec = tie.close (tie.spec (λ c κs. search needs) returns returns-2)

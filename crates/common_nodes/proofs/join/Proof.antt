@@ -16,9 +16,6 @@ use Rattle.common_nodes.specs.Trees.{treesOf}
 use Rattle.common_nodes.proofs.join.Statement.{statement}
 use Rattle.common_nodes.proofs.join.Tie as tie
 
-enum-known-after : tie.Need-enum-known-after
-enum-known-after c = search needs
-
 enum-told : tie.Need-enum-told
 enum-told c = search needs
 
@@ -44,9 +41,6 @@ due : (c : tie.After-known-told) (o : Option ℕ) → joined-by (c .before .befo
 unfolding then
 due c o e = rw (counted-trees c) (sym e)
 
-is-body-node-requires : tie.Need-is-body-node-requires
-is-body-node-requires c κs = search needs
-
 returns-2 : tie.Need-returns-2
 returns-2 c =
     let call = c .before .is-body-node in
@@ -54,9 +48,6 @@ returns-2 c =
 
 body : (c : tie.Else1) → let a = c .before .before .before .before .before .args in body-node (a .n) (a .x) ≡ true
 body c = let call = c .before .is-body-node in sym (call .ensures) ∙ not-false (call .result) (c .if1 .left)
-
-is-literal-requires : tie.Need-is-literal-requires
-is-literal-requires c κs = search needs
 
 add-t9 : tie.Need-add-t9
 add-t9 c = omega (arith, few (c .before .before .before .before))
@@ -67,9 +58,6 @@ returns-3 c =
     let literal = sym (c .before .is-literal .ensures) ∙ c .if2 .taken in
     due k (some (trees k + 1))
     (joined-literal _ _ (trees k) (body (c .before .before)) literal ∙ ap some (sym (add-one (trees k))))
-
-children-of-requires : tie.Need-children-of-requires
-children-of-requires c κs = search needs
 
 -- A connective takes as many trees as it has children.
 takes : (c : tie.After-children-of) (o : Option ℕ) → let k = c .before .before .before .before .before in let v = c .children-of .result in only-if (leb v (trees k)) (suc (trees k - v)) ≡ o → Due k o
@@ -98,15 +86,15 @@ pub join-spec : {M : Type 1} → statement M
 join-spec =
     tie.close
     (tie.spec
-    enum-known-after
+    (λ c. search needs)
     enum-told
     returns
-    is-body-node-requires
+    (λ c κs. search needs)
     returns-2
-    is-literal-requires
+    (λ c κs. search needs)
     add-t9
     returns-3
-    children-of-requires
+    (λ c κs. search needs)
     returns-4
     add-t11
     returns-5)

@@ -7,14 +7,8 @@ use Rattle.theory_reading.specs.Leaves.{literal-kind}
 use Rattle.common_nodes.proofs.place_of.Statement.{statement}
 use Rattle.common_nodes.proofs.place_of.Tie as tie
 
-value-of-requires : tie.Need-value-of-requires
-value-of-requires c κs = search needs
-
 mul-result : tie.Need-mul-result
 mul-result c = omega (arith, value-small (c .before .args .x))
-
-kind-of-requires : tie.Need-kind-of-requires
-kind-of-requires c κs = search needs
 
 add-result : tie.Need-add-result
 add-result c = let a = c .before .before in omega (arith, value-small (a .args .x), literal-kind (a .args .x) (a .pre))
@@ -29,4 +23,4 @@ returns c = rw (c .before .value-of .ensures, c .kind-of .ensures)
 pub place-of-spec : {M : Type 1} → statement M
 place-of-spec =
     tie.close
-    (tie.spec value-of-requires mul-result kind-of-requires add-result sub-result returns)
+    (tie.spec (λ c κs. search needs) mul-result (λ c κs. search needs) add-result sub-result returns)

@@ -23,18 +23,6 @@ loop-holds c = omega arith
 sub-pending : tie.Need-sub-pending Inv-loop μ-loop
 sub-pending c = omega arith
 
-mul-wide16 : tie.Need-mul-wide16 Inv-loop μ-loop
-mul-wide16 c = search needs
-
-shared-slice-read-wide16 : tie.Need-shared-slice-read-wide16 Inv-loop μ-loop
-shared-slice-read-wide16 c = search needs
-
-wide16-requires : tie.Need-wide16-requires Inv-loop μ-loop
-wide16-requires c κs = search needs
-
-arity-of-requires : tie.Need-arity-of-requires Inv-loop μ-loop
-arity-of-requires c κs = search needs
-
 add-pending : tie.Need-add-pending Inv-loop μ-loop
 add-pending c = omega arith
 
@@ -77,10 +65,10 @@ span-of-spec =
     μ-loop
     loop-holds
     sub-pending
-    mul-wide16
-    shared-slice-read-wide16
-    wide16-requires
-    arity-of-requires
+    (λ c. search needs)
+    (λ c. search needs)
+    (λ c κs. search needs)
+    (λ c κs. search needs)
     add-pending
     add-i
     loop-less

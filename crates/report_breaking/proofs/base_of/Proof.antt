@@ -19,18 +19,6 @@ last-says n fs h =
 returns : tie.Need-returns
 returns c = let a = c .before .before .args in sym (bottom-empty (a .end) (a .children .now) (c .if1 .taken))
 
-sub-wide16 : tie.Need-sub-wide16
-sub-wide16 c = search needs
-
-mul-wide16 : tie.Need-mul-wide16
-mul-wide16 c = search needs
-
-shared-slice-read-wide16 : tie.Need-shared-slice-read-wide16
-shared-slice-read-wide16 c = search needs
-
-wide16-requires : tie.Need-wide16-requires
-wide16-requires c κs = search needs
-
 returns-2 : tie.Need-returns-2
 unfolding begin
 returns-2 c =
@@ -40,4 +28,4 @@ returns-2 c =
 pub base-of-spec : {M : Type 1} → statement M
 base-of-spec =
     tie.close
-    (tie.spec returns sub-wide16 mul-wide16 shared-slice-read-wide16 wide16-requires returns-2)
+    (tie.spec returns (λ c. search needs) (λ c. search needs) (λ c. search needs) (λ c κs. search needs) returns-2)

@@ -181,21 +181,6 @@ loop-holds c =
     let a = c .before .before .before .before in
     begun _ _ _ _ _ (a .pre .3) (a .pre .4) blank-zeros
 
-sub-i : tie.Need-sub-i Inv-loop μ-loop
-sub-i c = search needs
-
-mul-wide16 : tie.Need-mul-wide16 Inv-loop μ-loop
-mul-wide16 c = search needs
-
-shared-slice-read-wide16 : tie.Need-shared-slice-read-wide16 Inv-loop μ-loop
-shared-slice-read-wide16 c = search needs
-
-wide16-requires : tie.Need-wide16-requires Inv-loop μ-loop
-wide16-requires c κs = search needs
-
-slice-aggregate-read-node : tie.Need-slice-aggregate-read-node Inv-loop μ-loop
-slice-aggregate-read-node c = search needs
-
 read-node-requires : tie.Need-read-node-requires Inv-loop μ-loop
 read-node-requires c κs =
     let n = c .before .before .before .before .before .before in
@@ -205,9 +190,6 @@ read-node-requires c κs =
       asked (p .0) (p .1) r l (c .before .before .before .wide16 .ensures .0),
       ((omega (arith, r .left, p .1), r .wide, r .deep, r .sound), (p .2, r .blank)),
     )
-
-loop-less : tie.Need-loop-less Inv-loop μ-loop
-loop-less c = search needs
 
 loop-again : tie.Need-loop-again Inv-loop μ-loop
 loop-again c =
@@ -224,9 +206,6 @@ kept : (c : tie.At-loop Inv-loop μ-loop) → let a = c .before .before .before 
 kept c =
     let p = c .before .before .before .before .before .pre in
     (c .loop .inv .wide ∙ sym (p .3), c .loop .inv .deep ∙ sym (p .4))
-
-mul-if1 : tie.Need-mul-if1 Inv-loop μ-loop
-mul-if1 c = search needs
 
 slice-read-if1 : tie.Need-slice-read-if1 Inv-loop μ-loop
 slice-read-if1 c =
@@ -264,15 +243,15 @@ breaking-spec =
     Inv-loop
     μ-loop
     loop-holds
-    sub-i
-    mul-wide16
-    shared-slice-read-wide16
-    wide16-requires
-    slice-aggregate-read-node
+    (λ c. search needs)
+    (λ c. search needs)
+    (λ c. search needs)
+    (λ c κs. search needs)
+    (λ c. search needs)
     read-node-requires
-    loop-less
+    (λ c. search needs)
     loop-again
-    mul-if1
+    (λ c. search needs)
     slice-read-if1
     same-length
     same-length-2

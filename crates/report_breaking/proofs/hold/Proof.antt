@@ -60,15 +60,6 @@ abbrev μ-loop : tie.MeasureT-loop
 loop-holds : tie.Need-loop-holds Inv-loop μ-loop
 loop-holds c = record { left = omega arith; wide = refl; same = λ x. refl }
 
-mul-wide16 : tie.Need-mul-wide16 Inv-loop μ-loop
-mul-wide16 c = search needs
-
-shared-slice-read-wide16 : tie.Need-shared-slice-read-wide16 Inv-loop μ-loop
-shared-slice-read-wide16 c = search needs
-
-wide16-requires : tie.Need-wide16-requires Inv-loop μ-loop
-wide16-requires c κs = search needs
-
 -- The literal's place is one of the table's.
 in-table : (c : tie.After-wide16 Inv-loop μ-loop) → c .wide16 .result < length (c .before .before .before .loop .held)
 in-table c =
@@ -82,20 +73,11 @@ mul-if1 c = omega (arith, in-table c)
 slice-read-if1 : tie.Need-slice-read-if1 Inv-loop μ-loop
 slice-read-if1 c = omega (arith, in-table (c .before))
 
-add-held : tie.Need-add-held Inv-loop μ-loop
-add-held c = search needs
-
 mul-held : tie.Need-mul-held Inv-loop μ-loop
 mul-held c = omega (arith, in-table (c .before .before))
 
 slice-write-held : tie.Need-slice-write-held Inv-loop μ-loop
 slice-write-held c = omega (arith, in-table (c .before .before))
-
-add-i : tie.Need-add-i Inv-loop μ-loop
-add-i c = search needs
-
-loop-less : tie.Need-loop-less Inv-loop μ-loop
-loop-less c = search needs
 
 loop-again : tie.Need-loop-again Inv-loop μ-loop
 loop-again c =
@@ -120,16 +102,16 @@ hold-spec =
     Inv-loop
     μ-loop
     loop-holds
-    mul-wide16
-    shared-slice-read-wide16
-    wide16-requires
+    (λ c. search needs)
+    (λ c. search needs)
+    (λ c κs. search needs)
     mul-if1
     slice-read-if1
-    add-held
+    (λ c. search needs)
     mul-held
     slice-write-held
-    add-i
-    loop-less
+    (λ c. search needs)
+    (λ c. search needs)
     loop-again
     same-length
     returns)

@@ -159,15 +159,6 @@ loop-holds c =
     let a = c .before .before .before in
     begun _ _ _ (length-take-le (a .args .end) (a .args .places .now) (a .pre .0 .0)) (a .pre .1 .1) (a .pre .0 .2)
 
-mul-wide16 : tie.Need-mul-wide16 Inv-loop μ-loop
-mul-wide16 c = search needs
-
-shared-slice-read-wide16 : tie.Need-shared-slice-read-wide16 Inv-loop μ-loop
-shared-slice-read-wide16 c = search needs
-
-wide16-requires : tie.Need-wide16-requires Inv-loop μ-loop
-wide16-requires c κs = search needs
-
 -- The tree's literals begin and end within the literals.
 within : (c : tie.Then1 Inv-loop μ-loop) → let n = c .before .before .before .before in let a = n .before .before .before .before .args in (c .before .wide16 .result / 2 ≤ n .loop .to) × (n .loop .to ≤ a .end) × (a .end ≤ length (a .places .now))
 unfolding begin
@@ -178,9 +169,6 @@ within c =
       omega (arith, n .loop .inv .low, length-take-le (a .args .end) (a .args .places .now) (a .pre .0 .0)),
       a .pre .0 .0,
     )
-
-mul-hold : tie.Need-mul-hold Inv-loop μ-loop
-mul-hold c = search needs
 
 sub-hold : tie.Need-sub-hold Inv-loop μ-loop
 sub-hold c = within c .0
@@ -204,15 +192,6 @@ hold-requires c κs =
       inv .wide,
       omega (arith, inv .few, inv .left, a .pre .1 .0),
     )
-
-add-count : tie.Need-add-count Inv-loop μ-loop
-add-count c = search needs
-
-add-i : tie.Need-add-i Inv-loop μ-loop
-add-i c = search needs
-
-loop-less : tie.Need-loop-less Inv-loop μ-loop
-loop-less c = search needs
 
 loop-again : tie.Need-loop-again Inv-loop μ-loop
 unfolding begin own
@@ -245,17 +224,17 @@ hold-all-spec =
     Inv-loop
     μ-loop
     loop-holds
-    mul-wide16
-    shared-slice-read-wide16
-    wide16-requires
-    mul-hold
+    (λ c. search needs)
+    (λ c. search needs)
+    (λ c κs. search needs)
+    (λ c. search needs)
     sub-hold
     part-hold-start
     part-hold-end
     hold-requires
-    add-count
-    add-i
-    loop-less
+    (λ c. search needs)
+    (λ c. search needs)
+    (λ c. search needs)
     loop-again
     same-length
     returns)

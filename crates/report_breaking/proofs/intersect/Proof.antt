@@ -73,9 +73,6 @@ module _ {places fs : List ℕ} {base end : ℕ} (g : Children places fs base en
         (λ e. own-inside x (and-split (among x (own places base end)) _ (sym (found x) ∙ e) .0))
         (or-split (among x (take base places)) (among x (take r ys)) (sym (among-append x (take base places) (take r ys)) ∙ rw (kept ys r (omega arith)) at m))
 
-hold-all-requires : tie.Need-hold-all-requires
-hold-all-requires c κs = search needs
-
 mul-keep : tie.Need-mul-keep
 mul-keep c = let a = c .before .before .before .before .before .before .before .before in omega (arith, low (a .pre .0), a .pre .0 .room, a .good)
 
@@ -85,9 +82,6 @@ sub-keep c = let a = c .before .before .before .before .before .before .before .
 part-keep-start : tie.Need-part-keep-start
 part-keep-start c = let a = c .before .before .before .before .before .before .before .before in omega (arith, low (a .pre .0), a .pre .0 .room, a .good)
 
-part-keep-end : tie.Need-part-keep-end
-part-keep-end c = search needs
-
 keep-requires : tie.Need-keep-requires
 unfolding own
 keep-requires c κs =
@@ -95,15 +89,6 @@ keep-requires c κs =
     let p = n .before .before .before .before .before .before .pre in
     let counts = n .hold-all .ensures in
     (own-inside (p .0), n .hold-all .kept .1 .1 .1 .0 ∙ p .2 .0, omega (arith, counts .count, p .1), λ x. rw (own-part (p .0)) (counts .blank x))
-
-add-result : tie.Need-add-result
-add-result c = search needs
-
-same-length : tie.Need-same-length
-same-length c = search needs
-
-same-length-2 : tie.Need-same-length-2
-same-length-2 c = search needs
 
 returns : tie.Need-returns
 unfolding own new
@@ -128,13 +113,13 @@ pub intersect-spec : {M : Type 1} → statement M
 intersect-spec =
     tie.close
     (tie.spec
-    hold-all-requires
+    (λ c κs. search needs)
     mul-keep
     sub-keep
     part-keep-start
-    part-keep-end
+    (λ c. search needs)
     keep-requires
-    add-result
-    same-length
-    same-length-2
+    (λ c. search needs)
+    (λ c. search needs)
+    (λ c. search needs)
     returns)

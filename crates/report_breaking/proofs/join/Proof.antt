@@ -59,9 +59,6 @@ module _ {places fs : List ℕ} {base end : ℕ} (g : Children places fs base en
       makes-standing value (take end places) fs stacked (g .inside) base-is (take r new) (omega (arith, length-take-le r new most))
       (take-take base r new above ∙ same ∙ sym (take-take base end places low)) places-new (λ q. rw h (each q))
 
-count-standing-requires : tie.Need-count-standing-requires
-count-standing-requires c κs = search needs
-
 -- What the test says of the trees.
 fallen : (c : tie.Joined1) → c .if1 .fails ≡ true → let a = c .before .before .before .before .before .args in ((a .disjunction ≡ true) × (standing (a .children .now) ≡ 0)) ⊎ ((a .disjunction ≡ false) × (standing (a .children .now) < length (a .children .now)))
 fallen c h =
@@ -131,12 +128,6 @@ intersect-requires c κs =
     let e = not-false (a .args .disjunction) (c .before .before .before .if3 .left) in
     (p .0, ⊎-elim (λ z. z .1) (λ z. true-false (sym e ∙ z .0)) h, p .2)
 
-same-length : tie.Need-same-length
-same-length c = search needs
-
-same-length-2 : tie.Need-same-length-2
-same-length-2 c = search needs
-
 returns-3 : tie.Need-returns-3
 returns-3 c =
     let a = c .before .before .before .before .before .before .before .before .before .before .before .before .before .before .before in
@@ -152,7 +143,7 @@ pub join-spec : {M : Type 1} → statement M
 join-spec =
     tie.close
     (tie.spec
-    count-standing-requires
+    (λ c κs. search needs)
     mul-t13
     add-t14
     cast-t15
@@ -161,6 +152,6 @@ join-spec =
     cast-first
     returns-2
     intersect-requires
-    same-length
-    same-length-2
+    (λ c. search needs)
+    (λ c. search needs)
     returns-3)

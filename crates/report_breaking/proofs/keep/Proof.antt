@@ -108,15 +108,6 @@ abbrev μ-loop : tie.MeasureT-loop
 loop-holds : tie.Need-loop-holds Inv-loop μ-loop
 loop-holds c = let p = c .before .before .pre in begun _ _ _ (p .0) (p .3)
 
-mul-x : tie.Need-mul-x Inv-loop μ-loop
-mul-x c = search needs
-
-slice-read-x : tie.Need-slice-read-x Inv-loop μ-loop
-slice-read-x c = search needs
-
-wide16-requires : tie.Need-wide16-requires Inv-loop μ-loop
-wide16-requires c κs = search needs
-
 -- The literal's place is one of the table's.
 inside-table : (c : tie.After-wide16 Inv-loop μ-loop) → c .wide16 .result < length (c .before .before .before .loop .held)
 inside-table c =
@@ -129,26 +120,11 @@ mul-if1 c = omega (arith, inside-table c)
 slice-read-if1 : tie.Need-slice-read-if1 Inv-loop μ-loop
 slice-read-if1 c = inside-table (c .before)
 
-mul-list : tie.Need-mul-list Inv-loop μ-loop
-mul-list c = search needs
-
-slice-write-list : tie.Need-slice-write-list Inv-loop μ-loop
-slice-write-list c = search needs
-
-add-kept : tie.Need-add-kept Inv-loop μ-loop
-add-kept c = search needs
-
 mul-held : tie.Need-mul-held Inv-loop μ-loop
 mul-held c = omega (arith, inside-table (c .before .before))
 
 slice-write-held : tie.Need-slice-write-held Inv-loop μ-loop
 slice-write-held c = inside-table (c .before .before)
-
-add-i : tie.Need-add-i Inv-loop μ-loop
-add-i c = search needs
-
-loop-less : tie.Need-loop-less Inv-loop μ-loop
-loop-less c = search needs
 
 loop-again : tie.Need-loop-again Inv-loop μ-loop
 loop-again c =
@@ -180,18 +156,18 @@ keep-spec =
     Inv-loop
     μ-loop
     loop-holds
-    mul-x
-    slice-read-x
-    wide16-requires
+    (λ c. search needs)
+    (λ c. search needs)
+    (λ c κs. search needs)
     mul-if1
     slice-read-if1
-    mul-list
-    slice-write-list
-    add-kept
+    (λ c. search needs)
+    (λ c. search needs)
+    (λ c. search needs)
     mul-held
     slice-write-held
-    add-i
-    loop-less
+    (λ c. search needs)
+    (λ c. search needs)
     loop-again
     same-length
     same-length-2

@@ -9,17 +9,11 @@ use Rattle.report_breaking.specs.Breaking.{opposite}
 use Rattle.report_breaking.proofs.opposite_of.Statement.{statement}
 use Rattle.report_breaking.proofs.opposite_of.Tie as tie
 
-add-result : tie.Need-add-result
-add-result c = search needs
-
 returns : tie.Need-returns
 unfolding opposite
 returns c =
     let p = c .before .args .place in
     sym (pick-true (eqb (p % 2) 0) (p + 1) (p - 1) (eq-eqb (p % 2) 0 (c .if1 .taken)))
-
-sub-result : tie.Need-sub-result
-sub-result c = search needs
 
 returns-2 : tie.Need-returns-2
 unfolding opposite
@@ -28,4 +22,4 @@ returns-2 c =
     sym (pick-false (eqb (p % 2) 0) (p + 1) (p - 1) (ne-eqb (p % 2) 0 (c .if1 .left)))
 
 pub opposite-of-spec : {M : Type 1} → statement M
-opposite-of-spec = tie.close (tie.spec add-result returns sub-result returns-2)
+opposite-of-spec = tie.close (tie.spec (λ c. search needs) returns (λ c. search needs) returns-2)

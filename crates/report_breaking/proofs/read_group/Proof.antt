@@ -25,42 +25,6 @@ relabel : (x : ℕ) {ls part fs new : List ℕ} {k f : ℕ} → k ≡ kind x →
     Made (λ q. fails-all (pick (eqb (kind x) 4) or root) (broken q ls fs)) ls fs new f
 relabel x {ls} {new = new} {f = f} e h = subst₂ (λ j gs. Made (λ q. fails-all (pick (eqb j 4) or root) (broken q ls gs)) ls gs new f) e h
 
-children-of-requires : tie.Need-children-of-requires
-children-of-requires c κs = search needs
-
-add-to : tie.Need-add-to
-add-to c = search needs
-
-mul-base-of : tie.Need-mul-base-of
-mul-base-of c = search needs
-
-sub-base-of : tie.Need-sub-base-of
-sub-base-of c = search needs
-
-part-base-of-start : tie.Need-part-base-of-start
-part-base-of-start c = search needs
-
-part-base-of-end : tie.Need-part-base-of-end
-part-base-of-end c = search needs
-
-base-of-requires : tie.Need-base-of-requires
-base-of-requires c κs = search needs
-
-mul-join : tie.Need-mul-join
-mul-join c = search needs
-
-sub-join : tie.Need-sub-join
-sub-join c = search needs
-
-part-join-start : tie.Need-part-join-start
-part-join-start c = search needs
-
-part-join-end : tie.Need-part-join-end
-part-join-end c = search needs
-
-kind-of-requires : tie.Need-kind-of-requires
-kind-of-requires c κs = search needs
-
 join-requires : tie.Need-join-requires
 join-requires c κs =
     let n = c .before .before .before .before in
@@ -80,12 +44,6 @@ join-requires c κs =
       p .1 .1,
     )
 
-same-length : tie.Need-same-length
-same-length c = search needs
-
-same-length-2 : tie.Need-same-length-2
-same-length-2 c = search needs
-
 returns : tie.Need-returns
 returns c =
     let n = c .before .before .before .before in
@@ -97,19 +55,19 @@ pub read-group-spec : {M : Type 1} → statement M
 read-group-spec =
     tie.close
     (tie.spec
-    children-of-requires
-    add-to
-    mul-base-of
-    sub-base-of
-    part-base-of-start
-    part-base-of-end
-    base-of-requires
-    mul-join
-    sub-join
-    part-join-start
-    part-join-end
-    kind-of-requires
+    (λ c κs. search needs)
+    (λ c. search needs)
+    (λ c. search needs)
+    (λ c. search needs)
+    (λ c. search needs)
+    (λ c. search needs)
+    (λ c κs. search needs)
+    (λ c. search needs)
+    (λ c. search needs)
+    (λ c. search needs)
+    (λ c. search needs)
+    (λ c κs. search needs)
     join-requires
-    same-length
-    same-length-2
+    (λ c. search needs)
+    (λ c. search needs)
     returns)

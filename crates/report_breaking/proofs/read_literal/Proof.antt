@@ -67,33 +67,12 @@ module _ (places t : List ℕ) (p end : ℕ) (room : end < length places) (insid
       more-inside
       (λ q. rw (drop-at (take end places) (p ∷ []) end long) (or-false (eqb q p) ∙ sym (asked t q p (omega arith) d h))))
 
-shared-slice-read-if1 : tie.Need-shared-slice-read-if1
-shared-slice-read-if1 c = search needs
-
-mul-t9 : tie.Need-mul-t9
-mul-t9 c = search needs
-
-add-t10 : tie.Need-add-t10
-add-t10 c = search needs
-
-cast-t11 : tie.Need-cast-t11
-cast-t11 c = search needs
-
 returns : tie.Need-returns
 returns c =
     let a = c .before .before .before .before in
     let p = a .pre in
     let g = a .args in
     (falls (g .places .now) (g .failed .now) (g .place) (g .end) (p .1 .0) (p .1 .2) (p .0 .0) (p .0 .1) (c .if1 .taken), omega arith)
-
-mul-first : tie.Need-mul-first
-mul-first c = search needs
-
-cast-first : tie.Need-cast-first
-cast-first c = search needs
-
-opposite-of-requires : tie.Need-opposite-of-requires
-opposite-of-requires c κs = search needs
 
 shared-slice-read-if2 : tie.Need-shared-slice-read-if2
 shared-slice-read-if2 c =
@@ -108,21 +87,6 @@ returns-2 c =
     let e = c .before .before .opposite-of .ensures in
     (unasked (g .places .now) (g .failed .now) (g .place) (g .end) (p .1 .0) (p .1 .2) (p .0 .0) (p .0 .1) (c .before .before .before .if1 .left) (rw e at (c .if2 .taken)), omega arith)
 
-cast-places : tie.Need-cast-places
-cast-places c = search needs
-
-mul-places : tie.Need-mul-places
-mul-places c = search needs
-
-slice-write-places : tie.Need-slice-write-places
-slice-write-places c = search needs
-
-add-t12 : tie.Need-add-t12
-add-t12 c = search needs
-
-same-length : tie.Need-same-length
-same-length c = search needs
-
 returns-3 : tie.Need-returns-3
 returns-3 c =
     let a = c .before .before .before .before .before .before .before in
@@ -135,19 +99,19 @@ pub read-literal-spec : {M : Type 1} → statement M
 read-literal-spec =
     tie.close
     (tie.spec
-    shared-slice-read-if1
-    mul-t9
-    add-t10
-    cast-t11
+    (λ c. search needs)
+    (λ c. search needs)
+    (λ c. search needs)
+    (λ c. search needs)
     returns
-    mul-first
-    cast-first
-    opposite-of-requires
+    (λ c. search needs)
+    (λ c. search needs)
+    (λ c κs. search needs)
     shared-slice-read-if2
     returns-2
-    cast-places
-    mul-places
-    slice-write-places
-    add-t12
-    same-length
+    (λ c. search needs)
+    (λ c. search needs)
+    (λ c. search needs)
+    (λ c. search needs)
+    (λ c. search needs)
     returns-3)

@@ -30,12 +30,6 @@ at-inner : (t : List ℕ) (x q : ℕ) (ls fs : List ℕ) → is-literal x ≡ fa
     fails-all (pick (eqb (kind x) 4) or root) (broken q ls (take (children x) fs)) ∷ drop (children x) (broken q ls fs) ≡ with-node t x (broken q ls fs)
 at-inner t x q ls fs l = rw (broken-take q (children x) ls fs) (sym (with-inner t x (broken q ls fs) l))
 
-is-literal-requires : tie.Need-is-literal-requires
-is-literal-requires c κs = search needs
-
-sub-new : tie.Need-sub-new
-sub-new c = search needs
-
 literal : (c : tie.Then1) → is-literal (c .before .before .before .before .before .before .args .x) ≡ true
 literal c = sym (c .before .is-literal .ensures) ∙ c .if1 .taken
 
@@ -59,18 +53,6 @@ read-literal-requires c κs =
       (omega (arith, p .1 .0), p .1 .0 .1, p .1 .0 .3 .inside),
     )
 
-mul-stack : tie.Need-mul-stack
-mul-stack c = search needs
-
-slice-write-stack : tie.Need-slice-write-stack
-slice-write-stack c = search needs
-
-same-length : tie.Need-same-length
-same-length c = search needs
-
-same-length-2 : tie.Need-same-length-2
-same-length-2 c = search needs
-
 returns : tie.Need-returns
 returns c =
     let r = c .before .before .read-literal in
@@ -85,14 +67,8 @@ returns c =
     let w = pushed h 0 (g .top - 1) (r .result .first) (r .last .1 .1 .1 .0) (r .result .end) at low room (r .ensures .0) in
     ((r .ensures .1, w .0, p .1 .1 .1), λ q. w .1 q ∙ at-literal (tried (g .failed .now) q) (g .x) _ (c .before .before .before .before .place-of .ensures) (literal t))
 
-children-of-requires : tie.Need-children-of-requires
-children-of-requires c κs = search needs
-
 add-new : tie.Need-add-new
 add-new c = let p = c .before .before .before .before .before .before .before .pre in omega (arith, enough c, p .1 .0 .2)
-
-sub-new-2 : tie.Need-sub-new-2
-sub-new-2 c = search needs
 
 read-group-requires : tie.Need-read-group-requires
 read-group-requires c κs =
@@ -111,15 +87,6 @@ slice-write-stack-2 c =
     let n = c .before .before .before .before .before .before .before .before in
     let p = n .before .before .before .before .before .before .before .pre in
     omega (arith, enough n, p .1 .0 .2, p .0 .0)
-
-same-length-3 : tie.Need-same-length-3
-same-length-3 c = search needs
-
-same-length-4 : tie.Need-same-length-4
-same-length-4 c = search needs
-
-same-length-5 : tie.Need-same-length-5
-same-length-5 c = search needs
 
 returns-2 : tie.Need-returns-2
 returns-2 c =
@@ -140,22 +107,22 @@ pub read-node-spec : {M : Type 1} → statement M
 read-node-spec =
     tie.close
     (tie.spec
-    is-literal-requires
-    sub-new
+    (λ c κs. search needs)
+    (λ c. search needs)
     place-of-requires
     read-literal-requires
-    mul-stack
-    slice-write-stack
-    same-length
-    same-length-2
+    (λ c. search needs)
+    (λ c. search needs)
+    (λ c. search needs)
+    (λ c. search needs)
     returns
-    children-of-requires
+    (λ c κs. search needs)
     add-new
-    sub-new-2
+    (λ c. search needs)
     read-group-requires
     mul-stack-2
     slice-write-stack-2
-    same-length-3
-    same-length-4
-    same-length-5
+    (λ c. search needs)
+    (λ c. search needs)
+    (λ c. search needs)
     returns-2)

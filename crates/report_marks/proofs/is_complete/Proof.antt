@@ -8,15 +8,6 @@ use Rattle.theory_meaning.specs.FailedLiterals.{report-complete}
 use Rattle.report_marks.proofs.is_complete.Statement.{statement}
 use Rattle.report_marks.proofs.is_complete.Tie as tie
 
-propagate-requires : tie.Need-propagate-requires
-propagate-requires c κs = search needs
-
-shared-slice-read-wide16 : tie.Need-shared-slice-read-wide16
-shared-slice-read-wide16 c = search needs
-
-wide16-requires : tie.Need-wide16-requires
-wide16-requires c κs = search needs
-
 all-marked-requires : tie.Need-all-marked-requires
 unfolding options-in
 all-marked-requires c κs = omega (arith, c .wide16 .ensures, c .before .before .before .before .before .before .before .pre .options)
@@ -37,4 +28,4 @@ returns-2 c =
 pub is-complete-spec : {M : Type 1} → statement M
 is-complete-spec =
     tie.close
-    (tie.spec propagate-requires shared-slice-read-wide16 wide16-requires all-marked-requires returns returns-2)
+    (tie.spec (λ c κs. search needs) (λ c. search needs) (λ c κs. search needs) all-marked-requires returns returns-2)

@@ -9,24 +9,9 @@ use Rattle.theory_meaning.specs.FailedLiterals.{place-of, set-of, mark-in}
 use Rattle.report_marks.proofs.mark_of.Statement.{statement}
 use Rattle.report_marks.proofs.mark_of.Tie as tie
 
-mul-if1 : tie.Need-mul-if1
-mul-if1 c = search needs
-
-add-if1 : tie.Need-add-if1
-add-if1 c = search needs
-
-element-copy-out-if1 : tie.Need-element-copy-out-if1
-element-copy-out-if1 c = search needs
-
 returns : tie.Need-returns
 unfolding mark-in set-of place-of pick
 returns c = let a = c .before .before .args in rw (eq-eqb (getD (a .failed .now) (2 * a .v + 1) 0) 1 (c .if1 .taken)) refl
-
-mul-if2 : tie.Need-mul-if2
-mul-if2 c = search needs
-
-element-copy-out-if2 : tie.Need-element-copy-out-if2
-element-copy-out-if2 c = search needs
 
 returns-2 : tie.Need-returns-2
 unfolding mark-in set-of place-of pick
@@ -46,11 +31,11 @@ pub mark-of-spec : {M : Type 1} → statement M
 mark-of-spec =
     tie.close
     (tie.spec
-    mul-if1
-    add-if1
-    element-copy-out-if1
+    (λ c. search needs)
+    (λ c. search needs)
+    (λ c. search needs)
     returns
-    mul-if2
-    element-copy-out-if2
+    (λ c. search needs)
+    (λ c. search needs)
     returns-2
     returns-3)

@@ -6,20 +6,11 @@ use Rattle.model.specs.Limits.{most-literals}
 use Rattle.report_marks.proofs.propagate.Statement.{statement}
 use Rattle.report_marks.proofs.propagate.Tie as tie
 
-find-requires : tie.Need-find-requires
-find-requires c κs = search needs
-
-link-requires : tie.Need-link-requires
-link-requires c κs = search needs
-
 follow-requires : tie.Need-follow-requires
 follow-requires c κs =
     let made = c .before .before .before .before .before .before in
     let found = made .before .before .find .ensures in
     (search needs, (found, (made .link .ensures, (search needs, (search needs, length-replicate {A = ℕ} most-literals 0)))))
 
-returns : tie.Need-returns
-returns c = search needs
-
 pub propagate-spec : {M : Type 1} → statement M
-propagate-spec = tie.close (tie.spec find-requires link-requires follow-requires returns)
+propagate-spec = tie.close (tie.spec (λ c κs. search needs) (λ c κs. search needs) follow-requires (λ c. search needs))

@@ -5,15 +5,6 @@ use Rattle.theory_meaning.specs.FailedLiterals.{report-marks}
 use Rattle.report_marks.proofs.put_report.Statement.{statement}
 use Rattle.report_marks.proofs.put_report.Tie as tie
 
-propagate-requires : tie.Need-propagate-requires
-propagate-requires c κs = search needs
-
-put-marks-requires : tie.Need-put-marks-requires
-put-marks-requires c κs = search needs
-
-same-length : tie.Need-same-length
-same-length c = search needs
-
 returns : tie.Need-returns
 returns c =
     let told = c .before .before .before .before .before .propagate .ensures in
@@ -21,4 +12,4 @@ returns c =
     (told .1, c .before .before .put-marks .ensures ∙ rw (told .1, room) (sym (report-marks _ _ (told .0))))
 
 pub put-report-spec : {M : Type 1} → statement M
-put-report-spec = tie.close (tie.spec propagate-requires put-marks-requires same-length returns)
+put-report-spec = tie.close (tie.spec (λ c κs. search needs) (λ c κs. search needs) (λ c. search needs) returns)

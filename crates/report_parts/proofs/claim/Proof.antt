@@ -17,21 +17,6 @@ abbrev μ-loop : tie.MeasureT-loop
 loop-holds : tie.Need-loop-holds Inv-loop μ-loop
 loop-holds c = (search needs, search needs, claimed-none _ _)
 
-cast-homes : tie.Need-cast-homes Inv-loop μ-loop
-cast-homes c = search needs
-
-mul-homes : tie.Need-mul-homes Inv-loop μ-loop
-mul-homes c = search needs
-
-element-write-homes : tie.Need-element-write-homes Inv-loop μ-loop
-element-write-homes c = search needs
-
-add-n : tie.Need-add-n Inv-loop μ-loop
-add-n c = search needs
-
-loop-less : tie.Need-loop-less Inv-loop μ-loop
-loop-less c = search needs
-
 loop-again : tie.Need-loop-again Inv-loop μ-loop
 loop-again c =
     let w = c .before .loop .inv in
@@ -47,4 +32,4 @@ returns c =
 
 pub claim-spec : {M : Type 1} → statement M
 claim-spec =
-    tie.close (tie.spec Inv-loop μ-loop loop-holds cast-homes mul-homes element-write-homes add-n loop-less loop-again returns)
+    tie.close (tie.spec Inv-loop μ-loop loop-holds (λ c. search needs) (λ c. search needs) (λ c. search needs) (λ c. search needs) (λ c. search needs) loop-again returns)

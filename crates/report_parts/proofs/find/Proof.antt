@@ -61,12 +61,6 @@ ends-near c =
 shared-slice-read-wide16 : tie.Need-shared-slice-read-wide16 Inv-loop μ-loop
 shared-slice-read-wide16 c = let k = c .before .before .pre .0 in omega arith
 
-wide16-requires : tie.Need-wide16-requires Inv-loop μ-loop
-wide16-requires c κs = search needs
-
-add-end : tie.Need-add-end Inv-loop μ-loop
-add-end c = search needs
-
 loop-holds : tie.Need-loop-holds Inv-loop μ-loop
 unfolding used-in
 loop-holds c =
@@ -78,12 +72,6 @@ mul-wide16 c = omega (arith, near c)
 
 shared-slice-read-wide16-2 : tie.Need-shared-slice-read-wide16-2 Inv-loop μ-loop
 shared-slice-read-wide16-2 c = omega (arith, near (c .before), c .before .before .loop .inv .1 .whole)
-
-wide16-requires-2 : tie.Need-wide16-requires-2 Inv-loop μ-loop
-wide16-requires-2 c κs = search needs
-
-kind-of-requires : tie.Need-kind-of-requires Inv-loop μ-loop
-kind-of-requires c κs = search needs
 
 add-i : tie.Need-add-i Inv-loop μ-loop
 add-i c = omega (arith, near (c .before .before .before .before .before))
@@ -158,13 +146,13 @@ find-spec =
     Inv-loop
     μ-loop
     shared-slice-read-wide16
-    wide16-requires
-    add-end
+    (λ c κs. search needs)
+    (λ c. search needs)
     loop-holds
     mul-wide16
     shared-slice-read-wide16-2
-    wide16-requires-2
-    kind-of-requires
+    (λ c κs. search needs)
+    (λ c κs. search needs)
     add-i
     loop-less
     loop-again

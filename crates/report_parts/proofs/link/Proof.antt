@@ -48,12 +48,6 @@ small c =
 shared-slice-read-wide16 : tie.Need-shared-slice-read-wide16 Inv-loop μ-loop
 shared-slice-read-wide16 c = let k = c .before .before .pre .0 in omega arith
 
-wide16-requires : tie.Need-wide16-requires Inv-loop μ-loop
-wide16-requires c κs = search needs
-
-add-end : tie.Need-add-end Inv-loop μ-loop
-add-end c = search needs
-
 loop-holds : tie.Need-loop-holds Inv-loop μ-loop
 unfolding used-in
 loop-holds c =
@@ -65,12 +59,6 @@ mul-wide16 c = omega (arith, near c)
 
 shared-slice-read-wide16-2 : tie.Need-shared-slice-read-wide16-2 Inv-loop μ-loop
 shared-slice-read-wide16-2 c = omega (arith, near (c .before), c .before .before .loop .inv .1 .whole)
-
-wide16-requires-2 : tie.Need-wide16-requires-2 Inv-loop μ-loop
-wide16-requires-2 c κs = search needs
-
-is-literal-requires : tie.Need-is-literal-requires Inv-loop μ-loop
-is-literal-requires c κs = search needs
 
 place-of-requires : tie.Need-place-of-requires Inv-loop μ-loop
 place-of-requires c κs = sym (c .before .is-literal .ensures) ∙ c .if1 .taken
@@ -102,9 +90,6 @@ element-write-links-2 c = omega (arith, small (c .before))
 add-i : tie.Need-add-i Inv-loop μ-loop
 add-i c = omega (arith, near (c .before .before .before .before))
 
-loop-less : tie.Need-loop-less Inv-loop μ-loop
-loop-less c = search needs
-
 loop-again : tie.Need-loop-again Inv-loop μ-loop
 loop-again c =
     let n = c .before .before .before .before in
@@ -129,13 +114,13 @@ link-spec =
     Inv-loop
     μ-loop
     shared-slice-read-wide16
-    wide16-requires
-    add-end
+    (λ c κs. search needs)
+    (λ c. search needs)
     loop-holds
     mul-wide16
     shared-slice-read-wide16-2
-    wide16-requires-2
-    is-literal-requires
+    (λ c κs. search needs)
+    (λ c κs. search needs)
     place-of-requires
     add-own
     mul-links
@@ -146,6 +131,6 @@ link-spec =
     mul-links-3
     element-write-links-2
     add-i
-    loop-less
+    (λ c. search needs)
     loop-again
     returns)

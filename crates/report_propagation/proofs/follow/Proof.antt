@@ -34,9 +34,6 @@ look-at-all-requires c κs =
     let r = p .1 .1 .1 in
     (p .0, (p .1 .0 .part, watching-none _ _ (r .0) (r .1 .0) (r .1 .1)))
 
-enum-known-start : tie.Need-enum-known-start Inv-loop μ-loop
-enum-known-start c = search needs
-
 enum-told : tie.Need-enum-told Inv-loop μ-loop
 enum-told c = search needs
 
@@ -78,12 +75,6 @@ look-requires c κs =
     let part = m .part-at in
     let begins = rw (← part .ensures .0) at (m .before .before .next-due .ensures .begins (m .before .if1 .taken)) in
     (w .0, (rw (part .ensures .1) (w .1 .part (part .result .from) (λ z. omega arith)), w .4 .watching .facts))
-
-enum-known-outcome : tie.Need-enum-known-outcome Inv-loop μ-loop
-enum-known-outcome c = search needs
-
-enum-told-2 : tie.Need-enum-told-2 Inv-loop μ-loop
-enum-told-2 c = search needs
 
 returns-2 : tie.Need-returns-2 Inv-loop μ-loop
 returns-2 c =
@@ -163,7 +154,7 @@ follow-spec =
     Inv-loop
     μ-loop
     look-at-all-requires
-    enum-known-start
+    (λ c. search needs)
     enum-told
     returns
     loop-holds
@@ -173,8 +164,8 @@ follow-spec =
     mul-seen
     element-write-seen
     look-requires
-    enum-known-outcome
-    enum-told-2
+    (λ c. search needs)
+    (λ c. search needs)
     returns-2
     loop-less
     loop-again

@@ -11,9 +11,6 @@ returns : tie.Need-returns
 unfolding due
 returns c = let a = c .before .before .args in rw (le-ltb (a .part .from) (a .part .to) (c .if1 .taken)) refl
 
-sub-if2 : tie.Need-sub-if2
-sub-if2 c = search needs
-
 returns-2 : tie.Need-returns-2
 unfolding due
 returns-2 c =
@@ -31,4 +28,4 @@ returns-3 c =
     rw (one, lt-ltb (part .to - part .from) (turn .limit) (c .before .if2 .left)) refl
 
 pub is-due-spec : {M : Type 1} → statement M
-is-due-spec = tie.close (tie.spec returns sub-if2 returns-2 returns-3)
+is-due-spec = tie.close (tie.spec returns (λ c. search needs) returns-2 returns-3)

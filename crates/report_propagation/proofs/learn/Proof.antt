@@ -24,9 +24,6 @@ room c =
     let new = ne-eqb (getD (a .args .failed .now) (o .result) 0) 1 (c .if1 .left) in
     omega (arith, a .pre .1, unset-fewer (a .args .failed .now) (o .result) (omega (arith, inside (c .before .before), a .pre .1 .0)) new)
 
-opposite-of-requires : tie.Need-opposite-of-requires
-opposite-of-requires c κs = search needs
-
 element-copy-out-if1 : tie.Need-element-copy-out-if1
 element-copy-out-if1 c = inside c
 
@@ -42,14 +39,8 @@ element-write-failed c = inside (c .before .before)
 cast-trail : tie.Need-cast-trail
 cast-trail c = omega (arith, inside (c .before .before))
 
-mul-trail : tie.Need-mul-trail
-mul-trail c = search needs
-
 element-write-trail : tie.Need-element-write-trail
 element-write-trail c = room c
-
-add-result : tie.Need-add-result
-add-result c = search needs
 
 returns-2 : tie.Need-returns-2
 unfolding fresh pick
@@ -61,12 +52,12 @@ pub learn-spec : {M : Type 1} → statement M
 learn-spec =
     tie.close
     (tie.spec
-    opposite-of-requires
+    (λ c κs. search needs)
     element-copy-out-if1
     returns
     element-write-failed
     cast-trail
-    mul-trail
+    (λ c. search needs)
     element-write-trail
-    add-result
+    (λ c. search needs)
     returns-2)

@@ -65,12 +65,6 @@ mul-wide16 c = let p = c .before .pre in omega (arith, part-inside (p .0) (p .1 
 shared-slice-read-wide16 : tie.Need-shared-slice-read-wide16 Inv-loop μ-loop
 shared-slice-read-wide16 c = let p = c .before .before .pre in omega (arith, part-inside (p .0) (p .1 .0), p .1 .0 .goes-on)
 
-wide16-requires : tie.Need-wide16-requires Inv-loop μ-loop
-wide16-requires c κs = search needs
-
-kind-of-requires : tie.Need-kind-of-requires Inv-loop μ-loop
-kind-of-requires c κs = search needs
-
 add-i : tie.Need-add-i Inv-loop μ-loop
 add-i c = let p = c .before .before .before .before .before .pre in omega (arith, part-inside (p .0) (p .1 .0), p .1 .0 .goes-on)
 
@@ -94,12 +88,6 @@ mul-wide16-2 c = omega (arith, within (c .before))
 shared-slice-read-wide16-2 : tie.Need-shared-slice-read-wide16-2 Inv-loop μ-loop
 shared-slice-read-wide16-2 c = within (c .before .before) .1
 
-wide16-requires-2 : tie.Need-wide16-requires-2 Inv-loop μ-loop
-wide16-requires-2 c κs = search needs
-
-is-literal-requires : tie.Need-is-literal-requires Inv-loop μ-loop
-is-literal-requires c κs = search needs
-
 returns : tie.Need-returns Inv-loop μ-loop
 returns c = tt
 
@@ -108,9 +96,6 @@ place-of-requires c κs = sym (c .before .is-literal .ensures) ∙ not-false (c 
 
 element-copy-out-if3 : tie.Need-element-copy-out-if3 Inv-loop μ-loop
 element-copy-out-if3 c = small c
-
-enum-known-forced : tie.Need-enum-known-forced Inv-loop μ-loop
-enum-known-forced c = search needs
 
 returns-2 : tie.Need-returns-2 Inv-loop μ-loop
 returns-2 c =
@@ -123,9 +108,6 @@ returns-2 c =
 
 add-i-2 : tie.Need-add-i-2 Inv-loop μ-loop
 add-i-2 c = omega (arith, within (c .before .before .before .before .before .before .before .before))
-
-loop-less : tie.Need-loop-less Inv-loop μ-loop
-loop-less c = search needs
 
 loop-again : tie.Need-loop-again Inv-loop μ-loop
 loop-again c =
@@ -158,20 +140,20 @@ lone-spec =
     μ-loop
     mul-wide16
     shared-slice-read-wide16
-    wide16-requires
-    kind-of-requires
+    (λ c κs. search needs)
+    (λ c κs. search needs)
     add-i
     loop-holds
     mul-wide16-2
     shared-slice-read-wide16-2
-    wide16-requires-2
-    is-literal-requires
+    (λ c κs. search needs)
+    (λ c κs. search needs)
     returns
     place-of-requires
     element-copy-out-if3
-    enum-known-forced
+    (λ c. search needs)
     returns-2
     add-i-2
-    loop-less
+    (λ c. search needs)
     loop-again
     returns-3)

@@ -6,12 +6,6 @@ use Rattle.report_propagation.proofs.LoneLiterals.{lone-looked, unforce
 use Rattle.report_propagation.proofs.look.Statement.{statement}
 use Rattle.report_propagation.proofs.look.Tie as tie
 
-lone-requires : tie.Need-lone-requires
-lone-requires c κs = search needs
-
-enum-known-forced : tie.Need-enum-known-forced
-enum-known-forced c = search needs
-
 -- What the part forces, where that is one literal.
 forces : (c : tie.After-forced) → let a = c .before .before .before .before .before .args in
     Forces (a .sheet .now) (a .part .from) (a .part .to) (a .failed .now) (c .forced .given .0 .0)
@@ -25,15 +19,6 @@ learn-requires c κs =
 
 enum-told : tie.Need-enum-told
 enum-told c = search needs
-
-enum-told-2 : tie.Need-enum-told-2
-enum-told-2 c = search needs
-
-enum-told-3 : tie.Need-enum-told-3
-enum-told-3 c = search needs
-
-look-inside-requires : tie.Need-look-inside-requires
-look-inside-requires c κs = search needs
 
 returns : tie.Need-returns
 returns c =
@@ -52,21 +37,18 @@ returns-3 c =
     let p = c .before .before .before .before .before .pre in
     part-fallen (p .1 .0) (p .1 .1) (rw (c .enum-told2 .given .1) at (c .before .before .lone .ensures))
 
-returns-4 : tie.Need-returns-4
-returns-4 c = search needs
-
 pub look-spec : {M : Type 1} → statement M
 look-spec =
     tie.close
     (tie.spec
-    lone-requires
-    enum-known-forced
+    (λ c κs. search needs)
+    (λ c. search needs)
     learn-requires
     enum-told
-    enum-told-2
-    enum-told-3
-    look-inside-requires
+    (λ c. search needs)
+    (λ c. search needs)
+    (λ c κs. search needs)
     returns
     returns-2
     returns-3
-    returns-4)
+    (λ c. search needs))

@@ -30,9 +30,6 @@ breaking-requires c κs =
     let p = c .before .before .before .before .before .before .pre in
     (p .1 .0 .tree, part-length (p .0) (p .1 .0), p .1 .1 .long, c .before .breaking-arg4 .given .0 .1, c .breaking-arg5 .given .0 .1)
 
-enum-known-verdict : tie.Need-enum-known-verdict Inv-loop μ-loop
-enum-known-verdict c = search needs
-
 enum-told : tie.Need-enum-told Inv-loop μ-loop
 enum-told c = search needs
 
@@ -54,9 +51,6 @@ mul-wide16 c = omega (arith, c .loop-test .taken, c .before .loop .inv .broken .
 element-copy-out-wide16 : tie.Need-element-copy-out-wide16 Inv-loop μ-loop
 element-copy-out-wide16 c = omega (arith, c .loop-test .taken, c .before .loop .inv .broken .few)
 
-wide16-requires : tie.Need-wide16-requires Inv-loop μ-loop
-wide16-requires c κs = search needs
-
 learn-requires : tie.Need-learn-requires Inv-loop μ-loop
 learn-requires c κs =
     let w = c .before .before .before .before .before .loop .inv in
@@ -67,9 +61,6 @@ add-k : tie.Need-add-k Inv-loop μ-loop
 add-k c =
     let w = c .before .before .before .before .before .before .loop .inv in
     omega (arith, c .before .before .before .before .before .loop-test .taken, w .broken .few)
-
-loop-less : tie.Need-loop-less Inv-loop μ-loop
-loop-less c = search needs
 
 loop-again : tie.Need-loop-again Inv-loop μ-loop
 loop-again c =
@@ -92,15 +83,15 @@ look-inside-spec =
     part-breaking-start
     part-breaking-end
     breaking-requires
-    enum-known-verdict
+    (λ c. search needs)
     enum-told
     returns
     loop-holds
     mul-wide16
     element-copy-out-wide16
-    wide16-requires
+    (λ c κs. search needs)
     learn-requires
     add-k
-    loop-less
+    (λ c. search needs)
     loop-again
     returns-2)

@@ -33,9 +33,6 @@ mul-wide16 c = omega (arith, c .pre .0)
 element-copy-out-wide16 : tie.Need-element-copy-out-wide16 Inv-loop μ-loop
 element-copy-out-wide16 c = omega (arith, c .pre .0)
 
-wide16-requires : tie.Need-wide16-requires Inv-loop μ-loop
-wide16-requires c κs = search needs
-
 loop-holds : tie.Need-loop-holds Inv-loop μ-loop
 loop-holds c =
     let a = c .before .before in
@@ -60,12 +57,6 @@ mul-wide16-2 c = omega (arith, found c)
 element-copy-out-wide16-2 : tie.Need-element-copy-out-wide16-2 Inv-loop μ-loop
 element-copy-out-wide16-2 c = found c
 
-wide16-requires-2 : tie.Need-wide16-requires-2 Inv-loop μ-loop
-wide16-requires-2 c κs = search needs
-
-is-due-requires : tie.Need-is-due-requires Inv-loop μ-loop
-is-due-requires c κs = search needs
-
 returns : tie.Need-returns Inv-loop μ-loop
 returns c =
     let part = c .before .before .before .before .part-at in
@@ -83,9 +74,6 @@ mul-wide16-3 c = omega (arith, c .before .before .before .before .before .before
 
 element-copy-out-wide16-3 : tie.Need-element-copy-out-wide16-3 Inv-loop μ-loop
 element-copy-out-wide16-3 c = omega (arith, c .before .before .before .before .before .before .loop .inv .near)
-
-wide16-requires-3 : tie.Need-wide16-requires-3 Inv-loop μ-loop
-wide16-requires-3 c κs = search needs
 
 loop-less : tie.Need-loop-less Inv-loop μ-loop
 loop-less c =
@@ -127,17 +115,17 @@ next-due-spec =
     μ-loop
     mul-wide16
     element-copy-out-wide16
-    wide16-requires
+    (λ c κs. search needs)
     loop-holds
     part-at-requires
     mul-wide16-2
     element-copy-out-wide16-2
-    wide16-requires-2
-    is-due-requires
+    (λ c κs. search needs)
+    (λ c κs. search needs)
     returns
     mul-wide16-3
     element-copy-out-wide16-3
-    wide16-requires-3
+    (λ c κs. search needs)
     loop-less
     loop-again
     returns-2)

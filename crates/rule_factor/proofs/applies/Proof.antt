@@ -31,12 +31,6 @@ mul-wide16 c = let k = child (c .before .before) in omega arith
 shared-slice-read-wide16 : tie.Need-shared-slice-read-wide16
 shared-slice-read-wide16 c = let k = child (c .before .before .before) in omega arith
 
-wide16-requires : tie.Need-wide16-requires
-wide16-requires c κs = search needs
-
-kind-of-requires : tie.Need-kind-of-requires
-kind-of-requires c κs = search needs
-
 -- What is read there.
 abbrev start : tie.After-kind-of → tie.Start
 start c = c .before .before .before .before .before
@@ -64,9 +58,6 @@ sub-unit-of c = let k = child (start (c .before)) in omega arith
 part-unit-of-start : tie.Need-part-unit-of-start
 part-unit-of-start c = let k = child (start (c .before)) in omega arith
 
-part-unit-of-end : tie.Need-part-unit-of-end
-part-unit-of-end c = search needs
-
 unit-of-requires : tie.Need-unit-of-requires
 unit-of-requires c κs =
     let e = c .before in
@@ -93,12 +84,6 @@ returns-3 c =
 shared-slice-read-wide16-2 : tie.Need-shared-slice-read-wide16-2
 shared-slice-read-wide16-2 c = let k = child (begun (c .before .before)) in omega arith
 
-wide16-requires-2 : tie.Need-wide16-requires-2
-wide16-requires-2 c κs = search needs
-
-children-of-requires : tie.Need-children-of-requires
-children-of-requires c κs = search needs
-
 abbrev asked : tie.After-children-of → tie.After-unit-of
 asked c = c .before .before .before .before
 
@@ -110,9 +95,6 @@ sub-sharing-groups c = let k = child (begun (asked c)) in omega arith
 
 part-sharing-groups-start : tie.Need-part-sharing-groups-start
 part-sharing-groups-start c = let k = child (begun (asked c)) in omega arith
-
-part-sharing-groups-end : tie.Need-part-sharing-groups-end
-part-sharing-groups-end c = search needs
 
 sharing-groups-requires : tie.Need-sharing-groups-requires
 sharing-groups-requires c κs =
@@ -140,20 +122,20 @@ applies-spec =
     returns
     mul-wide16
     shared-slice-read-wide16
-    wide16-requires
-    kind-of-requires
+    (λ c κs. search needs)
+    (λ c κs. search needs)
     returns-2
     mul-unit-of
     sub-unit-of
     part-unit-of-start
-    part-unit-of-end
+    (λ c. search needs)
     unit-of-requires
     returns-3
     shared-slice-read-wide16-2
-    wide16-requires-2
-    children-of-requires
+    (λ c κs. search needs)
+    (λ c κs. search needs)
     sub-sharing-groups
     part-sharing-groups-start
-    part-sharing-groups-end
+    (λ c. search needs)
     sharing-groups-requires
     returns-4)

@@ -9,12 +9,6 @@ use borrow.Author.Needs.{needs}
 use Rattle.rule_factor.proofs.group_of.Statement.{statement}
 use Rattle.rule_factor.proofs.group_of.Tie as tie
 
-wide16-requires : tie.Need-wide16-requires
-wide16-requires c κs = search needs
-
-is-literal-requires : tie.Need-is-literal-requires
-is-literal-requires c κs = search needs
-
 seen : (c : tie.After-is-literal) → c .is-literal .result ≡ is-literal (c .before .before .args .x)
 seen c = c .is-literal .ensures ∙ ap is-literal (c .before .wide16 .ensures .0)
 
@@ -27,4 +21,4 @@ unfolding group-here
 returns-2 c = rw (pick-false {A = ℕ} _ 0 1 (sym (seen (c .before)) ∙ c .if1 .left)) (refl, omega arith)
 
 pub group-of-spec : {M : Type 1} → statement M
-group-of-spec = tie.close (tie.spec wide16-requires is-literal-requires returns returns-2)
+group-of-spec = tie.close (tie.spec (λ c κs. search needs) (λ c κs. search needs) returns returns-2)

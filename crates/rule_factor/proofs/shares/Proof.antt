@@ -12,15 +12,6 @@ use Rattle.rule_factor.proofs.Here.{shares-literal, shares-not, shares-
 use Rattle.rule_factor.proofs.shares.Statement.{statement}
 use Rattle.rule_factor.proofs.shares.Tie as tie
 
-shared-slice-read-wide16 : tie.Need-shared-slice-read-wide16
-shared-slice-read-wide16 c = search needs
-
-wide16-requires : tie.Need-wide16-requires
-wide16-requires c κs = search needs
-
-is-literal-requires : tie.Need-is-literal-requires
-is-literal-requires c κs = search needs
-
 -- What is read of the first number.
 literal : (c : tie.After-is-literal) → c .is-literal .result ≡ is-literal (getD (c .before .before .before .before .args .part .now) 0 0)
 literal c = c .is-literal .ensures ∙ ap is-literal (c .before .wide16 .ensures .0)
@@ -37,35 +28,8 @@ counted c = c .children-of .ensures ∙ ap children (c .before .before .before .
 returns : tie.Need-returns
 returns c = sym (shares-literal _ _ (sym (literal (c .before)) ∙ c .if1 .taken))
 
-kind-of-requires : tie.Need-kind-of-requires
-kind-of-requires c κs = search needs
-
 returns-2 : tie.Need-returns-2
 returns-2 c = sym (shares-not _ _ (sym (literal (c .before .before .before)) ∙ c .before .before .if1 .left) (λ e. c .if2 .taken (kinded (c .before) ∙ e)))
-
-children-of-requires : tie.Need-children-of-requires
-children-of-requires c κs = search needs
-
-sub-unit-place : tie.Need-sub-unit-place
-sub-unit-place c = search needs
-
-part-unit-place-start : tie.Need-part-unit-place-start
-part-unit-place-start c = search needs
-
-part-unit-place-end : tie.Need-part-unit-place-end
-part-unit-place-end c = search needs
-
-unit-place-requires : tie.Need-unit-place-requires
-unit-place-requires c κs = search needs
-
-sub-span-of : tie.Need-sub-span-of
-sub-span-of c = search needs
-
-part-span-of-start : tie.Need-part-span-of-start
-part-span-of-start c = search needs
-
-part-span-of-end : tie.Need-part-span-of-end
-part-span-of-end c = search needs
 
 span-of-requires : tie.Need-span-of-requires
 span-of-requires c κs =
@@ -83,19 +47,19 @@ pub shares-spec : {M : Type 1} → statement M
 shares-spec =
     tie.close
     (tie.spec
-    shared-slice-read-wide16
-    wide16-requires
-    is-literal-requires
+    (λ c. search needs)
+    (λ c κs. search needs)
+    (λ c κs. search needs)
     returns
-    kind-of-requires
+    (λ c κs. search needs)
     returns-2
-    children-of-requires
-    sub-unit-place
-    part-unit-place-start
-    part-unit-place-end
-    unit-place-requires
-    sub-span-of
-    part-span-of-start
-    part-span-of-end
+    (λ c κs. search needs)
+    (λ c. search needs)
+    (λ c. search needs)
+    (λ c. search needs)
+    (λ c κs. search needs)
+    (λ c. search needs)
+    (λ c. search needs)
+    (λ c. search needs)
     span-of-requires
     returns-3)

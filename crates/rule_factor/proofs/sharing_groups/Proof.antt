@@ -22,18 +22,6 @@ abbrev μ-loop : tie.MeasureT-loop
 loop-holds : tie.Need-loop-holds Inv-loop μ-loop
 loop-holds c = (omega arith, omega arith, refl, omega arith)
 
-mul-shares : tie.Need-mul-shares Inv-loop μ-loop
-mul-shares c = search needs
-
-sub-shares : tie.Need-sub-shares Inv-loop μ-loop
-sub-shares c = search needs
-
-part-shares-start : tie.Need-part-shares-start Inv-loop μ-loop
-part-shares-start c = search needs
-
-part-shares-end : tie.Need-part-shares-end Inv-loop μ-loop
-part-shares-end c = search needs
-
 shares-requires : tie.Need-shares-requires Inv-loop μ-loop
 shares-requires c κs =
     let n = c .before .before .before in
@@ -50,42 +38,6 @@ returns c =
     let n = s .before .before .before .before in
     let a = n .before .before .args in
     sym (sharing-not _ _ _ (n .loop .inv .2 ∙ share-fails (a .literal) (n .loop .left) (n .loop .at) (a .part .now) (omega arith) (omega (arith, ltb-true)) (sym (shown s) ∙ not-true (s .shares .result) (c .if2 .taken))))
-
-mul-group-of : tie.Need-mul-group-of Inv-loop μ-loop
-mul-group-of c = search needs
-
-shared-slice-read-group-of : tie.Need-shared-slice-read-group-of Inv-loop μ-loop
-shared-slice-read-group-of c = search needs
-
-group-of-requires : tie.Need-group-of-requires Inv-loop μ-loop
-group-of-requires c κs = search needs
-
-add-groups : tie.Need-add-groups Inv-loop μ-loop
-add-groups c = search needs
-
-mul-span-of : tie.Need-mul-span-of Inv-loop μ-loop
-mul-span-of c = search needs
-
-sub-span-of : tie.Need-sub-span-of Inv-loop μ-loop
-sub-span-of c = search needs
-
-part-span-of-start : tie.Need-part-span-of-start Inv-loop μ-loop
-part-span-of-start c = search needs
-
-part-span-of-end : tie.Need-part-span-of-end Inv-loop μ-loop
-part-span-of-end c = search needs
-
-span-of-requires : tie.Need-span-of-requires Inv-loop μ-loop
-span-of-requires c κs = search needs
-
-add-at : tie.Need-add-at Inv-loop μ-loop
-add-at c = search needs
-
-sub-left : tie.Need-sub-left Inv-loop μ-loop
-sub-left c = search needs
-
-loop-less : tie.Need-loop-less Inv-loop μ-loop
-loop-less c = search needs
 
 loop-again : tie.Need-loop-again Inv-loop μ-loop
 loop-again c =
@@ -124,24 +76,24 @@ sharing-groups-spec =
     Inv-loop
     μ-loop
     loop-holds
-    mul-shares
-    sub-shares
-    part-shares-start
-    part-shares-end
+    (λ c. search needs)
+    (λ c. search needs)
+    (λ c. search needs)
+    (λ c. search needs)
     shares-requires
     returns
-    mul-group-of
-    shared-slice-read-group-of
-    group-of-requires
-    add-groups
-    mul-span-of
-    sub-span-of
-    part-span-of-start
-    part-span-of-end
-    span-of-requires
-    add-at
-    sub-left
-    loop-less
+    (λ c. search needs)
+    (λ c. search needs)
+    (λ c κs. search needs)
+    (λ c. search needs)
+    (λ c. search needs)
+    (λ c. search needs)
+    (λ c. search needs)
+    (λ c. search needs)
+    (λ c κs. search needs)
+    (λ c. search needs)
+    (λ c. search needs)
+    (λ c. search needs)
     loop-again
     returns-2
     returns-3)

@@ -16,30 +16,12 @@ use Rattle.rule_factor.proofs.Here.{unit-past, unit-inner, unit-again, 
 use Rattle.rule_factor.proofs.unit_of.Statement.{statement}
 use Rattle.rule_factor.proofs.unit_of.Tie as tie
 
-shared-slice-read-wide16 : tie.Need-shared-slice-read-wide16
-shared-slice-read-wide16 c = search needs
-
-wide16-requires : tie.Need-wide16-requires
-wide16-requires c κs = search needs
-
-children-of-requires : tie.Need-children-of-requires
-children-of-requires c κs = search needs
-
 -- The number of children.
 counted : (c : tie.After-children-of) → c .children-of .result ≡ children (getD (c .before .before .before .before .args .part .now) 0 0)
 counted c = c .children-of .ensures ∙ ap children (c .before .wide16 .ensures .0)
 
 returns : tie.Need-returns
 returns c = sym (unit-past _ _ (omega (arith, counted (c .before))))
-
-sub-span-of : tie.Need-sub-span-of
-sub-span-of c = search needs
-
-part-span-of-start : tie.Need-part-span-of-start
-part-span-of-start c = search needs
-
-part-span-of-end : tie.Need-part-span-of-end
-part-span-of-end c = search needs
 
 span-of-requires : tie.Need-span-of-requires
 span-of-requires c κs =
@@ -56,20 +38,8 @@ there c = omega (arith, counted (c .before .before .before))
 before : (c : tie.After-span-of) → let a = start c .args in c .span-of .result ≡ span (a .j) (drop 1 (a .part .now))
 before c = rw (lent-part 1 (start c .args .part .now)) at (c .span-of .ensures .0)
 
-add-x : tie.Need-add-x
-add-x c = search needs
-
-mul-x : tie.Need-mul-x
-mul-x c = search needs
-
 shared-slice-read-x : tie.Need-shared-slice-read-x
 shared-slice-read-x c = omega (arith, before (c .before), start (c .before) .pre .1 (there (c .before)))
-
-wide16-requires-2 : tie.Need-wide16-requires-2
-wide16-requires-2 c κs = search needs
-
-is-literal-requires : tie.Need-is-literal-requires
-is-literal-requires c κs = search needs
 
 seen : (c : tie.After-is-literal) → let a = start (c .before .before .before) .args in
     c .is-literal .result ≡ is-literal (getD (a .part .now) (child-at (a .j) (a .part .now)) 0)
@@ -84,18 +54,6 @@ found c = sym (seen (c .before)) ∙ not-false (c .before .is-literal .result) (
 
 returns-2 : tie.Need-returns-2
 returns-2 c = sym (unit-inner _ _ (there (c .before .before .before .before)) (sym (seen (c .before)) ∙ not-true (c .before .is-literal .result) (c .if2 .taken)))
-
-sub-unit-place : tie.Need-sub-unit-place
-sub-unit-place c = search needs
-
-part-unit-place-start : tie.Need-part-unit-place-start
-part-unit-place-start c = search needs
-
-part-unit-place-end : tie.Need-part-unit-place-end
-part-unit-place-end c = search needs
-
-unit-place-requires : tie.Need-unit-place-requires
-unit-place-requires c κs = search needs
 
 placed : (c : tie.After-unit-place) → let a = start (c .before .before .before .before .before .before) .args in
     c .unit-place .result ≡ unit-place (getD (a .part .now) (child-at (a .j) (a .part .now)) 0) (a .j) (drop 1 (a .part .now))
@@ -120,23 +78,23 @@ pub unit-of-spec : {M : Type 1} → statement M
 unit-of-spec =
     tie.close
     (tie.spec
-    shared-slice-read-wide16
-    wide16-requires
-    children-of-requires
+    (λ c. search needs)
+    (λ c κs. search needs)
+    (λ c κs. search needs)
     returns
-    sub-span-of
-    part-span-of-start
-    part-span-of-end
+    (λ c. search needs)
+    (λ c. search needs)
+    (λ c. search needs)
     span-of-requires
-    add-x
-    mul-x
+    (λ c. search needs)
+    (λ c. search needs)
     shared-slice-read-x
-    wide16-requires-2
-    is-literal-requires
+    (λ c κs. search needs)
+    (λ c κs. search needs)
     returns-2
-    sub-unit-place
-    part-unit-place-start
-    part-unit-place-end
-    unit-place-requires
+    (λ c. search needs)
+    (λ c. search needs)
+    (λ c. search needs)
+    (λ c κs. search needs)
     returns-3
     returns-4)

@@ -21,41 +21,11 @@ abbrev μ-loop : tie.MeasureT-loop
 loop-holds : tie.Need-loop-holds Inv-loop μ-loop
 loop-holds c = omega arith
 
-mul-if2 : tie.Need-mul-if2 Inv-loop μ-loop
-mul-if2 c = search needs
-
-shared-slice-read-if2 : tie.Need-shared-slice-read-if2 Inv-loop μ-loop
-shared-slice-read-if2 c = search needs
-
 returns : tie.Need-returns Inv-loop μ-loop
 returns c =
     let n = c .before .before .before .before in
     let a = n .before .before .args in
     omega (arith, ltb-true, unit-found (a .literal) (n .loop .left) (n .loop .at) (a .part .now) (omega arith) (omega (arith, ltb-true)) (c .if2 .taken))
-
-mul-span-of : tie.Need-mul-span-of Inv-loop μ-loop
-mul-span-of c = search needs
-
-sub-span-of : tie.Need-sub-span-of Inv-loop μ-loop
-sub-span-of c = search needs
-
-part-span-of-start : tie.Need-part-span-of-start Inv-loop μ-loop
-part-span-of-start c = search needs
-
-part-span-of-end : tie.Need-part-span-of-end Inv-loop μ-loop
-part-span-of-end c = search needs
-
-span-of-requires : tie.Need-span-of-requires Inv-loop μ-loop
-span-of-requires c κs = search needs
-
-add-at : tie.Need-add-at Inv-loop μ-loop
-add-at c = search needs
-
-sub-left : tie.Need-sub-left Inv-loop μ-loop
-sub-left c = search needs
-
-loop-less : tie.Need-loop-less Inv-loop μ-loop
-loop-less c = search needs
 
 loop-again : tie.Need-loop-again Inv-loop μ-loop
 loop-again c =
@@ -85,17 +55,17 @@ unit-place-spec =
     Inv-loop
     μ-loop
     loop-holds
-    mul-if2
-    shared-slice-read-if2
+    (λ c. search needs)
+    (λ c. search needs)
     returns
-    mul-span-of
-    sub-span-of
-    part-span-of-start
-    part-span-of-end
-    span-of-requires
-    add-at
-    sub-left
-    loop-less
+    (λ c. search needs)
+    (λ c. search needs)
+    (λ c. search needs)
+    (λ c. search needs)
+    (λ c κs. search needs)
+    (λ c. search needs)
+    (λ c. search needs)
+    (λ c. search needs)
     loop-again
     returns-2
     returns-3)

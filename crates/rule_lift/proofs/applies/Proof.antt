@@ -50,12 +50,6 @@ mul-wide16 c = let k = child (c .before) in omega arith
 shared-slice-read-wide16 : tie.Need-shared-slice-read-wide16
 shared-slice-read-wide16 c = let k = child (c .before .before) in omega arith
 
-wide16-requires : tie.Need-wide16-requires
-wide16-requires c κs = search needs
-
-kind-of-requires : tie.Need-kind-of-requires
-kind-of-requires c κs = search needs
-
 returns : tie.Need-returns
 returns c =
     let k = c .before in
@@ -72,9 +66,6 @@ sub-is-literal-child c = let k = child (start (c .before .before)) in omega arit
 part-is-literal-child-start : tie.Need-part-is-literal-child-start
 part-is-literal-child-start c = let k = child (start (c .before .before)) in omega arith
 
-part-is-literal-child-end : tie.Need-part-is-literal-child-end
-part-is-literal-child-end c = search needs
-
 is-literal-child-requires : tie.Need-is-literal-child-requires
 is-literal-child-requires c κs =
     let e = c .before .before .before in
@@ -89,12 +80,6 @@ is-literal-child-requires c κs =
 
 shared-slice-read-wide16-2 : tie.Need-shared-slice-read-wide16-2
 shared-slice-read-wide16-2 c = let k = child (start (c .before .before)) in omega arith
-
-wide16-requires-2 : tie.Need-wide16-requires-2
-wide16-requires-2 c κs = search needs
-
-children-of-requires : tie.Need-children-of-requires
-children-of-requires c κs = search needs
 
 -- The number of the children.
 counted : (c : tie.After-children-of) → c .children-of .result ≡ size (start (c .before .before .before .before) .pre .1 .1 .0 .children)
@@ -140,17 +125,17 @@ applies-spec =
     (tie.spec
     mul-wide16
     shared-slice-read-wide16
-    wide16-requires
-    kind-of-requires
+    (λ c κs. search needs)
+    (λ c κs. search needs)
     returns
     mul-is-literal-child
     sub-is-literal-child
     part-is-literal-child-start
-    part-is-literal-child-end
+    (λ c. search needs)
     is-literal-child-requires
     shared-slice-read-wide16-2
-    wide16-requires-2
-    children-of-requires
+    (λ c κs. search needs)
+    (λ c κs. search needs)
     are-others-literals-requires
     returns-2
     returns-3

@@ -11,15 +11,6 @@ use Rattle.rule_lift.specs.Asked.{literalChild}
 use Rattle.rule_lift.proofs.is_literal_child.Statement.{statement}
 use Rattle.rule_lift.proofs.is_literal_child.Tie as tie
 
-shared-slice-read-wide16 : tie.Need-shared-slice-read-wide16
-shared-slice-read-wide16 c = search needs
-
-wide16-requires : tie.Need-wide16-requires
-wide16-requires c κs = search needs
-
-children-of-requires : tie.Need-children-of-requires
-children-of-requires c κs = search needs
-
 -- The number of children.
 counted : (c : tie.After-children-of) → c .children-of .result ≡ children (getD (c .before .before .before .before .args .part .now) 0 0)
 counted c = c .children-of .ensures ∙ ap children (c .before .wide16 .ensures .0)
@@ -35,20 +26,11 @@ child-at-requires c κs =
     let l = c .before .before .before .before .before .args .part .now in
     omega (arith, counted (c .before), children-small (getD l 0 0))
 
-mul-wide16 : tie.Need-mul-wide16
-mul-wide16 c = search needs
-
 shared-slice-read-wide16-2 : tie.Need-shared-slice-read-wide16-2
 shared-slice-read-wide16-2 c =
     let n = c .before .before .before in
     let inside = n .before .before .before .before .pre .1 (omega (arith, counted n)) in
     omega arith
-
-wide16-requires-2 : tie.Need-wide16-requires-2
-wide16-requires-2 c κs = search needs
-
-is-literal-requires : tie.Need-is-literal-requires
-is-literal-requires c κs = search needs
 
 returns-2 : tie.Need-returns-2
 unfolding literalChild
@@ -62,13 +44,13 @@ pub is-literal-child-spec : {M : Type 1} → statement M
 is-literal-child-spec =
     tie.close
     (tie.spec
-    shared-slice-read-wide16
-    wide16-requires
-    children-of-requires
+    (λ c. search needs)
+    (λ c κs. search needs)
+    (λ c κs. search needs)
     returns
     child-at-requires
-    mul-wide16
+    (λ c. search needs)
     shared-slice-read-wide16-2
-    wide16-requires-2
-    is-literal-requires
+    (λ c κs. search needs)
+    (λ c κs. search needs)
     returns-2)

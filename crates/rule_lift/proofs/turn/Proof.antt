@@ -69,17 +69,11 @@ ended c =
 child-at-requires : tie.Need-child-at-requires
 child-at-requires c κs = let k = child (c .before .before) in omega arith
 
-mul-child-at : tie.Need-mul-child-at
-mul-child-at c = search needs
-
 sub-child-at : tie.Need-sub-child-at
 sub-child-at c = omega (arith, inside (c .before .before))
 
 part-child-at-start : tie.Need-part-child-at-start
 part-child-at-start c = omega (arith, inside (c .before .before .before))
-
-part-child-at-end : tie.Need-part-child-at-end
-part-child-at-end c = search needs
 
 child-at-requires-2 : tie.Need-child-at-requires-2
 child-at-requires-2 c κs =
@@ -105,9 +99,6 @@ add-part c = let k = child (start (begun (c .before))) in omega arith
 slice-write-part : tie.Need-slice-write-part
 slice-write-part c = omega (arith, inside (begun (c .before)))
 
-mul-part : tie.Need-mul-part
-mul-part c = search needs
-
 slice-read-part-2 : tie.Need-slice-read-part-2
 slice-read-part-2 c = simp length-set (inside (begun (c .before .before)))
 
@@ -118,32 +109,14 @@ sub-part c =
     let l = a .args .part .now in
     omega (arith, read d (getD l 0 0 + 1), first-left (child-at (a .args .i) l) l, group-bounds (inner a))
 
-mul-part-2 : tie.Need-mul-part-2
-mul-part-2 c = search needs
-
 slice-write-part-2 : tie.Need-slice-write-part-2
 slice-write-part-2 c = simp length-set (inside (begun (c .before .before)))
 
 move-before-requires : tie.Need-move-before-requires
 move-before-requires c κs = simp length-set (omega arith, ended (c .before .before .before))
 
-slice-read-wide16 : tie.Need-slice-read-wide16
-slice-read-wide16 c = search needs
-
-wide16-requires : tie.Need-wide16-requires
-wide16-requires c κs = search needs
-
-mul-wide16 : tie.Need-mul-wide16
-mul-wide16 c = search needs
-
 slice-read-wide16-2 : tie.Need-slice-read-wide16-2
 slice-read-wide16-2 c = inside (c .before .before .before .before)
-
-wide16-requires-2 : tie.Need-wide16-requires-2
-wide16-requires-2 c κs = search needs
-
-children-of-requires : tie.Need-children-of-requires
-children-of-requires c κs = search needs
 
 -- The number of children of the conjunction, and that the head has room for them.
 abbrev joined : tie.After-children-of → tie.Joined1
@@ -164,9 +137,6 @@ sub-part-2 c = let k = child (start (joined c .before)) in omega arith
 
 cast-part : tie.Need-cast-part
 cast-part c = let k = child (start (joined c .before)) in omega (arith, children-small (c .before .wide162 .result))
-
-slice-write-part-3 : tie.Need-slice-write-part-3
-slice-write-part-3 c = search needs
 
 remove-requires : tie.Need-remove-requires
 remove-requires c κs = simp length-set (omega (arith, inside (joined (c .before) .before)))
@@ -201,31 +171,31 @@ turn-spec =
     tie.close
     (tie.spec
     child-at-requires
-    mul-child-at
+    (λ c. search needs)
     sub-child-at
     part-child-at-start
-    part-child-at-end
+    (λ c. search needs)
     child-at-requires-2
     add-from
     slice-read-part
     add-part
     slice-write-part
-    mul-part
+    (λ c. search needs)
     slice-read-part-2
     sub-part
-    mul-part-2
+    (λ c. search needs)
     slice-write-part-2
     move-before-requires
-    slice-read-wide16
-    wide16-requires
-    mul-wide16
+    (λ c. search needs)
+    (λ c κs. search needs)
+    (λ c. search needs)
     slice-read-wide16-2
-    wide16-requires-2
-    children-of-requires
+    (λ c κs. search needs)
+    (λ c κs. search needs)
     add-part-2
     sub-part-2
     cast-part
-    slice-write-part-3
+    (λ c. search needs)
     remove-requires
     same-length
     returns

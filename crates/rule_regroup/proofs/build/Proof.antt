@@ -21,26 +21,8 @@ room c =
     let l = drop 1 (a .part .now) in
     omega (arith, c .pre .1 .1 .1, length-append (gathered false (a .literal) (a .trees) l) (12290 ∷ a .literal ∷ (16384 + a .groups) ∷ gathered true (a .literal) (a .trees) l))
 
-shared-slice-read-out : tie.Need-shared-slice-read-out
-shared-slice-read-out c = search needs
-
-add-out : tie.Need-add-out
-add-out c = search needs
-
-sub-out : tie.Need-sub-out
-sub-out c = search needs
-
 slice-write-out : tie.Need-slice-write-out
 slice-write-out c = omega (arith, room (c .before .before .before))
-
-sub-copy-trees : tie.Need-sub-copy-trees
-sub-copy-trees c = search needs
-
-part-copy-trees-start : tie.Need-part-copy-trees-start
-part-copy-trees-start c = search needs
-
-part-copy-trees-end : tie.Need-part-copy-trees-end
-part-copy-trees-end c = search needs
 
 copy-trees-requires : tie.Need-copy-trees-requires
 copy-trees-requires c κs =
@@ -75,9 +57,6 @@ mul-out-2 c = omega (arith, left (c .before .before), written (c .before .before
 slice-write-out-3 : tie.Need-slice-write-out-3
 slice-write-out-3 c = simp length-set (omega (arith, left (c .before .before), written (c .before .before)))
 
-add-out-3 : tie.Need-add-out-3
-add-out-3 c = search needs
-
 add-out-4 : tie.Need-add-out-4
 add-out-4 c = omega (arith, left (c .before .before), written (c .before .before))
 
@@ -89,15 +68,6 @@ slice-write-out-4 c = simp length-set (omega (arith, left (c .before .before), w
 
 add-copy-trees : tie.Need-add-copy-trees
 add-copy-trees c = omega (arith, left (c .before .before .before), written (c .before .before .before))
-
-sub-copy-trees-2 : tie.Need-sub-copy-trees-2
-sub-copy-trees-2 c = search needs
-
-part-copy-trees-start-2 : tie.Need-part-copy-trees-start-2
-part-copy-trees-start-2 c = search needs
-
-part-copy-trees-end-2 : tie.Need-part-copy-trees-end-2
-part-copy-trees-end-2 c = search needs
 
 copy-trees-requires-2 : tie.Need-copy-trees-requires-2
 copy-trees-requires-2 c κs =
@@ -124,27 +94,27 @@ pub build-spec : {M : Type 1} → statement M
 build-spec =
     tie.close
     (tie.spec
-    shared-slice-read-out
-    add-out
-    sub-out
+    (λ c. search needs)
+    (λ c. search needs)
+    (λ c. search needs)
     slice-write-out
-    sub-copy-trees
-    part-copy-trees-start
-    part-copy-trees-end
+    (λ c. search needs)
+    (λ c. search needs)
+    (λ c. search needs)
     copy-trees-requires
     mul-out
     slice-write-out-2
     add-out-2
     mul-out-2
     slice-write-out-3
-    add-out-3
+    (λ c. search needs)
     add-out-4
     mul-out-3
     slice-write-out-4
     add-copy-trees
-    sub-copy-trees-2
-    part-copy-trees-start-2
-    part-copy-trees-end-2
+    (λ c. search needs)
+    (λ c. search needs)
+    (λ c. search needs)
     copy-trees-requires-2
     same-length
     returns)

@@ -17,34 +17,10 @@ use Rattle.rule_regroup.proofs.KeptTrees.{less-unit-parts}
 use Rattle.rule_regroup.proofs.copy_group.Statement.{statement}
 use Rattle.rule_regroup.proofs.copy_group.Tie as tie
 
-shared-slice-read-wide16 : tie.Need-shared-slice-read-wide16
-shared-slice-read-wide16 c = search needs
-
-wide16-requires : tie.Need-wide16-requires
-wide16-requires c κs = search needs
-
-children-of-requires : tie.Need-children-of-requires
-children-of-requires c κs = search needs
-
 -- The number of children.
 counted : (c : tie.After-children-of) →
     c .children-of .result ≡ children (getD (c .before .before .before .before .before .args .part .now) 0 0)
 counted c = c .children-of .ensures ∙ ap children (c .before .wide16 .ensures .0)
-
-sub-unit-place : tie.Need-sub-unit-place
-sub-unit-place c = search needs
-
-part-unit-place-start : tie.Need-part-unit-place-start
-part-unit-place-start c = search needs
-
-part-unit-place-end : tie.Need-part-unit-place-end
-part-unit-place-end c = search needs
-
-unit-place-requires : tie.Need-unit-place-requires
-unit-place-requires c κs = search needs
-
-add-p : tie.Need-add-p
-add-p c = search needs
 
 child-at-requires : tie.Need-child-at-requires
 child-at-requires c κs =
@@ -91,48 +67,21 @@ inside c =
     let e : c .child-at .result ≡ child-at m l = rw (counted (c .before .before .before)) at (c .child-at .ensures .0) in
     omega (arith, ltb-true (unit-place (s .args .literal) m (drop 1 l)) (span m (drop 1 l)) (s .pre .1 .1 .0))
 
-shared-slice-read-out : tie.Need-shared-slice-read-out
-shared-slice-read-out c = search needs
-
 sub-out : tie.Need-sub-out
 unfolding kind
 sub-out c = omega (arith, start (c .before) .pre .1 .0)
 
-mul-out : tie.Need-mul-out
-mul-out c = search needs
-
 slice-write-out : tie.Need-slice-write-out
 slice-write-out c = omega (arith, room (c .before))
 
-add-copy : tie.Need-add-copy
-add-copy c = search needs
-
-sub-copy : tie.Need-sub-copy
-sub-copy c = search needs
-
-part-copy-start : tie.Need-part-copy-start
-part-copy-start c = search needs
-
-part-copy-end : tie.Need-part-copy-end
-part-copy-end c = search needs
-
 copy-requires : tie.Need-copy-requires
 copy-requires c κs = simp length-set (omega (arith, room (c .before .before .before)))
-
-add-copy-2 : tie.Need-add-copy-2
-add-copy-2 c = search needs
-
-mul-copy : tie.Need-mul-copy
-mul-copy c = search needs
 
 sub-copy-2 : tie.Need-sub-copy-2
 sub-copy-2 c = omega (arith, inside (c .before .before .before .before .before .before .before))
 
 part-copy-start-2 : tie.Need-part-copy-start-2
 part-copy-start-2 c = omega (arith, inside (c .before .before .before .before .before .before .before), c .before .before .before .before .before .before .before .child-at .ensures .1)
-
-part-copy-end-2 : tie.Need-part-copy-end-2
-part-copy-end-2 c = search needs
 
 copy-requires-2 : tie.Need-copy-requires-2
 copy-requires-2 c κs =
@@ -155,29 +104,29 @@ pub copy-group-spec : {M : Type 1} → statement M
 copy-group-spec =
     tie.close
     (tie.spec
-    shared-slice-read-wide16
-    wide16-requires
-    children-of-requires
-    sub-unit-place
-    part-unit-place-start
-    part-unit-place-end
-    unit-place-requires
-    add-p
+    (λ c. search needs)
+    (λ c κs. search needs)
+    (λ c κs. search needs)
+    (λ c. search needs)
+    (λ c. search needs)
+    (λ c. search needs)
+    (λ c κs. search needs)
+    (λ c. search needs)
     child-at-requires
-    shared-slice-read-out
+    (λ c. search needs)
     sub-out
-    mul-out
+    (λ c. search needs)
     slice-write-out
-    add-copy
-    sub-copy
-    part-copy-start
-    part-copy-end
+    (λ c. search needs)
+    (λ c. search needs)
+    (λ c. search needs)
+    (λ c. search needs)
     copy-requires
-    add-copy-2
-    mul-copy
+    (λ c. search needs)
+    (λ c. search needs)
     sub-copy-2
     part-copy-start-2
-    part-copy-end-2
+    (λ c. search needs)
     copy-requires-2
     same-length
     returns)

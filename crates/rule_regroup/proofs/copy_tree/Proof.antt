@@ -13,15 +13,6 @@ use Rattle.rule_regroup.proofs.KeptTrees.{kept-is}
 use Rattle.rule_regroup.proofs.copy_tree.Statement.{statement}
 use Rattle.rule_regroup.proofs.copy_tree.Tie as tie
 
-shared-slice-read-x : tie.Need-shared-slice-read-x
-shared-slice-read-x c = search needs
-
-wide16-requires : tie.Need-wide16-requires
-wide16-requires c κs = search needs
-
-is-literal-requires : tie.Need-is-literal-requires
-is-literal-requires c κs = search needs
-
 -- What is read of the first number.
 literal : (c : tie.After-is-literal) →
     c .is-literal .result ≡ is-literal (getD (c .before .before .before .before .before .args .part .now) 0 0)
@@ -48,17 +39,8 @@ group c =
     let a = c .before .before .before .before .before .before .before .args in
     kept-is (a .groups) (a .literal) (a .part .now) (sym (literal (c .before .before)) ∙ c .before .if1 .left) (c .if3 .taken)
 
-mul-out : tie.Need-mul-out
-mul-out c = search needs
-
 slice-write-out : tie.Need-slice-write-out
 slice-write-out c = omega (arith, ap length (unit c), c .before .before .before .before .before .before .before .pre .1 .1)
-
-add-result : tie.Need-add-result
-add-result c = search needs
-
-same-length : tie.Need-same-length
-same-length c = search needs
 
 returns-2 : tie.Need-returns-2
 returns-2 c =
@@ -71,9 +53,6 @@ copy-group-requires c κs =
     let s = e .before .before .before .before .before in
     let w = shares-group (s .args .literal) (s .args .part .now) (s .pre .1 .0) (sym (literal e) ∙ c .before .before .if1 .left) in
     (s .pre .0, (w .0, (w .1, rw (group (c .before)) at (s .pre .1 .1))))
-
-same-length-2 : tie.Need-same-length-2
-same-length-2 c = search needs
 
 returns-3 : tie.Need-returns-3
 returns-3 c = appended-as (sym (group (c .before .before .before .before))) (c .before .before .copy-group .ensures)
@@ -88,16 +67,16 @@ pub copy-tree-spec : {M : Type 1} → statement M
 copy-tree-spec =
     tie.close
     (tie.spec
-    shared-slice-read-x
-    wide16-requires
-    is-literal-requires
+    (λ c. search needs)
+    (λ c κs. search needs)
+    (λ c κs. search needs)
     returns
-    mul-out
+    (λ c. search needs)
     slice-write-out
-    add-result
-    same-length
+    (λ c. search needs)
+    (λ c. search needs)
     returns-2
     copy-group-requires
-    same-length-2
+    (λ c. search needs)
     returns-3
     returns-4)

@@ -20,18 +20,6 @@ abbrev μ-loop : tie.MeasureT-loop
 loop-holds : tie.Need-loop-holds Inv-loop μ-loop
 loop-holds c = let s = c .before .before in gathering-none _ _ _ _ _ _ (s .pre .1 .0)
 
-mul-copy-tree : tie.Need-mul-copy-tree Inv-loop μ-loop
-mul-copy-tree c = search needs
-
-sub-copy-tree : tie.Need-sub-copy-tree Inv-loop μ-loop
-sub-copy-tree c = search needs
-
-part-copy-tree-start : tie.Need-part-copy-tree-start Inv-loop μ-loop
-part-copy-tree-start c = search needs
-
-part-copy-tree-end : tie.Need-part-copy-tree-end Inv-loop μ-loop
-part-copy-tree-end c = search needs
-
 copy-tree-requires : tie.Need-copy-tree-requires Inv-loop μ-loop
 copy-tree-requires c κs =
     let n = c .before .before .before .before in
@@ -42,30 +30,6 @@ copy-tree-requires c κs =
     let some : 0 < n .loop .left = omega arith in
     rw (lent-part from l)
     ((omega (arith, length-drop from l), omega (arith, length-drop from l, s .pre .0)), (gathering-shares (n .loop .inv) some inside, gathering-room (n .loop .inv) some inside (s .pre .1 .1)))
-
-mul-span-of : tie.Need-mul-span-of Inv-loop μ-loop
-mul-span-of c = search needs
-
-sub-span-of : tie.Need-sub-span-of Inv-loop μ-loop
-sub-span-of c = search needs
-
-part-span-of-start : tie.Need-part-span-of-start Inv-loop μ-loop
-part-span-of-start c = search needs
-
-part-span-of-end : tie.Need-part-span-of-end Inv-loop μ-loop
-part-span-of-end c = search needs
-
-span-of-requires : tie.Need-span-of-requires Inv-loop μ-loop
-span-of-requires c κs = search needs
-
-add-from : tie.Need-add-from Inv-loop μ-loop
-add-from c = search needs
-
-sub-left : tie.Need-sub-left Inv-loop μ-loop
-sub-left c = search needs
-
-loop-less : tie.Need-loop-less Inv-loop μ-loop
-loop-less c = search needs
 
 loop-again : tie.Need-loop-again Inv-loop μ-loop
 loop-again c =
@@ -104,19 +68,19 @@ copy-trees-spec =
     Inv-loop
     μ-loop
     loop-holds
-    mul-copy-tree
-    sub-copy-tree
-    part-copy-tree-start
-    part-copy-tree-end
+    (λ c. search needs)
+    (λ c. search needs)
+    (λ c. search needs)
+    (λ c. search needs)
     copy-tree-requires
-    mul-span-of
-    sub-span-of
-    part-span-of-start
-    part-span-of-end
-    span-of-requires
-    add-from
-    sub-left
-    loop-less
+    (λ c. search needs)
+    (λ c. search needs)
+    (λ c. search needs)
+    (λ c. search needs)
+    (λ c κs. search needs)
+    (λ c. search needs)
+    (λ c. search needs)
+    (λ c. search needs)
     loop-again
     same-length
     returns

@@ -12,9 +12,6 @@ use Rattle.rule_regroup.proofs.Turning.{rule-found, step-room, turned}
 use Rattle.rule_regroup.proofs.turn.Statement.{statement}
 use Rattle.rule_regroup.proofs.turn.Tie as tie
 
-slice-aggregate-write-step : tie.Need-slice-aggregate-write-step
-slice-aggregate-write-step c = search needs
-
 write-step-requires : tie.Need-write-step-requires
 write-step-requires c κs =
     let s = c .before .before .before in
@@ -67,7 +64,7 @@ pub turn-spec : {M : Type 1} → statement M
 turn-spec =
     tie.close
     (tie.spec
-    slice-aggregate-write-step
+    (λ c. search needs)
     write-step-requires
     array-share-prefix-out
     slice-aggregate-copy

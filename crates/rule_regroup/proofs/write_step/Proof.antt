@@ -15,17 +15,8 @@ use Rattle.rule_regroup.proofs.Turning.{rule-found, ends-live, step-roo
 use Rattle.rule_regroup.proofs.write_step.Statement.{statement}
 use Rattle.rule_regroup.proofs.write_step.Tie as tie
 
-write-tree-requires : tie.Need-write-tree-requires
-write-tree-requires c κs = search needs
-
 shared-slice-read-wide16 : tie.Need-shared-slice-read-wide16
 shared-slice-read-wide16 c = let s = c .before .before .before .before .before .before .before in stretch-some (s .pre .0) (s .pre .1 .0)
-
-wide16-requires : tie.Need-wide16-requires
-wide16-requires c κs = search needs
-
-children-of-requires : tie.Need-children-of-requires
-children-of-requires c κs = search needs
 
 -- The number of children, and where the last one ends.
 abbrev written : tie.After-children-of → tie.After-write-tree
@@ -44,12 +35,6 @@ child-at-requires c κs =
 
 ended : (c : tie.After-child-at) → let l = start (c .before) .args .part .now in c .child-at .result ≡ child-at (children (getD l 0 0)) l
 ended c = rw (counted (c .before)) at (c .child-at .ensures .0)
-
-live-count-requires : tie.Need-live-count-requires
-live-count-requires c κs = search needs
-
-mul-copy : tie.Need-mul-copy
-mul-copy c = search needs
 
 sub-copy : tie.Need-sub-copy
 sub-copy c =
@@ -86,9 +71,6 @@ copy-requires c κs =
     rw (ended d, c .before .before .live-count .ensures)
     (omega (arith, room, length-append (tree-after (a .i) (a .j) l) (take (length (live l) - e) (drop e l)), w .ensures .end, w .kept .0, s .pre .1 .1 .1))
 
-same-length : tie.Need-same-length
-same-length c = search needs
-
 returns : tie.Need-returns
 unfolding step-after
 returns c =
@@ -100,16 +82,16 @@ pub write-step-spec : {M : Type 1} → statement M
 write-step-spec =
     tie.close
     (tie.spec
-    write-tree-requires
+    (λ c κs. search needs)
     shared-slice-read-wide16
-    wide16-requires
-    children-of-requires
+    (λ c κs. search needs)
+    (λ c κs. search needs)
     child-at-requires
-    live-count-requires
-    mul-copy
+    (λ c κs. search needs)
+    (λ c. search needs)
     sub-copy
     part-copy-start
     part-copy-end
     copy-requires
-    same-length
+    (λ c. search needs)
     returns)

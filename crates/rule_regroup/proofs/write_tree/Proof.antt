@@ -24,12 +24,6 @@ child c = applied-child (c .pre .0) (c .pre .1 .0) (c .args .j) (c .pre .1 .1 .0
 shared-slice-read-wide16 : tie.Need-shared-slice-read-wide16
 shared-slice-read-wide16 c = let k = child (c .before .before .before) in omega arith
 
-wide16-requires : tie.Need-wide16-requires
-wide16-requires c κs = search needs
-
-children-of-requires : tie.Need-children-of-requires
-children-of-requires c κs = search needs
-
 -- The number of children, the literal, and the number of groups.
 counted : (c : tie.After-children-of) →
     c .children-of .result ≡ children (getD (c .before .before .before .before .before .args .part .now) 0 0)
@@ -37,18 +31,6 @@ counted c = c .children-of .ensures ∙ ap children (c .before .wide16 .ensures 
 
 child-at-requires : tie.Need-child-at-requires
 child-at-requires c κs = let k = child (c .before .before .before .before .before) in omega arith
-
-mul-unit-of : tie.Need-mul-unit-of
-mul-unit-of c = search needs
-
-sub-unit-of : tie.Need-sub-unit-of
-sub-unit-of c = search needs
-
-part-unit-of-start : tie.Need-part-unit-of-start
-part-unit-of-start c = search needs
-
-part-unit-of-end : tie.Need-part-unit-of-end
-part-unit-of-end c = search needs
 
 unit-of-requires : tie.Need-unit-of-requires
 unit-of-requires c κs =
@@ -65,15 +47,6 @@ found c =
     let d = c .before .before in
     let l = d .before .before .before .before .before .before .args .part .now in
     rw (lent-at (d .child-at .result) l (d .child-at .ensures .0)) at (c .unit-of .ensures)
-
-sub-sharing-groups : tie.Need-sub-sharing-groups
-sub-sharing-groups c = search needs
-
-part-sharing-groups-start : tie.Need-part-sharing-groups-start
-part-sharing-groups-start c = search needs
-
-part-sharing-groups-end : tie.Need-part-sharing-groups-end
-part-sharing-groups-end c = search needs
 
 sharing-groups-requires : tie.Need-sharing-groups-requires
 sharing-groups-requires c κs =
@@ -105,9 +78,6 @@ build-requires c κs =
     rw (grouped d, found u, counted n)
     ((omega arith, omega arith), (groups-few (s .pre .0) h p, (all-shared (s .pre .0) h p, omega (arith, s .pre .1 .1 .1))))
 
-same-length : tie.Need-same-length
-same-length c = search needs
-
 returns : tie.Need-returns
 unfolding tree-after
 returns c =
@@ -120,18 +90,18 @@ write-tree-spec =
     tie.close
     (tie.spec
     shared-slice-read-wide16
-    wide16-requires
-    children-of-requires
+    (λ c κs. search needs)
+    (λ c κs. search needs)
     child-at-requires
-    mul-unit-of
-    sub-unit-of
-    part-unit-of-start
-    part-unit-of-end
+    (λ c. search needs)
+    (λ c. search needs)
+    (λ c. search needs)
+    (λ c. search needs)
     unit-of-requires
-    sub-sharing-groups
-    part-sharing-groups-start
-    part-sharing-groups-end
+    (λ c. search needs)
+    (λ c. search needs)
+    (λ c. search needs)
     sharing-groups-requires
     build-requires
-    same-length
+    (λ c. search needs)
     returns)

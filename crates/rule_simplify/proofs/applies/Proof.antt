@@ -24,17 +24,8 @@ mul-result c = let k = child (c .before .before .before .before) in omega arith
 shared-slice-read-result : tie.Need-shared-slice-read-result
 shared-slice-read-result c = let k = child (c .before .before .before .before .before) in omega arith
 
-constant-for-requires : tie.Need-constant-for-requires
-constant-for-requires c κs = search needs
-
 shared-slice-read-wide16 : tie.Need-shared-slice-read-wide16
 shared-slice-read-wide16 c = let k = child (c .before .before .before .before) in omega arith
-
-wide16-requires : tie.Need-wide16-requires
-wide16-requires c κs = search needs
-
-children-of-requires : tie.Need-children-of-requires
-children-of-requires c κs = search needs
 
 returns-2 : tie.Need-returns-2
 returns-2 c =
@@ -57,9 +48,9 @@ applies-spec =
     returns
     mul-result
     shared-slice-read-result
-    constant-for-requires
+    (λ c κs. search needs)
     shared-slice-read-wide16
-    wide16-requires
-    children-of-requires
+    (λ c κs. search needs)
+    (λ c κs. search needs)
     returns-2
     returns-3)

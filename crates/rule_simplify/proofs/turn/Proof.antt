@@ -36,27 +36,9 @@ late c = let k = child (start (c .before .before)) in omega (arith, ended c)
 slice-read-head : tie.Need-slice-read-head
 slice-read-head c = let k = child (c .before .before .before .before) in omega arith
 
-wide16-requires : tie.Need-wide16-requires
-wide16-requires c κs = search needs
-
-children-of-requires : tie.Need-children-of-requires
-children-of-requires c κs = search needs
-
 child-at-requires : tie.Need-child-at-requires
 child-at-requires c κs =
     let k = child (start (c .before)) in omega (arith, counted (c .before))
-
-sub-part : tie.Need-sub-part
-sub-part c = search needs
-
-add-part : tie.Need-add-part
-add-part c = search needs
-
-slice-write-part : tie.Need-slice-write-part
-slice-write-part c = search needs
-
-constant-for-requires : tie.Need-constant-for-requires
-constant-for-requires c κs = search needs
 
 slice-write-part-2 : tie.Need-slice-write-part-2
 slice-write-part-2 c = simp length-set (omega (arith, late (c .before), c .before .child-at .ensures .1))
@@ -71,14 +53,8 @@ remove-requires c κs =
 child-at-requires-2 : tie.Need-child-at-requires-2
 child-at-requires-2 c κs = let k = child (c .before .before .before .before .before) in omega arith
 
-slice-read-part : tie.Need-slice-read-part
-slice-read-part c = search needs
-
 sub-part-2 : tie.Need-sub-part-2
 sub-part-2 c = let k = child (c .before .before .before .before .before .before .before) in omega arith
-
-slice-write-part-3 : tie.Need-slice-write-part-3
-slice-write-part-3 c = search needs
 
 remove-requires-2 : tie.Need-remove-requires-2
 remove-requires-2 c κs =
@@ -131,20 +107,20 @@ turn-spec =
     tie.close
     (tie.spec
     slice-read-head
-    wide16-requires
-    children-of-requires
+    (λ c κs. search needs)
+    (λ c κs. search needs)
     child-at-requires
-    sub-part
-    add-part
-    slice-write-part
-    constant-for-requires
+    (λ c. search needs)
+    (λ c. search needs)
+    (λ c. search needs)
+    (λ c κs. search needs)
     slice-write-part-2
     sub-remove
     remove-requires
     child-at-requires-2
-    slice-read-part
+    (λ c. search needs)
     sub-part-2
-    slice-write-part-3
+    (λ c. search needs)
     remove-requires-2
     remove-requires-3
     same-length

@@ -33,12 +33,6 @@ returns c =
 shared-slice-read-wide16 : tie.Need-shared-slice-read-wide16
 shared-slice-read-wide16 c = let k = child (c .before .before .before) in omega arith
 
-wide16-requires : tie.Need-wide16-requires
-wide16-requires c κs = search needs
-
-children-of-requires : tie.Need-children-of-requires
-children-of-requires c κs = search needs
-
 child-at-requires : tie.Need-child-at-requires
 child-at-requires c κs = let k = child (start c) in omega (arith, counted c)
 
@@ -59,8 +53,8 @@ applies-spec =
     (tie.spec
     returns
     shared-slice-read-wide16
-    wide16-requires
-    children-of-requires
+    (λ c κs. search needs)
+    (λ c κs. search needs)
     child-at-requires
     occurs-around-requires
     returns-2)

@@ -4,15 +4,6 @@ use Rattle.rule_spread.specs.Assigning.{names}
 use Rattle.rule_spread.proofs.is_of.Statement.{statement}
 use Rattle.rule_spread.proofs.is_of.Tie as tie
 
-wide16-requires : tie.Need-wide16-requires
-wide16-requires c κs = search needs
-
-is-literal-requires : tie.Need-is-literal-requires
-is-literal-requires c κs = search needs
-
-value-of-requires : tie.Need-value-of-requires
-value-of-requires c κs = search needs
-
 returns : tie.Need-returns
 unfolding names
 returns c =
@@ -25,4 +16,4 @@ returns-2 c = let n = c .before in rw (← n .before .wide16 .ensures .0, ← n 
 
 pub is-of-spec : {M : Type 1} → statement M
 is-of-spec =
-    tie.close (tie.spec wide16-requires is-literal-requires value-of-requires returns returns-2)
+    tie.close (tie.spec (λ c κs. search needs) (λ c κs. search needs) (λ c κs. search needs) returns returns-2)

@@ -38,23 +38,11 @@ now c =
 loop-holds : tie.Need-loop-holds Inv-loop μ-loop
 loop-holds c = (omega arith, omega arith, refl)
 
-mul-is-of : tie.Need-mul-is-of Inv-loop μ-loop
-mul-is-of c = search needs
-
 shared-slice-read-is-of : tie.Need-shared-slice-read-is-of Inv-loop μ-loop
 shared-slice-read-is-of c = omega arith
 
-is-of-requires : tie.Need-is-of-requires Inv-loop μ-loop
-is-of-requires c κs = search needs
-
 returns : tie.Need-returns Inv-loop μ-loop
 returns c = let n = c .before .before .before in sym (now n ∙ rw (← c .before .is-of .ensures, c .if1 .taken))
-
-add-k : tie.Need-add-k Inv-loop μ-loop
-add-k c = search needs
-
-loop-less : tie.Need-loop-less Inv-loop μ-loop
-loop-less c = search needs
 
 loop-again : tie.Need-loop-again Inv-loop μ-loop
 loop-again c =
@@ -75,11 +63,11 @@ occurs-spec =
     Inv-loop
     μ-loop
     loop-holds
-    mul-is-of
+    (λ c. search needs)
     shared-slice-read-is-of
-    is-of-requires
+    (λ c κs. search needs)
     returns
-    add-k
-    loop-less
+    (λ c. search needs)
+    (λ c. search needs)
     loop-again
     returns-2)

@@ -5,35 +5,11 @@ use Rattle.rule_spread.specs.Assigning.{spreads-from}
 use Rattle.rule_spread.proofs.occurs_around.Statement.{statement}
 use Rattle.rule_spread.proofs.occurs_around.Tie as tie
 
-mul-wide16 : tie.Need-mul-wide16
-mul-wide16 c = search needs
-
-shared-slice-read-wide16 : tie.Need-shared-slice-read-wide16
-shared-slice-read-wide16 c = search needs
-
-wide16-requires : tie.Need-wide16-requires
-wide16-requires c κs = search needs
-
-is-literal-requires : tie.Need-is-literal-requires
-is-literal-requires c κs = search needs
-
 returns : tie.Need-returns
 unfolding spreads-from
 returns c =
     let n = c .before in
     rw (← n .before .wide16 .ensures .0, ← n .is-literal .ensures, not-true (n .is-literal .result) (c .if1 .taken))
-
-value-of-requires : tie.Need-value-of-requires
-value-of-requires c κs = search needs
-
-occurs-requires : tie.Need-occurs-requires
-occurs-requires c κs = search needs
-
-add-occurs : tie.Need-add-occurs
-add-occurs c = search needs
-
-occurs-requires-2 : tie.Need-occurs-requires-2
-occurs-requires-2 c κs = search needs
 
 returns-2 : tie.Need-returns-2
 unfolding spreads-from
@@ -53,14 +29,14 @@ pub occurs-around-spec : {M : Type 1} → statement M
 occurs-around-spec =
     tie.close
     (tie.spec
-    mul-wide16
-    shared-slice-read-wide16
-    wide16-requires
-    is-literal-requires
+    (λ c. search needs)
+    (λ c. search needs)
+    (λ c κs. search needs)
+    (λ c κs. search needs)
     returns
-    value-of-requires
-    occurs-requires
-    add-occurs
-    occurs-requires-2
+    (λ c κs. search needs)
+    (λ c κs. search needs)
+    (λ c. search needs)
+    (λ c κs. search needs)
     returns-2
     returns-3)

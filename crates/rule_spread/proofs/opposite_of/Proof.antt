@@ -7,19 +7,13 @@ use Rattle.theory_forms.specs.Logic.{pick-true, pick-false}
 use Rattle.rule_spread.proofs.opposite_of.Statement.{statement}
 use Rattle.rule_spread.proofs.opposite_of.Tie as tie
 
-add-result : tie.Need-add-result
-add-result c = search needs
-
 returns : tie.Need-returns
 unfolding opposite
 returns c = sym (pick-true _ _ _ (lt-ltb _ _ (c .if1 .taken)))
-
-sub-result : tie.Need-sub-result
-sub-result c = search needs
 
 returns-2 : tie.Need-returns-2
 unfolding opposite
 returns-2 c = sym (pick-false _ _ _ (le-ltb _ _ (c .if1 .left)))
 
 pub opposite-of-spec : {M : Type 1} → statement M
-opposite-of-spec = tie.close (tie.spec add-result returns sub-result returns-2)
+opposite-of-spec = tie.close (tie.spec (λ c. search needs) returns (λ c. search needs) returns-2)

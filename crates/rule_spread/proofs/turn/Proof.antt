@@ -33,12 +33,6 @@ ended c = c .child-at2 .ensures .0 ∙ ap (λ n. child-at n (start (begun c) .ar
 slice-read-wide16 : tie.Need-slice-read-wide16
 slice-read-wide16 c = let k = child (c .before .before) in omega arith
 
-wide16-requires : tie.Need-wide16-requires
-wide16-requires c κs = search needs
-
-children-of-requires : tie.Need-children-of-requires
-children-of-requires c κs = search needs
-
 child-at-requires : tie.Need-child-at-requires
 child-at-requires c κs = let k = child (start (c .before)) in omega arith
 
@@ -51,9 +45,6 @@ child-at-requires-2 c κs =
 assign-around-requires : tie.Need-assign-around-requires
 assign-around-requires c κs =
     let k = child (start (begun (c .before))) in omega (arith, ended (c .before), c .before .before .before .child-at .ensures .0)
-
-same-length : tie.Need-same-length
-same-length c = search needs
 
 returns : tie.Need-returns
 returns c =
@@ -72,10 +63,10 @@ turn-spec =
     tie.close
     (tie.spec
     slice-read-wide16
-    wide16-requires
-    children-of-requires
+    (λ c κs. search needs)
+    (λ c κs. search needs)
     child-at-requires
     child-at-requires-2
     assign-around-requires
-    same-length
+    (λ c. search needs)
     returns)

@@ -7,18 +7,9 @@ use Rattle.rule_table.proofs.Rows.{column}
 use Rattle.rule_table.proofs.fewest_for.Statement.{statement}
 use Rattle.rule_table.proofs.fewest_for.Tie as tie
 
-sub-row : tie.Need-sub-row
-sub-row c = search needs
-
-mul-result : tie.Need-mul-result
-mul-result c = search needs
-
-array-read-result : tie.Need-array-read-result
-array-read-result c = search needs
-
 returns : tie.Need-returns
 unfolding fewestFor table
 returns c = column (λ w. w .fewest) _ _ refl (c .args .rule) (c .pre .0) (c .pre .1)
 
 pub fewest-for-spec : {M : Type 1} → statement M
-fewest-for-spec = tie.close (tie.spec sub-row mul-result array-read-result returns)
+fewest-for-spec = tie.close (tie.spec (λ c. search needs) (λ c. search needs) (λ c. search needs) returns)

@@ -7,29 +7,11 @@ use Rattle.rule_table.specs.Headings.{headed}
 use Rattle.rule_table.proofs.is_headed.Statement.{statement}
 use Rattle.rule_table.proofs.is_headed.Tie as tie
 
-shared-slice-read-wide16 : tie.Need-shared-slice-read-wide16
-shared-slice-read-wide16 c = search needs
-
-wide16-requires : tie.Need-wide16-requires
-wide16-requires c κs = search needs
-
-kind-of-requires : tie.Need-kind-of-requires
-kind-of-requires c κs = search needs
-
-kind-for-requires : tie.Need-kind-for-requires
-kind-for-requires c κs = search needs
-
 returns : tie.Need-returns
 unfolding headed
 returns c =
     let k = c .before .before .kind-of .ensures ∙ ap kind (c .before .before .before .wide16 .ensures .0) in
     rw (sym k, sym (c .before .kind-for .ensures), ne-eqb (c .before .before .kind-of .result) (c .before .kind-for .result) (c .if1 .taken))
-
-fewest-for-requires : tie.Need-fewest-for-requires
-fewest-for-requires c κs = search needs
-
-children-of-requires : tie.Need-children-of-requires
-children-of-requires c κs = search needs
 
 returns-2 : tie.Need-returns-2
 unfolding headed
@@ -44,11 +26,11 @@ pub is-headed-spec : {M : Type 1} → statement M
 is-headed-spec =
     tie.close
     (tie.spec
-    shared-slice-read-wide16
-    wide16-requires
-    kind-of-requires
-    kind-for-requires
+    (λ c. search needs)
+    (λ c κs. search needs)
+    (λ c κs. search needs)
+    (λ c κs. search needs)
     returns
-    fewest-for-requires
-    children-of-requires
+    (λ c κs. search needs)
+    (λ c κs. search needs)
     returns-2)

@@ -13,12 +13,9 @@ returns c = below-rules (c .before .args .rule) (c .if1 .taken)
 returns-2 : tie.Need-returns-2
 returns-2 c = past-rules (c .before .before .args .rule) (c .if2 .taken)
 
-fewest-for-requires : tie.Need-fewest-for-requires
-fewest-for-requires c κs = search needs
-
 returns-3 : tie.Need-returns-3
 returns-3 c =
     ap (λ n. ltb n kind-factor) (c .fewest-for .ensures) ∙ by-fewest (c .before .before .before .args .rule)
 
 pub is-rule-spec : {M : Type 1} → statement M
-is-rule-spec = tie.close (tie.spec returns returns-2 fewest-for-requires returns-3)
+is-rule-spec = tie.close (tie.spec returns returns-2 (λ c κs. search needs) returns-3)

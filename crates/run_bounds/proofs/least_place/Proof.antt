@@ -24,9 +24,6 @@ counted c = c .wide16 .ensures .0 ∙ sym (used-here (c .before .before .before 
 shared-slice-read-wide16 : tie.Need-shared-slice-read-wide16 Inv-loop μ-loop
 shared-slice-read-wide16 c = omega (arith, c .before .before .before .before .pre .1 .tables .measured .sheet .whole)
 
-wide16-requires : tie.Need-wide16-requires Inv-loop μ-loop
-wide16-requires c κs = search needs
-
 loop-holds : tie.Need-loop-holds Inv-loop μ-loop
 loop-holds c = c .before .before .before .before .before .pre .1
 
@@ -38,9 +35,6 @@ try-at-requires c κs =
     let i = n .loop .inv in
     let within : n .loop .place < used-in (b .args .sheet .now) = omega (arith, counted v) in
     ((i .some-rule, b .pre .0), (i .tables, (within, i .high (n .loop .place) (omega arith) within)))
-
-enum-known-spot : tie.Need-enum-known-spot Inv-loop μ-loop
-enum-known-spot c = search needs
 
 same-length : tie.Need-same-length Inv-loop μ-loop
 same-length c =
@@ -131,10 +125,10 @@ least-place-spec =
     Inv-loop
     μ-loop
     shared-slice-read-wide16
-    wide16-requires
+    (λ c κs. search needs)
     loop-holds
     try-at-requires
-    enum-known-spot
+    (λ c. search needs)
     same-length
     returns
     enum-told

@@ -25,9 +25,6 @@ loop-holds c = c .before .before .before .pre
 least-place-requires : tie.Need-least-place-requires Inv-loop μ-loop
 least-place-requires c κs = (omega arith, c .before .before .loop .inv)
 
-enum-known-found : tie.Need-enum-known-found Inv-loop μ-loop
-enum-known-found c = search needs
-
 same-length : tie.Need-same-length Inv-loop μ-loop
 same-length c =
     let d = c .before .before .before .before .before in
@@ -78,7 +75,7 @@ next-redex-spec =
     μ-loop
     loop-holds
     least-place-requires
-    enum-known-found
+    (λ c. search needs)
     same-length
     returns
     enum-told

@@ -28,9 +28,6 @@ mul-wide16 c = omega (arith, inside (c .before .before .before))
 slice-read-wide16 : tie.Need-slice-read-wide16 Inv-loop μ-loop
 slice-read-wide16 c = let b = c .before .before .before .before in omega (arith, inside b, b .pre .1 .0 .long)
 
-wide16-requires : tie.Need-wide16-requires Inv-loop μ-loop
-wide16-requires c κs = search needs
-
 returns : tie.Need-returns Inv-loop μ-loop
 returns c =
     let b = c .before .before .before .before .before .before in
@@ -49,9 +46,6 @@ try-at-requires c κs =
 
 enum-told : tie.Need-enum-told Inv-loop μ-loop
 enum-told c = search needs
-
-enum-told-2 : tie.Need-enum-told-2 Inv-loop μ-loop
-enum-told-2 c = search needs
 
 same-length : tie.Need-same-length Inv-loop μ-loop
 same-length c =
@@ -102,12 +96,12 @@ raise-spec =
     μ-loop
     mul-wide16
     slice-read-wide16
-    wide16-requires
+    (λ c κs. search needs)
     returns
     loop-holds
     try-at-requires
     enum-told
-    enum-told-2
+    (λ c. search needs)
     same-length
     returns-2
     add-rule

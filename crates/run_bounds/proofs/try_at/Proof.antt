@@ -34,9 +34,6 @@ mul-wide16 c = let b = c .before .before .before in omega (arith, inside b, b .p
 slice-read-wide16 : tie.Need-slice-read-wide16
 slice-read-wide16 c = inside (c .before .before .before .before)
 
-wide16-requires : tie.Need-wide16-requires
-wide16-requires c κs = search needs
-
 returns : tie.Need-returns
 returns c =
     let b = c .before .before .before .before .before .before in
@@ -55,12 +52,6 @@ shared-slice-read-wide16 c =
     let b = c .before .before .before .before .before .before .before in
     omega (arith, inside b, b .pre .1 .0 .long, b .pre .1 .0 .measured .sheet .whole)
 
-wide16-requires-2 : tie.Need-wide16-requires-2
-wide16-requires-2 c κs = search needs
-
-is-literal-requires : tie.Need-is-literal-requires
-is-literal-requires c κs = search needs
-
 mul-low : tie.Need-mul-low
 mul-low c =
     let b = start (c .before .before .before .before) in
@@ -68,9 +59,6 @@ mul-low c =
 
 slice-write-low : tie.Need-slice-write-low
 slice-write-low c = inside (start (c .before .before .before .before))
-
-same-length : tie.Need-same-length
-same-length c = search needs
 
 returns-2 : tie.Need-returns-2
 returns-2 c =
@@ -82,12 +70,6 @@ returns-2 c =
     let new = getD-set-same (a .low .now) (a .place) no-rule 0 (inside b) in
     (none-here (a .rule), (raised-to (b .pre .1 .0) (b .pre .1 .1 .0) (omega (arith, come e, b .pre .0 .1)) (λ r one lt. none-here r), λ k. omega (arith, new, b .pre .0 .1)))
 
-least-at-requires : tie.Need-least-at-requires
-least-at-requires c κs = search needs
-
-enum-known-spot : tie.Need-enum-known-spot
-enum-known-spot c = search needs
-
 returns-3 : tie.Need-returns-3
 returns-3 c =
     let d = c .before .before .before in
@@ -98,12 +80,6 @@ returns-3 c =
 enum-told : tie.Need-enum-told
 enum-told c = search needs
 
-add-low : tie.Need-add-low
-add-low c = search needs
-
-cast-low : tie.Need-cast-low
-cast-low c = search needs
-
 mul-low-2 : tie.Need-mul-low-2
 mul-low-2 c =
     let b = start (c .before .before .before .before .before .before .before) in
@@ -111,9 +87,6 @@ mul-low-2 c =
 
 slice-write-low-2 : tie.Need-slice-write-low-2
 slice-write-low-2 c = inside (start (c .before .before .before .before .before .before .before))
-
-same-length-2 : tie.Need-same-length-2
-same-length-2 c = search needs
 
 returns-4 : tie.Need-returns-4
 returns-4 c =
@@ -131,24 +104,24 @@ try-at-spec =
     (tie.spec
     mul-wide16
     slice-read-wide16
-    wide16-requires
+    (λ c κs. search needs)
     returns
     add-from
     mul-wide16-2
     shared-slice-read-wide16
-    wide16-requires-2
-    is-literal-requires
+    (λ c κs. search needs)
+    (λ c κs. search needs)
     mul-low
     slice-write-low
-    same-length
+    (λ c. search needs)
     returns-2
-    least-at-requires
-    enum-known-spot
+    (λ c κs. search needs)
+    (λ c. search needs)
     returns-3
     enum-told
-    add-low
-    cast-low
+    (λ c. search needs)
+    (λ c. search needs)
     mul-low-2
     slice-write-low-2
-    same-length-2
+    (λ c. search needs)
     returns-4)

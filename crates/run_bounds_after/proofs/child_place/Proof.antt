@@ -30,9 +30,6 @@ sub-child-at c = let k = known (c .before) in omega (arith, k .within, k .few, k
 part-child-at-start : tie.Need-part-child-at-start
 part-child-at-start c = let k = known (c .before) in omega (arith, k .within, k .few, k .whole)
 
-part-child-at-end : tie.Need-part-child-at-end
-part-child-at-end c = search needs
-
 child-at-requires : tie.Need-child-at-requires
 child-at-requires c κs =
     let b = c .before .before in
@@ -55,7 +52,7 @@ child-place-spec =
     mul-child-at
     sub-child-at
     part-child-at-start
-    part-child-at-end
+    (λ c. search needs)
     child-at-requires
     add-result
     returns)

@@ -6,22 +6,10 @@ use Rattle.run_bounds_after.proofs.RenewedEntries.{gone-none}
 use Rattle.run_bounds_after.proofs.close_up.Statement.{statement}
 use Rattle.run_bounds_after.proofs.close_up.Tie as tie
 
-sub-remove : tie.Need-sub-remove
-sub-remove c = search needs
-
-remove-requires : tie.Need-remove-requires
-remove-requires c κs = search needs
-
-same-length : tie.Need-same-length
-same-length c = search needs
-
-returns : tie.Need-returns
-returns c = search needs
-
 returns-2 : tie.Need-returns-2
 returns-2 c =
     let a = c .before .before .args in
     gone-none (a .low .now) (a .new) (a .old - a .new) (omega arith)
 
 pub close-up-spec : {M : Type 1} → statement M
-close-up-spec = tie.close (tie.spec sub-remove remove-requires same-length returns returns-2)
+close-up-spec = tie.close (tie.spec (λ c. search needs) (λ c κs. search needs) (λ c. search needs) (λ c. search needs) returns-2)

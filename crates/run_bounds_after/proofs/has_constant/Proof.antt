@@ -52,12 +52,6 @@ mul-wide16 c = let w = placed (c .before .before) in omega arith
 shared-slice-read-wide16 : tie.Need-shared-slice-read-wide16 Inv-loop μ-loop
 shared-slice-read-wide16 c = let w = placed (c .before .before .before) in omega (arith, w .1)
 
-wide16-requires : tie.Need-wide16-requires Inv-loop μ-loop
-wide16-requires c κs = search needs
-
-arity-of-requires : tie.Need-arity-of-requires Inv-loop μ-loop
-arity-of-requires c κs = search needs
-
 add-at : tie.Need-add-at Inv-loop μ-loop
 add-at c = let w = placed (c .before .before .before .before .before) in omega arith
 
@@ -86,9 +80,6 @@ shared-slice-read-wide16-2 c =
     let n = c .before .before .before .before in
     let b = n .before .before .before .before .before .before .before in
     omega (arith, inside n, b .pre .0 .long)
-
-wide16-requires-2 : tie.Need-wide16-requires-2 Inv-loop μ-loop
-wide16-requires-2 c κs = search needs
 
 add-at-2 : tie.Need-add-at-2 Inv-loop μ-loop
 add-at-2 c =
@@ -126,8 +117,8 @@ has-constant-spec =
     add-wide16
     mul-wide16
     shared-slice-read-wide16
-    wide16-requires
-    arity-of-requires
+    (λ c κs. search needs)
+    (λ c κs. search needs)
     add-at
     loop-holds
     add-x
@@ -136,7 +127,7 @@ has-constant-spec =
     returns
     mul-wide16-2
     shared-slice-read-wide16-2
-    wide16-requires-2
+    (λ c κs. search needs)
     add-at-2
     add-i
     loop-less

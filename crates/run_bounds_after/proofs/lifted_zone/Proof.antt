@@ -22,13 +22,10 @@ child-place-requires-2 c κs =
     let there = inner-there (a .sheet .now) (b .pre .1 .0) (a .redex) (b .pre .1 .1) (b .pre .0 .0) (b .pre .0 .1) in
     (b .pre .1 .0, subst (λ p. a .redex .j < size (kids (decode (drop p (nodes-in (a .sheet .now)))))) (sym (c .child-place .ensures .0)) there)
 
-add-after : tie.Need-add-after
-add-after c = search needs
-
 returns : tie.Need-returns
 returns c =
     let b = c .before .before .before in
     zone-11 (b .args .sheet .now) (b .pre .1 .0) (b .args .redex) (b .pre .1 .1) (b .pre .0 .0) (b .pre .0 .1) refl refl refl (c .before .child-place .ensures .0) (c .child-place2 .ensures .0)
 
 pub lifted-zone-spec : {M : Type 1} → statement M
-lifted-zone-spec = tie.close (tie.spec child-place-requires child-place-requires-2 add-after returns)
+lifted-zone-spec = tie.close (tie.spec child-place-requires child-place-requires-2 (λ c. search needs) returns)

@@ -28,29 +28,11 @@ ones c =
       after = λ q l. e .1 .1 q l ∙ ap (λ xs. getD xs q 0) (d .close-up .ensures);
     }
 
-close-up-requires : tie.Need-close-up-requires
-close-up-requires c κs = search needs
-
-put-ones-requires : tie.Need-put-ones-requires
-put-ones-requires c κs = search needs
-
-mul-low : tie.Need-mul-low
-mul-low c = search needs
-
-slice-write-low : tie.Need-slice-write-low
-slice-write-low c = search needs
-
-mul-low-2 : tie.Need-mul-low-2
-mul-low-2 c = search needs
-
 slice-write-low-2 : tie.Need-slice-write-low-2
 slice-write-low-2 c =
     let d = c .before .before in
     let b = start d in
     l1 (b .args .plan) (b .pre .1) (b .args .low .now) (d .put-ones .last .0) (b .pre .0) (whole d)
-
-mul-low-3 : tie.Need-mul-low-3
-mul-low-3 c = search needs
 
 slice-write-low-3 : tie.Need-slice-write-low-3
 slice-write-low-3 c =
@@ -73,13 +55,13 @@ pub renew-spec : {M : Type 1} → statement M
 renew-spec =
     tie.close
     (tie.spec
-    close-up-requires
-    put-ones-requires
-    mul-low
-    slice-write-low
-    mul-low-2
+    (λ c κs. search needs)
+    (λ c κs. search needs)
+    (λ c. search needs)
+    (λ c. search needs)
+    (λ c. search needs)
     slice-write-low-2
-    mul-low-3
+    (λ c. search needs)
     slice-write-low-3
     same-length
     returns)

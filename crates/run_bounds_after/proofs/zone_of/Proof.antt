@@ -43,9 +43,6 @@ mul-wide16 c = let w = here (c .before .before) in omega arith
 shared-slice-read-wide16 : tie.Need-shared-slice-read-wide16
 shared-slice-read-wide16 c = let b = c .before .before .before in let w = here b in omega (arith, b .pre .0 .long)
 
-wide16-requires : tie.Need-wide16-requires
-wide16-requires c κs = search needs
-
 add-end : tie.Need-add-end
 add-end c = let w = here (c .before .before .before .before) in omega arith
 
@@ -53,9 +50,6 @@ child-place-requires : tie.Need-child-place-requires
 child-place-requires c κs =
     let b = c .before .before .before .before .before in
     (b .pre .0 .sheet, child (b .args .sheet .now) (b .pre .0 .sheet) (b .args .redex) (b .pre .1))
-
-node-gone-requires : tie.Need-node-gone-requires
-node-gone-requires c κs = search needs
 
 add-t14 : tie.Need-add-t14
 add-t14 c = let w = here (c .before .before .before .before .before .before .before) in omega arith
@@ -65,20 +59,8 @@ child-place-requires-2 c κs =
     let b = start (c .before .before .before .before) in
     (b .pre .0 .sheet, child (b .args .sheet .now) (b .pre .0 .sheet) (b .args .redex) (b .pre .1))
 
-node-gone-requires-2 : tie.Need-node-gone-requires-2
-node-gone-requires-2 c κs = search needs
-
 node-gone-requires-3 : tie.Need-node-gone-requires-3
 node-gone-requires-3 c κs = here (start (c .before .before .before .before .before)) .0
-
-unmoved-requires : tie.Need-unmoved-requires
-unmoved-requires c κs = search needs
-
-lifted-zone-requires : tie.Need-lifted-zone-requires
-lifted-zone-requires c κs = search needs
-
-unmoved-requires-2 : tie.Need-unmoved-requires-2
-unmoved-requires-2 c κs = search needs
 
 returns : tie.Need-returns
 returns c =
@@ -110,9 +92,6 @@ returns-5 c =
     let b = e .before .before .before .before in
     zone-9 (b .args .sheet .now) (b .pre .0 .sheet) (b .args .redex) (b .pre .1) (c .unmoved .ensures) (omega (arith, t .before .if4 .left)) (omega (arith, t .if5 .taken)) (ended e)
 
-returns-6 : tie.Need-returns-6
-returns-6 c = search needs
-
 returns-7 : tie.Need-returns-7
 returns-7 c =
     let b = c .before .before .before .before .before .before .before in
@@ -124,21 +103,21 @@ zone-of-spec =
     (tie.spec
     mul-wide16
     shared-slice-read-wide16
-    wide16-requires
+    (λ c κs. search needs)
     add-end
     child-place-requires
-    node-gone-requires
+    (λ c κs. search needs)
     add-t14
     child-place-requires-2
-    node-gone-requires-2
+    (λ c κs. search needs)
     node-gone-requires-3
-    unmoved-requires
-    lifted-zone-requires
-    unmoved-requires-2
+    (λ c κs. search needs)
+    (λ c κs. search needs)
+    (λ c κs. search needs)
     returns
     returns-2
     returns-3
     returns-4
     returns-5
-    returns-6
+    (λ c. search needs)
     returns-7)

@@ -18,22 +18,10 @@ counted c =
     let m = moved c in
     c .wide16 .ensures .0 ∙ sym (used-here (m .move-on .last .0))
 
-move-on-requires : tie.Need-move-on-requires
-move-on-requires c κs = search needs
-
 slice-read-wide16 : tie.Need-slice-read-wide16
 slice-read-wide16 c =
     let m = c .before .before .before .before .before .before .before in
     omega (arith, m .move-on .ensures .1 .tables .measured .sheet .whole)
-
-wide16-requires : tie.Need-wide16-requires
-wide16-requires c κs = search needs
-
-lesser-requires : tie.Need-lesser-requires
-lesser-requires c κs = search needs
-
-lesser-requires-2 : tie.Need-lesser-requires-2
-lesser-requires-2 c κs = search needs
 
 raise-all-requires : tie.Need-raise-all-requires
 raise-all-requires c κs =
@@ -44,15 +32,6 @@ raise-all-requires c κs =
     let after = m .move-on .ensures .1 in
     let to = l2 .before .lesser .ensures .1 in
     ((b .pre .0 .some-rule, b .pre .0 .past-all), (after .tables, ((l2 .lesser2 .ensures .1, omega (arith, to, counted w)), λ q from upto. after .ones q (omega arith) (omega (arith, to, counted w)))))
-
-same-length : tie.Need-same-length
-same-length c = search needs
-
-same-length-2 : tie.Need-same-length-2
-same-length-2 c = search needs
-
-same-length-3 : tie.Need-same-length-3
-same-length-3 c = search needs
 
 returns : tie.Need-returns
 returns c =
@@ -86,13 +65,13 @@ pub advance-spec : {M : Type 1} → statement M
 advance-spec =
     tie.close
     (tie.spec
-    move-on-requires
+    (λ c κs. search needs)
     slice-read-wide16
-    wide16-requires
-    lesser-requires
-    lesser-requires-2
+    (λ c κs. search needs)
+    (λ c κs. search needs)
+    (λ c κs. search needs)
     raise-all-requires
-    same-length
-    same-length-2
-    same-length-3
+    (λ c. search needs)
+    (λ c. search needs)
+    (λ c. search needs)
     returns)

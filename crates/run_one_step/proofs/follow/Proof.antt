@@ -15,24 +15,12 @@ spreads c = (c .before .if1 .left, omega (arith, c .if2 .taken))
 tree : (c : tie.Then2) → let a = c .before .before .before .before .before .args in let p = a .plan in (p .zone .from ≡ p .place) × (p .place < p .zone .new) × (p .zone .new ≤ used-in (a .sheet .now))
 tree c = c .before .before .before .before .before .pre .1 .1 .1 (spreads c .0) (spreads c .1)
 
-renew-requires : tie.Need-renew-requires
-renew-requires c κs = search needs
-
-add-set-back : tie.Need-add-set-back
-add-set-back c = search needs
-
 set-back-requires : tie.Need-set-back-requires
 set-back-requires c κs =
     let n = c .before .before .before in
     let d = n .before .before in
     let b = d .before .before .before .before .before in
     (b .pre .0, (n .renew .kept .0 ∙ b .pre .1 .0, (omega (arith, tree d .1), tree d .2)))
-
-renew-requires-2 : tie.Need-renew-requires-2
-renew-requires-2 c κs = search needs
-
-same-length : tie.Need-same-length
-same-length c = search needs
 
 returns : tie.Need-returns
 returns c =
@@ -42,9 +30,6 @@ returns c =
     let b = d .before .before .before .before .before in
     let a = b .args in
     followed-spread (a .rule) (spreads d .0) (spreads d .1) (nodes-in (a .sheet .now)) (a .plan) (b .pre .1 .1 .0) (a .low .now) (n .renew .last .0) (s .set-back .last .1 .1 .0) (n .renew .ensures) (s .set-back .ensures) (tree d .0) (tree d .1)
-
-same-length-2 : tie.Need-same-length-2
-same-length-2 c = search needs
 
 returns-2 : tie.Need-returns-2
 returns-2 c =
@@ -56,11 +41,11 @@ pub follow-spec : {M : Type 1} → statement M
 follow-spec =
     tie.close
     (tie.spec
-    renew-requires
-    add-set-back
+    (λ c κs. search needs)
+    (λ c. search needs)
     set-back-requires
-    renew-requires-2
-    same-length
+    (λ c κs. search needs)
+    (λ c. search needs)
     returns
-    same-length-2
+    (λ c. search needs)
     returns-2)

@@ -26,9 +26,6 @@ holder-requires-2 c κs =
     let w = here b in
     (omega (arith, b .pre .0 .long, c .holder .ensures .0 .0), omega (arith, b .pre .0 .long), omega arith)
 
-zone-of-requires : tie.Need-zone-of-requires
-zone-of-requires c κs = search needs
-
 returns : tie.Need-returns
 returns c =
     let d = c .before .before in
@@ -44,4 +41,4 @@ returns c =
     }
 
 pub look-ahead-spec : {M : Type 1} → statement M
-look-ahead-spec = tie.close (tie.spec holder-requires holder-requires-2 zone-of-requires returns)
+look-ahead-spec = tie.close (tie.spec holder-requires holder-requires-2 (λ c κs. search needs) returns)

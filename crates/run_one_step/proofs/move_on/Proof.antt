@@ -47,9 +47,6 @@ slice-read-wide16 c =
     let k = c .before .before in
     omega (arith, k .before .before .before .before .before .before .pre .0 .tables .measured .sheet .whole)
 
-wide16-requires : tie.Need-wide16-requires
-wide16-requires c κs = search needs
-
 apply-requires : tie.Need-apply-requires
 apply-requires c κs =
     let k = c .before .before .before .before in
@@ -58,12 +55,6 @@ apply-requires c κs =
 
 slice-read-wide16-2 : tie.Need-slice-read-wide16-2
 slice-read-wide16-2 c = omega (arith, made (c .before .before .before) .whole)
-
-wide16-requires-2 : tie.Need-wide16-requires-2
-wide16-requires-2 c κs = search needs
-
-greater-requires : tie.Need-greater-requires
-greater-requires c κs = search needs
 
 resize-requires : tie.Need-resize-requires
 resize-requires c κs =
@@ -97,9 +88,6 @@ add-greater c =
     let h = b .pre .0 .tables .measured .sheet in
     omega (arith, within (b .args .sheet .now) h (b .args .redex) (b .pre .1), h .used)
 
-greater-requires-2 : tie.Need-greater-requires-2
-greater-requires-2 c κs = search needs
-
 same-length : tie.Need-same-length
 same-length c =
     let n = c .before .before .before in
@@ -128,15 +116,15 @@ move-on-spec =
     (tie.spec
     look-ahead-requires
     slice-read-wide16
-    wide16-requires
+    (λ c κs. search needs)
     apply-requires
     slice-read-wide16-2
-    wide16-requires-2
-    greater-requires
+    (λ c κs. search needs)
+    (λ c κs. search needs)
     resize-requires
     follow-requires
     add-greater
-    greater-requires-2
+    (λ c κs. search needs)
     same-length
     same-length-2
     same-length-3

@@ -10,15 +10,6 @@ use Rattle.run_one_step.proofs.Sizing.{sizes-both}
 use Rattle.run_one_step.proofs.resize.Statement.{statement}
 use Rattle.run_one_step.proofs.resize.Tie as tie
 
-sub-refill : tie.Need-sub-refill
-sub-refill c = search needs
-
-part-refill-start : tie.Need-part-refill-start
-part-refill-start c = search needs
-
-part-refill-end : tie.Need-part-refill-end
-part-refill-end c = search needs
-
 refill-requires : tie.Need-refill-requires
 refill-requires c κs =
     let e = c .before .before in
@@ -28,15 +19,6 @@ refill-requires c κs =
     let outside = w .outside (omega (arith, e .before .if2 .left)) (omega (arith, e .if3 .taken)) in
     rw (lent-part 2 (b .args .sheet .now))
     ((omega (arith, w .whole), omega (arith, w .whole, w .long), w .order, omega (arith, w .whole, w .within)), λ q from to. outside q to (inr from))
-
-sub-refill-2 : tie.Need-sub-refill-2
-sub-refill-2 c = search needs
-
-part-refill-start-2 : tie.Need-part-refill-start-2
-part-refill-start-2 c = search needs
-
-part-refill-end-2 : tie.Need-part-refill-end-2
-part-refill-end-2 c = search needs
 
 refill-requires-2 : tie.Need-refill-requires-2
 refill-requires-2 c κs =
@@ -49,9 +31,6 @@ refill-requires-2 c κs =
 returns : tie.Need-returns
 returns c = c .before .before .before .before .pre .same (omega arith) (omega arith)
 
-same-length : tie.Need-same-length
-same-length c = search needs
-
 returns-2 : tie.Need-returns-2
 returns-2 c =
     let d = c .before .before in
@@ -63,9 +42,6 @@ returns-2 c =
     let right = subst (λ l. Sizes-from from l (d .refill .last .1 .0)) (lent-part 2 (a .sheet .now)) (d .refill .ensures .0) in
     sizes-both from (drop 2 (a .sheet .now)) (d .refill .last .1 .0) right (λ q l m. d .refill .ensures .1 q l ∙ outside q m (inl l))
 
-same-length-2 : tie.Need-same-length-2
-same-length-2 c = search needs
-
 returns-3 : tie.Need-returns-3
 returns-3 c =
     let d = c .before .before in
@@ -76,16 +52,16 @@ pub resize-spec : {M : Type 1} → statement M
 resize-spec =
     tie.close
     (tie.spec
-    sub-refill
-    part-refill-start
-    part-refill-end
+    (λ c. search needs)
+    (λ c. search needs)
+    (λ c. search needs)
     refill-requires
-    sub-refill-2
-    part-refill-start-2
-    part-refill-end-2
+    (λ c. search needs)
+    (λ c. search needs)
+    (λ c. search needs)
     refill-requires-2
     returns
-    same-length
+    (λ c. search needs)
     returns-2
-    same-length-2
+    (λ c. search needs)
     returns-3)

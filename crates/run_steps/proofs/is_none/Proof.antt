@@ -13,9 +13,6 @@ returns : tie.Need-returns
 unfolding maybe
 returns c = rw (ap nextOf (c .enum-told .given .1))
 
-enum-told-2 : tie.Need-enum-told-2
-enum-told-2 c = search needs
-
 returns-2 : tie.Need-returns-2
 unfolding maybe
 returns-2 c = rw (ap nextOf (c .enum-told2 .given .1))
@@ -26,5 +23,5 @@ is-none-spec =
     (tie.spec
     enum-told
     returns
-    enum-told-2
+    (λ c. search needs)
     returns-2)

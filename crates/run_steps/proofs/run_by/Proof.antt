@@ -33,9 +33,6 @@ loop-holds c =
 next-redex-requires : tie.Need-next-redex-requires Inv-loop μ-loop
 next-redex-requires c κs = c .before .before .before .before .loop .inv .3
 
-enum-known-next : tie.Need-enum-known-next Inv-loop μ-loop
-enum-known-next c = search needs
-
 enum-told : tie.Need-enum-told Inv-loop μ-loop
 enum-told c = search needs
 
@@ -98,9 +95,6 @@ loop-again c =
 next-redex-requires-2 : tie.Need-next-redex-requires-2 Inv-loop μ-loop
 next-redex-requires-2 c κs = c .before .before .before .before .loop .inv .3
 
-is-none-requires : tie.Need-is-none-requires Inv-loop μ-loop
-is-none-requires c κs = search needs
-
 same-length-4 : tie.Need-same-length-4 Inv-loop μ-loop
 same-length-4 c = let d = c .before .before .before in d .before .before .before .before .before .loop .inv .1
 
@@ -127,7 +121,7 @@ run-by-spec =
     μ-loop
     loop-holds
     next-redex-requires
-    enum-known-next
+    (λ c. search needs)
     enum-told
     same-length
     same-length-2
@@ -138,7 +132,7 @@ run-by-spec =
     loop-less
     loop-again
     next-redex-requires-2
-    is-none-requires
+    (λ c κs. search needs)
     same-length-4
     same-length-5
     same-length-6

@@ -19,23 +19,11 @@ sub-fill c = omega (arith, whole (c .before))
 part-fill-start : tie.Need-part-fill-start
 part-fill-start c = omega (arith, whole (c .before .before))
 
-part-fill-end : tie.Need-part-fill-end
-part-fill-end c = search needs
-
-slice-aggregate-fill : tie.Need-slice-aggregate-fill
-slice-aggregate-fill c = search needs
-
 fill-requires : tie.Need-fill-requires
 fill-requires c κs =
     let a = c .before .before .before .before in
     let s = a .args .sheet .now in
     rw (lent-part 2 s) (omega (arith, length-drop 2 s, whole a), omega (arith, length-drop 2 s, whole a))
-
-slice-aggregate-run-by : tie.Need-slice-aggregate-run-by
-slice-aggregate-run-by c = search needs
-
-slice-aggregate-run-by-2 : tie.Need-slice-aggregate-run-by-2
-slice-aggregate-run-by-2 c = search needs
 
 run-by-requires : tie.Need-run-by-requires
 run-by-requires c κs =
@@ -45,23 +33,17 @@ run-by-requires c κs =
     let each = subst (λ l. Sizes-from 0 l (f .fill .last .1 .0)) (lent-part 2 s) (f .fill .ensures) in
     come-to-start (record { sheet = a .pre; long = f .fill .kept .1 .0; each = each })
 
-same-length : tie.Need-same-length
-same-length c = search needs
-
-returns : tie.Need-returns
-returns c = search needs
-
 pub run-on-spec : {M : Type 1} → statement M
 run-on-spec =
     tie.close
     (tie.spec
     sub-fill
     part-fill-start
-    part-fill-end
-    slice-aggregate-fill
+    (λ c. search needs)
+    (λ c. search needs)
     fill-requires
-    slice-aggregate-run-by
-    slice-aggregate-run-by-2
+    (λ c. search needs)
+    (λ c. search needs)
     run-by-requires
-    same-length
-    returns)
+    (λ c. search needs)
+    (λ c. search needs))

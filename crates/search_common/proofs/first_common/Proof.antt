@@ -26,18 +26,6 @@ mul-if2 c = omega (arith, child (c .before .before .before .before))
 shared-slice-read-if2 : tie.Need-shared-slice-read-if2
 shared-slice-read-if2 c = child (c .before .before .before .before .before) .0
 
-first-tried-requires : tie.Need-first-tried-requires
-first-tried-requires c κs = search needs
-
-returns : tie.Need-returns
-returns c = search needs
-
-first-held-requires : tie.Need-first-held-requires
-first-held-requires c κs = search needs
-
-returns-2 : tie.Need-returns-2
-returns-2 c = search needs
-
 pub first-common-spec : {M : Type 1} → statement M
 first-common-spec =
     tie.close
@@ -46,7 +34,7 @@ first-common-spec =
     add-if2
     mul-if2
     shared-slice-read-if2
-    first-tried-requires
-    returns
-    first-held-requires
-    returns-2)
+    (λ c κs. search needs)
+    (λ c. search needs)
+    (λ c κs. search needs)
+    (λ c. search needs))

@@ -8,16 +8,10 @@ use Rattle.search_common.proofs.first_held.Statement.{statement}
 use Rattle.search_common.proofs.first_held.Tie as tie
 use Rattle.search_common.specs.Held.{literal-numbers}
 
-slice-aggregate-hold-all : tie.Need-slice-aggregate-hold-all
-slice-aggregate-hold-all c = search needs
-
 hold-all-requires : tie.Need-hold-all-requires
 hold-all-requires c κs =
     let s = c .before .before .before in
     ((stretch-some (s .pre .0) (s .pre .1 .0), s .pre .0 .short), (s .pre .1 .1 .1, length-replicate {A = ℕ} literal-numbers 0))
-
-slice-aggregate-first-sifted : tie.Need-slice-aggregate-first-sifted
-slice-aggregate-first-sifted c = search needs
 
 first-sifted-requires : tie.Need-first-sifted-requires
 first-sifted-requires c κs =
@@ -25,15 +19,12 @@ first-sifted-requires c κs =
     let call = c .before .before .hold-all in
     (s .pre .0, (s .pre .1 .0, (s .pre .1 .1 .0, (s .pre .1 .1 .1, (call .kept .1 .1 .0 ∙ length-replicate {A = ℕ} literal-numbers 0, call .ensures)))))
 
-returns : tie.Need-returns
-returns c = search needs
-
 pub first-held-spec : {M : Type 1} → statement M
 first-held-spec =
     tie.close
     (tie.spec
-    slice-aggregate-hold-all
+    (λ c. search needs)
     hold-all-requires
-    slice-aggregate-first-sifted
+    (λ c. search needs)
     first-sifted-requires
-    returns)
+    (λ c. search needs))

@@ -45,15 +45,6 @@ mul-wide16 c = omega (arith, child (c .before .before .before))
 shared-slice-read-wide16 : tie.Need-shared-slice-read-wide16 Inv-loop μ-loop
 shared-slice-read-wide16 c = child (c .before .before .before .before) .0
 
-wide16-requires : tie.Need-wide16-requires Inv-loop μ-loop
-wide16-requires c κs = search needs
-
-arity-of-requires : tie.Need-arity-of-requires Inv-loop μ-loop
-arity-of-requires c κs = search needs
-
-kind-of-requires : tie.Need-kind-of-requires Inv-loop μ-loop
-kind-of-requires c κs = search needs
-
 add-result : tie.Need-add-result Inv-loop μ-loop
 add-result c = omega (arith, c .before .arity-of .ensures .1)
 
@@ -106,9 +97,6 @@ mul-wide16-2 c = omega (arith, inside c)
 shared-slice-read-wide16-2 : tie.Need-shared-slice-read-wide16-2 Inv-loop μ-loop
 shared-slice-read-wide16-2 c = inside (c .before) .0
 
-wide16-requires-2 : tie.Need-wide16-requires-2 Inv-loop μ-loop
-wide16-requires-2 c κs = search needs
-
 may-share-requires : tie.Need-may-share-requires Inv-loop μ-loop
 may-share-requires c κs = start (c .before .before .before .before) .pre .1 .1 .1 .1 .0
 
@@ -128,9 +116,6 @@ mul-wide16-3 c = omega (arith, inside (c .before .before .before .before))
 
 shared-slice-read-wide16-3 : tie.Need-shared-slice-read-wide16-3 Inv-loop μ-loop
 shared-slice-read-wide16-3 c = omega (arith, inside (c .before .before .before .before .before), start (c .before .before .before .before .before .before .before) .pre .1 .1 .1 .0 .long)
-
-wide16-requires-3 : tie.Need-wide16-requires-3 Inv-loop μ-loop
-wide16-requires-3 c κs = search needs
 
 add-from-2 : tie.Need-add-from-2 Inv-loop μ-loop
 add-from-2 c =
@@ -181,22 +166,22 @@ first-sifted-spec =
     add-at
     mul-wide16
     shared-slice-read-wide16
-    wide16-requires
-    arity-of-requires
-    kind-of-requires
+    (λ c κs. search needs)
+    (λ c κs. search needs)
+    (λ c κs. search needs)
     add-result
     returns
     add-from
     loop-holds
     mul-wide16-2
     shared-slice-read-wide16-2
-    wide16-requires-2
+    (λ c κs. search needs)
     may-share-requires
     applies-requires
     returns-2
     mul-wide16-3
     shared-slice-read-wide16-3
-    wide16-requires-3
+    (λ c κs. search needs)
     add-from-2
     add-j
     loop-less

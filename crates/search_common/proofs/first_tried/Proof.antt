@@ -39,12 +39,6 @@ mul-wide16 c = omega (arith, child (c .before))
 shared-slice-read-wide16 : tie.Need-shared-slice-read-wide16 Inv-loop μ-loop
 shared-slice-read-wide16 c = child (c .before .before) .0
 
-wide16-requires : tie.Need-wide16-requires Inv-loop μ-loop
-wide16-requires c κs = search needs
-
-arity-of-requires : tie.Need-arity-of-requires Inv-loop μ-loop
-arity-of-requires c κs = search needs
-
 loop-holds : tie.Need-loop-holds Inv-loop μ-loop
 loop-holds c = (omega arith, λ k l. absurd (omega arith))
 
@@ -89,8 +83,8 @@ first-tried-spec =
     add-wide16
     mul-wide16
     shared-slice-read-wide16
-    wide16-requires
-    arity-of-requires
+    (λ c κs. search needs)
+    (λ c κs. search needs)
     loop-holds
     add-applies
     applies-requires

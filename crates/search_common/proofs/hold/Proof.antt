@@ -33,18 +33,6 @@ start c = let d = c .before .before .before .before .before in d .before .before
 abbrev turn : tie.After-wide163 Inv-loop μ-loop → tie.At-loop Inv-loop μ-loop
 turn c = let d = c .before .before .before .before .before in d .before .before .before .before .before
 
-mul-wide16 : tie.Need-mul-wide16 Inv-loop μ-loop
-mul-wide16 c = search needs
-
-shared-slice-read-wide16 : tie.Need-shared-slice-read-wide16 Inv-loop μ-loop
-shared-slice-read-wide16 c = search needs
-
-wide16-requires : tie.Need-wide16-requires Inv-loop μ-loop
-wide16-requires c κs = search needs
-
-is-literal-requires : tie.Need-is-literal-requires Inv-loop μ-loop
-is-literal-requires c κs = search needs
-
 returns : tie.Need-returns Inv-loop μ-loop
 returns c =
     let a = c .before .before .before .before .before .before .before .args in
@@ -55,12 +43,6 @@ returns c =
 inner : (c : tie.Else1 Inv-loop μ-loop) → let a = c .before .before .before .before .before .before .before .args in is-literal (getD (a .part .now) (a .at) 0) ≡ false
 inner c = ap is-literal (sym (c .before .before .wide16 .ensures .0)) ∙ sym (c .before .is-literal .ensures) ∙ c .if1 .left
 
-children-of-requires : tie.Need-children-of-requires Inv-loop μ-loop
-children-of-requires c κs = search needs
-
-add-from : tie.Need-add-from Inv-loop μ-loop
-add-from c = search needs
-
 loop-holds : tie.Need-loop-holds Inv-loop μ-loop
 loop-holds c =
     let d = c .before .before .before .before in
@@ -68,29 +50,14 @@ loop-holds c =
     let counted = c .children-of .ensures ∙ ap children (c .before .before .before .wide16 .ensures .0) in
     (omega arith, s .pre .1 .1, λ x lit there reached. rw counted (inr (reached, there)))
 
-mul-wide16-2 : tie.Need-mul-wide16-2 Inv-loop μ-loop
-mul-wide16-2 c = search needs
-
-shared-slice-read-wide16-2 : tie.Need-shared-slice-read-wide16-2 Inv-loop μ-loop
-shared-slice-read-wide16-2 c = search needs
-
-wide16-requires-2 : tie.Need-wide16-requires-2 Inv-loop μ-loop
-wide16-requires-2 c κs = search needs
-
 note-requires : tie.Need-note-requires Inv-loop μ-loop
 note-requires c κs =
     let n = c .before .before .before .before .before in
     let s = start n in
     (n .loop .inv .1, s .pre .0 .2)
 
-mul-wide16-3 : tie.Need-mul-wide16-3 Inv-loop μ-loop
-mul-wide16-3 c = search needs
-
 shared-slice-read-wide16-3 : tie.Need-shared-slice-read-wide16-3 Inv-loop μ-loop
 shared-slice-read-wide16-3 c = omega (arith, ltb-true)
-
-wide16-requires-3 : tie.Need-wide16-requires-3 Inv-loop μ-loop
-wide16-requires-3 c κs = search needs
 
 -- One hop.
 hop : (c : tie.After-wide163 Inv-loop μ-loop) → let n = turn c in let l = start n .args .part .now in c .wide163 .result ≡ span 1 (drop (n .loop .from) l)
@@ -105,12 +72,6 @@ add-from-2 c =
     let l = start n .args .part .now in
     omega (arith, hop c, span-one (n .loop .from) l (omega (arith, ltb-true)))
 
-sub-left : tie.Need-sub-left Inv-loop μ-loop
-sub-left c = search needs
-
-loop-less : tie.Need-loop-less Inv-loop μ-loop
-loop-less c = search needs
-
 loop-again : tie.Need-loop-again Inv-loop μ-loop
 loop-again c =
     let n = turn c in
@@ -121,9 +82,6 @@ loop-again c =
     let inside : from < length l = omega (arith, ltb-true) in
     rw (hop c)
     (omega (arith, span-one from l inside), call .kept .0 ∙ n .loop .inv .1, holding-more (a .groups) (children (getD l (a .at) 0)) (a .at + 1) l (a .held .now) (n .loop .held) (n .loop .left) from (n .loop .inv .2) (omega arith) inside (c .before .before .before .before .before .wide162 .ensures .0) (call .ensures))
-
-add-result : tie.Need-add-result Inv-loop μ-loop
-add-result c = search needs
 
 same-length : tie.Need-same-length Inv-loop μ-loop
 same-length c =
@@ -151,25 +109,25 @@ hold-spec =
     (tie.spec
     Inv-loop
     μ-loop
-    mul-wide16
-    shared-slice-read-wide16
-    wide16-requires
-    is-literal-requires
+    (λ c. search needs)
+    (λ c. search needs)
+    (λ c κs. search needs)
+    (λ c κs. search needs)
     returns
-    children-of-requires
-    add-from
+    (λ c κs. search needs)
+    (λ c. search needs)
     loop-holds
-    mul-wide16-2
-    shared-slice-read-wide16-2
-    wide16-requires-2
+    (λ c. search needs)
+    (λ c. search needs)
+    (λ c κs. search needs)
     note-requires
-    mul-wide16-3
+    (λ c. search needs)
     shared-slice-read-wide16-3
-    wide16-requires-3
+    (λ c κs. search needs)
     add-from-2
-    sub-left
-    loop-less
+    (λ c. search needs)
+    (λ c. search needs)
     loop-again
-    add-result
+    (λ c. search needs)
     same-length
     returns-2)

@@ -22,32 +22,11 @@ Inv-loop part sizes held₀ groups₀ at₀ left₀ held groups at left =
 abbrev μ-loop : tie.MeasureT-loop
 μ-loop part sizes held₀ groups₀ at₀ left₀ held groups at left = left
 
-shared-slice-read-wide16 : tie.Need-shared-slice-read-wide16 Inv-loop μ-loop
-shared-slice-read-wide16 c = search needs
-
-wide16-requires : tie.Need-wide16-requires Inv-loop μ-loop
-wide16-requires c κs = search needs
-
-children-of-requires : tie.Need-children-of-requires Inv-loop μ-loop
-children-of-requires c κs = search needs
-
 loop-holds : tie.Need-loop-holds Inv-loop μ-loop
 loop-holds c =
     let s = c .before .before .before .before .before .before in
     let counted = c .children-of .ensures ∙ ap children (c .before .wide16 .ensures .0) in
     (omega arith, s .pre .0 .0, s .pre .1 .1, rw counted (passing-none (s .args .part .now) (s .args .held .now)))
-
-mul-wide16 : tie.Need-mul-wide16 Inv-loop μ-loop
-mul-wide16 c = search needs
-
-shared-slice-read-wide16-2 : tie.Need-shared-slice-read-wide16-2 Inv-loop μ-loop
-shared-slice-read-wide16-2 c = search needs
-
-wide16-requires-2 : tie.Need-wide16-requires-2 Inv-loop μ-loop
-wide16-requires-2 c κs = search needs
-
-kind-of-requires : tie.Need-kind-of-requires Inv-loop μ-loop
-kind-of-requires c κs = search needs
 
 same-length : tie.Need-same-length Inv-loop μ-loop
 same-length c = let n = c .before .before .before .before .before .before in n .loop .inv .2 ∙ sym (n .before .before .before .before .before .before .before .pre .1 .1)
@@ -64,14 +43,8 @@ hold-requires c κs =
     let s = n .before .before .before .before .before .before .before in
     ((omega (arith, ltb-true), s .pre .0 .1, omega (arith, n .loop .inv .0, n .loop .inv .1, s .pre .0 .1)), (s .pre .1 .0, n .loop .inv .2))
 
-mul-wide16-2 : tie.Need-mul-wide16-2 Inv-loop μ-loop
-mul-wide16-2 c = search needs
-
 shared-slice-read-wide16-3 : tie.Need-shared-slice-read-wide16-3 Inv-loop μ-loop
 shared-slice-read-wide16-3 c = omega (arith, ltb-true)
-
-wide16-requires-3 : tie.Need-wide16-requires-3 Inv-loop μ-loop
-wide16-requires-3 c κs = search needs
 
 -- Back to where the turn of the loop begins.
 abbrev turn : tie.After-wide163 Inv-loop μ-loop → tie.At-loop Inv-loop μ-loop
@@ -87,12 +60,6 @@ add-at : tie.Need-add-at Inv-loop μ-loop
 add-at c =
     let n = turn c in
     omega (arith, hop c, span-one (n .loop .at) (n .before .before .before .before .before .before .before .args .part .now) (omega (arith, ltb-true)))
-
-sub-left : tie.Need-sub-left Inv-loop μ-loop
-sub-left c = search needs
-
-loop-less : tie.Need-loop-less Inv-loop μ-loop
-loop-less c = search needs
 
 loop-again : tie.Need-loop-again Inv-loop μ-loop
 loop-again c =
@@ -125,23 +92,23 @@ hold-all-spec =
     (tie.spec
     Inv-loop
     μ-loop
-    shared-slice-read-wide16
-    wide16-requires
-    children-of-requires
+    (λ c. search needs)
+    (λ c κs. search needs)
+    (λ c κs. search needs)
     loop-holds
-    mul-wide16
-    shared-slice-read-wide16-2
-    wide16-requires-2
-    kind-of-requires
+    (λ c. search needs)
+    (λ c. search needs)
+    (λ c κs. search needs)
+    (λ c κs. search needs)
     same-length
     returns
     hold-requires
-    mul-wide16-2
+    (λ c. search needs)
     shared-slice-read-wide16-3
-    wide16-requires-3
+    (λ c κs. search needs)
     add-at
-    sub-left
-    loop-less
+    (λ c. search needs)
+    (λ c. search needs)
     loop-again
     same-length-2
     returns-2

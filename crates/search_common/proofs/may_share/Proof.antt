@@ -10,9 +10,6 @@ use Rattle.search_common.proofs.HeldNotes.{literal-bounds}
 use Rattle.search_common.proofs.may_share.Statement.{statement}
 use Rattle.search_common.proofs.may_share.Tie as tie
 
-is-literal-requires : tie.Need-is-literal-requires
-is-literal-requires c κs = search needs
-
 -- A literal's number, so the table has an entry for it.
 bounds : (c : tie.Then1) → let x = c .before .before .before .args .x in (kind-factor ≤ x) × (x < 3 * kind-factor)
 bounds c = literal-bounds (c .before .before .before .args .x) (sym (c .before .is-literal .ensures) ∙ c .if1 .taken)
@@ -26,13 +23,10 @@ mul-result c = omega (arith, bounds c)
 shared-slice-read-result : tie.Need-shared-slice-read-result
 shared-slice-read-result c = omega (arith, bounds (c .before))
 
-returns : tie.Need-returns
-returns c = search needs
-
 returns-2 : tie.Need-returns-2
 returns-2 c refused lit = true-false (sym lit ∙ sym (c .before .is-literal .ensures) ∙ c .if1 .left)
 
 pub may-share-spec : {M : Type 1} → statement M
 may-share-spec =
     tie.close
-    (tie.spec is-literal-requires sub-result mul-result shared-slice-read-result returns returns-2)
+    (tie.spec (λ c κs. search needs) sub-result mul-result shared-slice-read-result (λ c. search needs) returns-2)

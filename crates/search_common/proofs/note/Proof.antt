@@ -11,9 +11,6 @@ use Rattle.search_common.proofs.HeldNotes.{literal-bounds, noted-other,
 use Rattle.search_common.proofs.note.Statement.{statement}
 use Rattle.search_common.proofs.note.Tie as tie
 
-is-literal-requires : tie.Need-is-literal-requires
-is-literal-requires c κs = search needs
-
 returns : tie.Need-returns
 returns c =
     noted-other _ _ (sym (c .before .is-literal .ensures) ∙ not-true (c .before .is-literal .result) (c .if1 .taken))
@@ -34,38 +31,29 @@ mul-if2 c = omega (arith, bounds c)
 slice-read-if2 : tie.Need-slice-read-if2
 slice-read-if2 c = omega (arith, bounds (c .before))
 
-add-held : tie.Need-add-held
-add-held c = search needs
-
 mul-held : tie.Need-mul-held
 mul-held c = omega (arith, bounds (c .before .before))
 
 slice-write-held : tie.Need-slice-write-held
 slice-write-held c = omega (arith, bounds (c .before .before))
 
-same-length : tie.Need-same-length
-same-length c = search needs
-
 returns-2 : tie.Need-returns-2
 returns-2 c =
     let s = c .before .before .before .before .before in
     noted-literal (s .args .held .now) (literal (c .before .before)) (s .pre .0) (c .if2 .taken)
 
-returns-3 : tie.Need-returns-3
-returns-3 c = search needs
-
 pub note-spec : {M : Type 1} → statement M
 note-spec =
     tie.close
     (tie.spec
-    is-literal-requires
+    (λ c κs. search needs)
     returns
     sub-k
     mul-if2
     slice-read-if2
-    add-held
+    (λ c. search needs)
     mul-held
     slice-write-held
-    same-length
+    (λ c. search needs)
     returns-2
-    returns-3)
+    (λ c. search needs))

@@ -10,31 +10,16 @@ use Rattle.search_place.proofs.first_beside.Tie as tie
 late : (c : tie.Joined1) → 9 ≤ c .before .before .before .args .rule
 late c = let p = c .before .before .before .pre .0 in ⊎-elim (λ w. omega arith) (λ w. omega arith) (c .if1 .came)
 
-first-constant-requires : tie.Need-first-constant-requires
-first-constant-requires c κs = search needs
-
-only-child-requires : tie.Need-only-child-requires
-only-child-requires c κs = search needs
-
 first-recurring-requires : tie.Need-first-recurring-requires
 first-recurring-requires c κs = let b = c .before .before .before in ((late c, b .pre .0 .1), b .pre .1)
-
-returns : tie.Need-returns
-returns c = search needs
-
-returns-2 : tie.Need-returns-2
-returns-2 c = search needs
-
-returns-3 : tie.Need-returns-3
-returns-3 c = search needs
 
 pub first-beside-spec : {M : Type 1} → statement M
 first-beside-spec =
     tie.close
     (tie.spec
-    first-constant-requires
-    only-child-requires
+    (λ c κs. search needs)
+    (λ c κs. search needs)
     first-recurring-requires
-    returns
-    returns-2
-    returns-3)
+    (λ c. search needs)
+    (λ c. search needs)
+    (λ c. search needs))

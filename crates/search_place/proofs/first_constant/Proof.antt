@@ -49,19 +49,10 @@ asked c =
     let b = start c in
     constant-asked (b .pre .1 .0) (b .pre .1 .1 .0) (b .pre .0 .1) (here c) (c .before .loop .inv .0 .here) (c .before .before .before .before .before .constant-for .ensures)
 
-constant-for-requires : tie.Need-constant-for-requires Inv-loop μ-loop
-constant-for-requires c κs = search needs
-
 shared-slice-read-wide16 : tie.Need-shared-slice-read-wide16 Inv-loop μ-loop
 shared-slice-read-wide16 c =
     let b = c .before .before .before .before in
     group-long (headed-group (b .pre .1 .0) (b .pre .1 .1 .0))
-
-wide16-requires : tie.Need-wide16-requires Inv-loop μ-loop
-wide16-requires c κs = search needs
-
-children-of-requires : tie.Need-children-of-requires Inv-loop μ-loop
-children-of-requires c κs = search needs
 
 loop-holds : tie.Need-loop-holds Inv-loop μ-loop
 loop-holds c = (passed-first, omega arith)
@@ -85,9 +76,6 @@ shared-slice-read-wide16-2 c =
     let n = c .before .before .before in
     let b = start n in
     omega (arith, inside n .0, b .pre .1 .1 .1 .long)
-
-wide16-requires-2 : tie.Need-wide16-requires-2 Inv-loop μ-loop
-wide16-requires-2 c κs = search needs
 
 add-at : tie.Need-add-at Inv-loop μ-loop
 add-at c =
@@ -121,17 +109,17 @@ first-constant-spec =
     (tie.spec
     Inv-loop
     μ-loop
-    constant-for-requires
+    (λ c κs. search needs)
     shared-slice-read-wide16
-    wide16-requires
-    children-of-requires
+    (λ c κs. search needs)
+    (λ c κs. search needs)
     loop-holds
     mul-if1
     shared-slice-read-if1
     returns
     mul-wide16
     shared-slice-read-wide16-2
-    wide16-requires-2
+    (λ c κs. search needs)
     add-at
     add-i
     loop-less

@@ -24,9 +24,6 @@ sub-least-child c = let k = known (c .before .before) in omega (arith, k .within
 part-least-child-start : tie.Need-part-least-child-start
 part-least-child-start c = let k = known (c .before .before) in omega (arith, k .within, k .whole)
 
-part-least-child-end : tie.Need-part-least-child-end
-part-least-child-end c = search needs
-
 mul-least-child-2 : tie.Need-mul-least-child-2
 mul-least-child-2 c = omega (arith, known (c .before .before .before) .within)
 
@@ -35,9 +32,6 @@ sub-least-child-2 c = let b = c .before .before .before in omega (arith, known b
 
 part-least-child-start-2 : tie.Need-part-least-child-start-2
 part-least-child-start-2 c = let b = c .before .before .before in omega (arith, known b .within, b .pre .1 .0 .long)
-
-part-least-child-end-2 : tie.Need-part-least-child-end-2
-part-least-child-end-2 c = search needs
 
 least-child-requires : tie.Need-least-child-requires
 least-child-requires c κs =
@@ -60,10 +54,10 @@ least-at-spec =
     mul-least-child
     sub-least-child
     part-least-child-start
-    part-least-child-end
+    (λ c. search needs)
     mul-least-child-2
     sub-least-child-2
     part-least-child-start-2
-    part-least-child-end-2
+    (λ c. search needs)
     least-child-requires
     returns)

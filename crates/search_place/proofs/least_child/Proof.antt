@@ -21,9 +21,6 @@ right c =
     let b = c .before .before .before .before in
     head-right (b .args .rule) (b .pre .1 .0) (sym (c .before .is-headed .ensures) ∙ not-false (c .before .is-headed .result) (c .if1 .left))
 
-is-headed-requires : tie.Need-is-headed-requires
-is-headed-requires c κs = search needs
-
 returns : tie.Need-returns
 returns c =
     let b = c .before .before .before .before in
@@ -37,12 +34,6 @@ first-beside-requires c κs =
 
 shared-slice-read-wide16 : tie.Need-shared-slice-read-wide16
 shared-slice-read-wide16 c = let d = c .before .before .before .before in d .before .before .before .before .pre .0 .2
-
-wide16-requires : tie.Need-wide16-requires
-wide16-requires c κs = search needs
-
-children-of-requires : tie.Need-children-of-requires
-children-of-requires c κs = search needs
 
 -- What the first child with which the rule applies is to the search, by the number of the children.
 counted : (c : tie.After-children-of) → let d = c .before .before .before .before .before in let a = d .before .before .before .before .before .args in c .children-of .result ≡ children (getD (a .part .now) 0 0)
@@ -76,12 +67,12 @@ pub least-child-spec : {M : Type 1} → statement M
 least-child-spec =
     tie.close
     (tie.spec
-    is-headed-requires
+    (λ c κs. search needs)
     returns
     first-beside-requires
     shared-slice-read-wide16
-    wide16-requires
-    children-of-requires
+    (λ c κs. search needs)
+    (λ c κs. search needs)
     returns-2
     least-inside-requires
     returns-3

@@ -39,12 +39,6 @@ mul-wide16 c = let w = child (c .before .before .before .before) in omega arith
 shared-slice-read-wide16 : tie.Need-shared-slice-read-wide16
 shared-slice-read-wide16 c = child (c .before .before .before .before .before) .0
 
-wide16-requires : tie.Need-wide16-requires
-wide16-requires c κs = search needs
-
-arity-of-requires : tie.Need-arity-of-requires
-arity-of-requires c κs = search needs
-
 returns-2 : tie.Need-returns-2
 returns-2 c =
     let n = c .before in
@@ -68,7 +62,7 @@ least-factored-spec =
     first-common-requires
     mul-wide16
     shared-slice-read-wide16
-    wide16-requires
-    arity-of-requires
+    (λ c κs. search needs)
+    (λ c κs. search needs)
     returns-2
     returns-3)

@@ -23,9 +23,6 @@ least-merged-requires c κs =
     let b = c .before .before .before in
     (b .pre .1 .0, (subst (λ r. Headed r (b .args .part .now)) (c .match .keys1) (b .pre .1 .1 .0), b .pre .1 .1 .1 .0))
 
-least-lifted-requires : tie.Need-least-lifted-requires
-least-lifted-requires c κs = search needs
-
 least-factored-requires : tie.Need-least-factored-requires
 least-factored-requires c κs =
     let b = c .before .before .before .before in
@@ -35,9 +32,6 @@ returns : tie.Need-returns
 returns c =
     let a = c .before .before .before .before .args in
     subst (λ r. (p : ℕ) → spotOf r p (c .least-merged .result) ≡ least-j r p (a .i) (forest-in (a .part .now))) (sym (c .before .match .keys1)) (c .least-merged .ensures)
-
-returns-2 : tie.Need-returns-2
-returns-2 c = search needs
 
 returns-3 : tie.Need-returns-3
 returns-3 c =
@@ -49,8 +43,8 @@ least-inner-spec =
     tie.close
     (tie.spec
     least-merged-requires
-    least-lifted-requires
+    (λ c κs. search needs)
     least-factored-requires
     returns
-    returns-2
+    (λ c. search needs)
     returns-3)

@@ -32,12 +32,6 @@ shared-slice-read-wide16 c =
     let b = c .before .before .before in
     group-long (headed-group (b .pre .1 .0) (b .pre .1 .1 .0))
 
-wide16-requires : tie.Need-wide16-requires Inv-loop μ-loop
-wide16-requires c κs = search needs
-
-children-of-requires : tie.Need-children-of-requires Inv-loop μ-loop
-children-of-requires c κs = search needs
-
 loop-holds : tie.Need-loop-holds Inv-loop μ-loop
 loop-holds c = passed-first
 
@@ -47,9 +41,6 @@ least-inner-requires c κs =
     let v = n .before in
     let b = v .before .before .before .before .before in
     (b .pre .0, (b .pre .1 .0, (b .pre .1 .1 .0, ((omega (arith, counted v), n .loop .inv .here), b .pre .1 .1 .1))))
-
-enum-known-spot : tie.Need-enum-known-spot Inv-loop μ-loop
-enum-known-spot c = search needs
 
 returns : tie.Need-returns Inv-loop μ-loop
 returns c =
@@ -79,9 +70,6 @@ shared-slice-read-wide16-2 c =
     let n = c .before .before .before .before in
     let b = n .before .before .before .before .before .before .before in
     omega (arith, inside n .0, b .pre .1 .1 .1 .long)
-
-wide16-requires-2 : tie.Need-wide16-requires-2 Inv-loop μ-loop
-wide16-requires-2 c κs = search needs
 
 add-at : tie.Need-add-at Inv-loop μ-loop
 add-at c =
@@ -120,16 +108,16 @@ least-inside-spec =
     Inv-loop
     μ-loop
     shared-slice-read-wide16
-    wide16-requires
-    children-of-requires
+    (λ c κs. search needs)
+    (λ c κs. search needs)
     loop-holds
     least-inner-requires
-    enum-known-spot
+    (λ c. search needs)
     returns
     enum-told
     mul-wide16
     shared-slice-read-wide16-2
-    wide16-requires-2
+    (λ c κs. search needs)
     add-at
     add-i
     loop-less

@@ -43,20 +43,11 @@ mul-wide16 c = let w = child (c .before .before) in omega arith
 shared-slice-read-wide16 : tie.Need-shared-slice-read-wide16 Inv-loop μ-loop
 shared-slice-read-wide16 c = child (c .before .before .before) .0
 
-wide16-requires : tie.Need-wide16-requires Inv-loop μ-loop
-wide16-requires c κs = search needs
-
-kind-of-requires : tie.Need-kind-of-requires Inv-loop μ-loop
-kind-of-requires c κs = search needs
-
 returns : tie.Need-returns Inv-loop μ-loop
 returns c =
     let b = c .before .before .before .before .before .before in
     let read = c .before .kind-of .ensures ∙ ap kind (c .before .before .wide16 .ensures .0) in
     lifts-nothing (b .pre .1 .0) (b .pre .1 .1 .0) (b .args .i) (b .pre .0 .0) (b .pre .0 .1) (b .pre .1 .1 .1 .0 .0) (b .pre .1 .1 .1 .0 .1) (λ e. c .if1 .taken (read ∙ e))
-
-children-of-requires : tie.Need-children-of-requires Inv-loop μ-loop
-children-of-requires c κs = search needs
 
 add-from : tie.Need-add-from Inv-loop μ-loop
 add-from c = let w = child (c .before .before .before .before .before .before .before) in omega arith
@@ -97,12 +88,6 @@ mul-wide16-2 c = let w = inside c in omega arith
 shared-slice-read-wide16-2 : tie.Need-shared-slice-read-wide16-2 Inv-loop μ-loop
 shared-slice-read-wide16-2 c = inside (c .before) .0
 
-wide16-requires-2 : tie.Need-wide16-requires-2 Inv-loop μ-loop
-wide16-requires-2 c κs = search needs
-
-is-literal-requires : tie.Need-is-literal-requires Inv-loop μ-loop
-is-literal-requires c κs = search needs
-
 returns-2 : tie.Need-returns-2 Inv-loop μ-loop
 returns-2 c =
     let n = c .before .before .before .before .before in
@@ -117,9 +102,6 @@ shared-slice-read-wide16-3 c =
     let n = c .before .before .before .before .before in
     let b = start (n .before) in
     omega (arith, inside n .0, b .pre .1 .1 .1 .1 .long)
-
-wide16-requires-3 : tie.Need-wide16-requires-3 Inv-loop μ-loop
-wide16-requires-3 c κs = search needs
 
 add-from-2 : tie.Need-add-from-2 Inv-loop μ-loop
 add-from-2 c =
@@ -156,20 +138,20 @@ least-lifted-spec =
     μ-loop
     mul-wide16
     shared-slice-read-wide16
-    wide16-requires
-    kind-of-requires
+    (λ c κs. search needs)
+    (λ c κs. search needs)
     returns
-    children-of-requires
+    (λ c κs. search needs)
     add-from
     loop-holds
     mul-wide16-2
     shared-slice-read-wide16-2
-    wide16-requires-2
-    is-literal-requires
+    (λ c κs. search needs)
+    (λ c κs. search needs)
     returns-2
     mul-wide16-3
     shared-slice-read-wide16-3
-    wide16-requires-3
+    (λ c κs. search needs)
     add-from-2
     add-j
     loop-less

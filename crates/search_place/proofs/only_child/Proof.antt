@@ -16,12 +16,6 @@ shared-slice-read-wide16 c =
     let b = c .before .before in
     group-long (headed-group (b .pre .1 .0) (b .pre .1 .1))
 
-wide16-requires : tie.Need-wide16-requires
-wide16-requires c κs = search needs
-
-children-of-requires : tie.Need-children-of-requires
-children-of-requires c κs = search needs
-
 returns : tie.Need-returns
 returns c =
     let b = c .before .before .before .before .before in
@@ -33,4 +27,4 @@ returns-2 c =
     single-none (b .pre .1 .0) (b .pre .1 .1) (b .pre .0 .0) (b .pre .0 .1) (counted (c .before)) (c .if1 .left)
 
 pub only-child-spec : {M : Type 1} → statement M
-only-child-spec = tie.close (tie.spec shared-slice-read-wide16 wide16-requires children-of-requires returns returns-2)
+only-child-spec = tie.close (tie.spec shared-slice-read-wide16 (λ c κs. search needs) (λ c κs. search needs) returns returns-2)

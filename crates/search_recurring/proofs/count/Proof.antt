@@ -45,15 +45,6 @@ mul-wide16 c = omega arith
 shared-slice-read-wide16 : tie.Need-shared-slice-read-wide16 Inv-loop μ-loop
 shared-slice-read-wide16 c = omega arith
 
-wide16-requires : tie.Need-wide16-requires Inv-loop μ-loop
-wide16-requires c κs = search needs
-
-is-literal-requires : tie.Need-is-literal-requires Inv-loop μ-loop
-is-literal-requires c κs = search needs
-
-value-of-requires : tie.Need-value-of-requires Inv-loop μ-loop
-value-of-requires c κs = search needs
-
 slice-read-if2 : tie.Need-slice-read-if2 Inv-loop μ-loop
 slice-read-if2 c = option-within (c .before)
 
@@ -121,9 +112,9 @@ count-spec =
     sub-q
     mul-wide16
     shared-slice-read-wide16
-    wide16-requires
-    is-literal-requires
-    value-of-requires
+    (λ c κs. search needs)
+    (λ c κs. search needs)
+    (λ c κs. search needs)
     slice-read-if2
     slice-read-tally
     add-tally

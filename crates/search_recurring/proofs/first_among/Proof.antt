@@ -44,12 +44,6 @@ told c =
 shared-slice-read-wide16 : tie.Need-shared-slice-read-wide16 Inv-loop μ-loop
 shared-slice-read-wide16 c = let e = c .before .before .before .before .pre .0 in omega (arith, e .some-head, e .within)
 
-wide16-requires : tie.Need-wide16-requires Inv-loop μ-loop
-wide16-requires c κs = search needs
-
-children-of-requires : tie.Need-children-of-requires Inv-loop μ-loop
-children-of-requires c κs = search needs
-
 loop-holds : tie.Need-loop-holds Inv-loop μ-loop
 loop-holds c = (passed-first, omega arith)
 
@@ -75,9 +69,6 @@ shared-slice-read-wide16-2 c =
     let m = c .before .before .before in
     let b = start m in
     omega (arith, inside m, b .pre .1 .0 .long)
-
-wide16-requires-2 : tie.Need-wide16-requires-2 Inv-loop μ-loop
-wide16-requires-2 c κs = search needs
 
 add-at : tie.Need-add-at Inv-loop μ-loop
 add-at c =
@@ -111,14 +102,14 @@ first-among-spec =
     Inv-loop
     μ-loop
     shared-slice-read-wide16
-    wide16-requires
-    children-of-requires
+    (λ c κs. search needs)
+    (λ c κs. search needs)
     loop-holds
     recurs-requires
     returns
     mul-wide16
     shared-slice-read-wide16-2
-    wide16-requires-2
+    (λ c κs. search needs)
     add-at
     add-i
     loop-less

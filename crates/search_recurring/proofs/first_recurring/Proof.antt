@@ -23,12 +23,6 @@ shared-slice-read-wide16 c =
     let p = c .before .before .before .pre .1 in
     omega (arith, p .1 .1 .long, first-number (p .0) (p .1 .0))
 
-wide16-requires : tie.Need-wide16-requires
-wide16-requires c κs = search needs
-
-slice-aggregate-first-among : tie.Need-slice-aggregate-first-among
-slice-aggregate-first-among c = search needs
-
 first-among-requires : tie.Need-first-among-requires
 first-among-requires c κs =
     let w = c .before .before in
@@ -40,16 +34,10 @@ returns c =
     let p = w .before .before .before .before .pre in
     again-applies (p .1 .0) (p .1 .1 .0) (whole w) (p .0 .0) (p .0 .1) (c .first-among .ensures)
 
-slice-aggregate-count : tie.Need-slice-aggregate-count
-slice-aggregate-count c = search needs
-
 count-requires : tie.Need-count-requires
 count-requires c κs =
     let e = ended (c .before .before) in
     (e .some-head, e .within, e .short, refl)
-
-slice-aggregate-first-among-2 : tie.Need-slice-aggregate-first-among-2
-slice-aggregate-first-among-2 c = search needs
 
 first-among-requires-2 : tie.Need-first-among-requires-2
 first-among-requires-2 c κs =
@@ -68,12 +56,12 @@ first-recurring-spec =
     tie.close
     (tie.spec
     shared-slice-read-wide16
-    wide16-requires
-    slice-aggregate-first-among
+    (λ c κs. search needs)
+    (λ c. search needs)
     first-among-requires
     returns
-    slice-aggregate-count
+    (λ c. search needs)
     count-requires
-    slice-aggregate-first-among-2
+    (λ c. search needs)
     first-among-requires-2
     returns-2)

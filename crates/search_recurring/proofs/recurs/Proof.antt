@@ -24,27 +24,6 @@ told c =
     let p = e .before .before .before .pre .0 in
     rw (c .wide16 .ensures .0) (twice-spreads (tallied e) (p .0) (p .1) (p .2))
 
-occurs-around-requires : tie.Need-occurs-around-requires
-occurs-around-requires c κs = search needs
-
-returns : tie.Need-returns
-returns c = search needs
-
-mul-wide16 : tie.Need-mul-wide16
-mul-wide16 c = search needs
-
-shared-slice-read-wide16 : tie.Need-shared-slice-read-wide16
-shared-slice-read-wide16 c = search needs
-
-wide16-requires : tie.Need-wide16-requires
-wide16-requires c κs = search needs
-
-is-literal-requires : tie.Need-is-literal-requires
-is-literal-requires c κs = search needs
-
-value-of-requires : tie.Need-value-of-requires
-value-of-requires c κs = search needs
-
 shared-slice-read-result : tie.Need-shared-slice-read-result
 shared-slice-read-result c =
     let w = c .before .before .before .before in
@@ -64,13 +43,13 @@ pub recurs-spec : {M : Type 1} → statement M
 recurs-spec =
     tie.close
     (tie.spec
-    occurs-around-requires
-    returns
-    mul-wide16
-    shared-slice-read-wide16
-    wide16-requires
-    is-literal-requires
-    value-of-requires
+    (λ c κs. search needs)
+    (λ c. search needs)
+    (λ c. search needs)
+    (λ c. search needs)
+    (λ c κs. search needs)
+    (λ c κs. search needs)
+    (λ c κs. search needs)
     shared-slice-read-result
     returns-2
     returns-3)

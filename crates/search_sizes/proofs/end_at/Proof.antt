@@ -17,18 +17,6 @@ Inv-loop s sizes place pending₀ next₀ pending next =
 abbrev μ-loop : tie.MeasureT-loop
 μ-loop s sizes place pending₀ next₀ pending next = pending
 
-mul-wide16 : tie.Need-mul-wide16 Inv-loop μ-loop
-mul-wide16 c = search needs
-
-shared-slice-read-wide16 : tie.Need-shared-slice-read-wide16 Inv-loop μ-loop
-shared-slice-read-wide16 c = search needs
-
-wide16-requires : tie.Need-wide16-requires Inv-loop μ-loop
-wide16-requires c κs = search needs
-
-arity-of-requires : tie.Need-arity-of-requires Inv-loop μ-loop
-arity-of-requires c κs = search needs
-
 add-next : tie.Need-add-next Inv-loop μ-loop
 add-next c = omega arith
 
@@ -45,14 +33,8 @@ hop c =
     let b = n .before .before .before .before .before .before in
     c .wide162 .ensures .0 ∙ b .pre .1 (n .loop .next) (omega arith) (omega (arith, ltb-true))
 
-mul-wide16-2 : tie.Need-mul-wide16-2 Inv-loop μ-loop
-mul-wide16-2 c = search needs
-
 shared-slice-read-wide16-2 : tie.Need-shared-slice-read-wide16-2 Inv-loop μ-loop
 shared-slice-read-wide16-2 c = omega (arith, ltb-true)
-
-wide16-requires-2 : tie.Need-wide16-requires-2 Inv-loop μ-loop
-wide16-requires-2 c κs = search needs
 
 add-next-2 : tie.Need-add-next-2 Inv-loop μ-loop
 add-next-2 c =
@@ -95,15 +77,15 @@ end-at-spec =
     (tie.spec
     Inv-loop
     μ-loop
-    mul-wide16
-    shared-slice-read-wide16
-    wide16-requires
-    arity-of-requires
+    (λ c. search needs)
+    (λ c. search needs)
+    (λ c κs. search needs)
+    (λ c κs. search needs)
     add-next
     loop-holds
-    mul-wide16-2
+    (λ c. search needs)
     shared-slice-read-wide16-2
-    wide16-requires-2
+    (λ c κs. search needs)
     add-next-2
     sub-pending
     loop-less

@@ -29,9 +29,6 @@ shared-slice-read-wide16 c =
     let b = n .before .before in
     omega (arith, b .pre .0, n .loop .inv .0)
 
-wide16-requires : tie.Need-wide16-requires Inv-loop μ-loop
-wide16-requires c κs = search needs
-
 add-if1 : tie.Need-add-if1 Inv-loop μ-loop
 add-if1 c = let n = c .before .before .before in let b = n .before .before in omega (arith, b .pre .0, b .pre .1, n .loop .inv .0)
 
@@ -65,7 +62,7 @@ holder-spec =
     sub-q
     mul-wide16
     shared-slice-read-wide16
-    wide16-requires
+    (λ c κs. search needs)
     add-if1
     returns
     loop-less

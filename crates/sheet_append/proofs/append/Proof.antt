@@ -14,12 +14,6 @@ room c = has-room (c .args .sheet .now) (c .pre .0) (c .pre .1 .1)
 slice-read-wide16 : tie.Need-slice-read-wide16
 slice-read-wide16 c = let r = room (c .before .before) in omega arith
 
-wide16-requires : tie.Need-wide16-requires
-wide16-requires c κs = search needs
-
-add-end : tie.Need-add-end
-add-end c = search needs
-
 slice-read-sheet : tie.Need-slice-read-sheet
 slice-read-sheet c = let r = room (c .before .before .before .before) in omega arith
 
@@ -48,18 +42,12 @@ slice-write-sheet-2 c =
 number-of-requires : tie.Need-number-of-requires
 number-of-requires c κs = let r = room (c .before .before .before .before .before) in let p = c .before .before .before .before .before .pre .1 .0 in omega arith
 
-mul-sheet : tie.Need-mul-sheet
-mul-sheet c = search needs
-
 slice-write-sheet-3 : tie.Need-slice-write-sheet-3
 slice-write-sheet-3 c =
     let s = c .before .before .before .before .before .before .args .sheet .now in
     let r = room (c .before .before .before .before .before .before) in
     let once = set s 1 (getD s 1 0 + 1) in
     omega (arith, c .before .before .before .wide16 .ensures .0, length-set s 1 (getD s 1 0 + 1), length-set once 2 (getD once 2 0 + 1))
-
-same-length : tie.Need-same-length
-same-length c = search needs
 
 returns : tie.Need-returns
 returns c =
@@ -72,8 +60,8 @@ append-spec =
     tie.close
     (tie.spec
     slice-read-wide16
-    wide16-requires
-    add-end
+    (λ c κs. search needs)
+    (λ c. search needs)
     slice-read-sheet
     add-sheet
     slice-write-sheet
@@ -81,7 +69,7 @@ append-spec =
     add-sheet-2
     slice-write-sheet-2
     number-of-requires
-    mul-sheet
+    (λ c. search needs)
     slice-write-sheet-3
-    same-length
+    (λ c. search needs)
     returns)

@@ -7,19 +7,13 @@ use Rattle.model.specs.Literal.{literal}
 use Rattle.sheet_append.proofs.number_of.Statement.{statement}
 use Rattle.sheet_append.proofs.number_of.Tie as tie
 
-add-result : tie.Need-add-result
-add-result c = search needs
-
 returns : tie.Need-returns
 unfolding number-of number literal pick
 returns c = rw (c .if1 .taken) (omega arith)
-
-add-result-2 : tie.Need-add-result-2
-add-result-2 c = search needs
 
 returns-2 : tie.Need-returns-2
 unfolding number-of number literal pick
 returns-2 c = rw (c .if1 .left) (omega arith)
 
 pub number-of-spec : {M : Type 1} → statement M
-number-of-spec = tie.close (tie.spec add-result returns add-result-2 returns-2)
+number-of-spec = tie.close (tie.spec (λ c. search needs) returns (λ c. search needs) returns-2)

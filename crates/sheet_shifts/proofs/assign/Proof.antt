@@ -21,35 +21,11 @@ loop-holds c =
     let a = c .before .args in
     written-none _ _ _ _ (simp length-map (omega (arith, length-slice (a .from) (a .to) (a .s .now) (omega arith)))) (omega arith)
 
-mul-replacement : tie.Need-mul-replacement Inv-loop μ-loop
-mul-replacement c = search needs
-
-slice-read-replacement : tie.Need-slice-read-replacement Inv-loop μ-loop
-slice-read-replacement c = search needs
-
-replacement-requires : tie.Need-replacement-requires Inv-loop μ-loop
-replacement-requires c κs = search needs
-
-mul-s : tie.Need-mul-s Inv-loop μ-loop
-mul-s c = search needs
-
-slice-write-s : tie.Need-slice-write-s Inv-loop μ-loop
-slice-write-s c = search needs
-
-add-i : tie.Need-add-i Inv-loop μ-loop
-add-i c = search needs
-
-loop-less : tie.Need-loop-less Inv-loop μ-loop
-loop-less c = search needs
-
 loop-again : tie.Need-loop-again Inv-loop μ-loop
 loop-again c =
     let n = c .before .before .before in
     let a = n .before .before .args in
     written-mapped (replaced (a .same) (a .opposite) (a .for-same) (a .for-opposite)) _ (n .loop .inv) (omega arith) (c .replacement .ensures)
-
-same-length : tie.Need-same-length Inv-loop μ-loop
-same-length c = search needs
 
 returns : tie.Need-returns Inv-loop μ-loop
 returns c = written-all (c .before .loop .inv) (omega arith)
@@ -61,13 +37,13 @@ assign-spec =
     Inv-loop
     μ-loop
     loop-holds
-    mul-replacement
-    slice-read-replacement
-    replacement-requires
-    mul-s
-    slice-write-s
-    add-i
-    loop-less
+    (λ c. search needs)
+    (λ c. search needs)
+    (λ c κs. search needs)
+    (λ c. search needs)
+    (λ c. search needs)
+    (λ c. search needs)
+    (λ c. search needs)
     loop-again
-    same-length
+    (λ c. search needs)
     returns)

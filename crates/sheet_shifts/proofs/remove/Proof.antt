@@ -5,18 +5,6 @@ use Rattle.sheet_shifts.proofs.Shifting.{removed}
 use Rattle.sheet_shifts.proofs.remove.Statement.{statement}
 use Rattle.sheet_shifts.proofs.remove.Tie as tie
 
-shift-left-requires : tie.Need-shift-left-requires
-shift-left-requires c κs = search needs
-
-sub-end : tie.Need-sub-end
-sub-end c = search needs
-
-clear-from-requires : tie.Need-clear-from-requires
-clear-from-requires c κs = search needs
-
-same-length : tie.Need-same-length
-same-length c = search needs
-
 returns : tie.Need-returns
 returns c =
     let end = c .before .before in
@@ -26,4 +14,4 @@ returns c =
 
 pub remove-spec : {M : Type 1} → statement M
 remove-spec =
-    tie.close (tie.spec shift-left-requires sub-end clear-from-requires same-length returns)
+    tie.close (tie.spec (λ c κs. search needs) (λ c. search needs) (λ c κs. search needs) (λ c. search needs) returns)

@@ -20,22 +20,10 @@ right c =
 counted : (c : tie.After-children-of) → c .children-of .result ≡ children (getD (c .before .before .before .before .before .before .args .part .now) 0 0)
 counted c = c .children-of .ensures ∙ ap children (c .before .wide16 .ensures .0)
 
-is-headed-requires : tie.Need-is-headed-requires
-is-headed-requires c κs = search needs
-
 returns : tie.Need-returns
 returns c =
     let a = c .before .before .before in
     head-wrong (a .args .rule) (a .pre .1) (sym (c .before .is-headed .ensures) ∙ not-true (c .before .is-headed .result) (c .if1 .taken)) (a .args .i) (a .args .j)
-
-shared-slice-read-wide16 : tie.Need-shared-slice-read-wide16
-shared-slice-read-wide16 c = search needs
-
-wide16-requires : tie.Need-wide16-requires
-wide16-requires c κs = search needs
-
-children-of-requires : tie.Need-children-of-requires
-children-of-requires c κs = search needs
 
 returns-2 : tie.Need-returns-2
 returns-2 c =
@@ -54,19 +42,16 @@ applies-headed-requires c κs =
     let a = e .before .before .before in
     ((a .pre .0 .0, a .pre .0 .1), (a .pre .1, (right e, (omega (arith, counted (c .before .before)), c .child-at .ensures .0))))
 
-returns-3 : tie.Need-returns-3
-returns-3 c = search needs
-
 pub applies-spec : {M : Type 1} → statement M
 applies-spec =
     tie.close
     (tie.spec
-    is-headed-requires
+    (λ c κs. search needs)
     returns
-    shared-slice-read-wide16
-    wide16-requires
-    children-of-requires
+    (λ c. search needs)
+    (λ c κs. search needs)
+    (λ c κs. search needs)
     returns-2
     child-at-requires
     applies-headed-requires
-    returns-3)
+    (λ c. search needs))

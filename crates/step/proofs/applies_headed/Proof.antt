@@ -14,28 +14,10 @@ use Rattle.step.proofs.applies_headed.Tie as tie
 last : (c : tie.Joined1) → c .before .before .args .rule ≡ 14
 last c = let p = c .before .before .pre .0 in ⊎-elim (λ w. omega arith) (λ w. omega arith) (c .if1 .came)
 
-applies-requires : tie.Need-applies-requires
-applies-requires c κs = search needs
-
-applies-requires-2 : tie.Need-applies-requires-2
-applies-requires-2 c κs = search needs
-
-applies-requires-3 : tie.Need-applies-requires-3
-applies-requires-3 c κs = search needs
-
 applies-requires-4 : tie.Need-applies-requires-4
 applies-requires-4 c κs =
     let b = c .before .before in
     (b .pre .1 .0, (subst (λ r. Headed r (b .args .part .now)) (last c) (b .pre .1 .1 .0), b .pre .1 .1 .1))
-
-returns : tie.Need-returns
-returns c = search needs
-
-returns-2 : tie.Need-returns-2
-returns-2 c = search needs
-
-returns-3 : tie.Need-returns-3
-returns-3 c = search needs
 
 returns-4 : tie.Need-returns-4
 returns-4 c =
@@ -46,11 +28,11 @@ pub applies-headed-spec : {M : Type 1} → statement M
 applies-headed-spec =
     tie.close
     (tie.spec
-    applies-requires
-    applies-requires-2
-    applies-requires-3
+    (λ c κs. search needs)
+    (λ c κs. search needs)
+    (λ c κs. search needs)
     applies-requires-4
-    returns
-    returns-2
-    returns-3
+    (λ c. search needs)
+    (λ c. search needs)
+    (λ c. search needs)
     returns-4)

@@ -35,9 +35,6 @@ sub-turn c = let k = known (c .before) in omega (arith, k .within, k .whole)
 part-turn-start : tie.Need-part-turn-start
 part-turn-start c = let k = known (c .before) in omega (arith, k .within, k .whole)
 
-part-turn-end : tie.Need-part-turn-end
-part-turn-end c = search needs
-
 turn-requires : tie.Need-turn-requires
 turn-requires c κs =
     let a = c .before .before .args in
@@ -49,12 +46,6 @@ sub-live-count c = omega (arith, long (c .before .before .before))
 
 part-live-count-start : tie.Need-part-live-count-start
 part-live-count-start c = omega (arith, long (c .before .before .before .before))
-
-part-live-count-end : tie.Need-part-live-count-end
-part-live-count-end c = search needs
-
-live-count-requires : tie.Need-live-count-requires
-live-count-requires c κs = search needs
 
 cast-sheet : tie.Need-cast-sheet
 cast-sheet c =
@@ -76,9 +67,6 @@ returns c =
     let a = b .args in
     back-level (a .sheet .now) (b .pre .0) (a .rule) (a .place) (a .i) (a .j) (b .pre .1) (d .turn .ensures) (omega arith) (omega arith)
 
-same-length-2 : tie.Need-same-length-2
-same-length-2 c = search needs
-
 returns-2 : tie.Need-returns-2
 returns-2 c =
     let d = c .before .before .before .before .before .before in
@@ -95,15 +83,15 @@ apply-spec =
     mul-turn
     sub-turn
     part-turn-start
-    part-turn-end
+    (λ c. search needs)
     turn-requires
     sub-live-count
     part-live-count-start
-    part-live-count-end
-    live-count-requires
+    (λ c. search needs)
+    (λ c κs. search needs)
     cast-sheet
     slice-write-sheet
     same-length
     returns
-    same-length-2
+    (λ c. search needs)
     returns-2)

@@ -15,42 +15,12 @@ use Rattle.step.proofs.turn.Tie as tie
 last : (c : tie.Joined1) → c .before .before .args .rule ≡ 14
 last c = let p = c .before .before .pre .0 in ⊎-elim (λ w. omega arith) (λ w. omega arith) (c .if1 .came)
 
-turn-requires : tie.Need-turn-requires
-turn-requires c κs = search needs
-
-turn-requires-2 : tie.Need-turn-requires-2
-turn-requires-2 c κs = search needs
-
-turn-requires-3 : tie.Need-turn-requires-3
-turn-requires-3 c κs = search needs
-
 turn-requires-4 : tie.Need-turn-requires-4
 turn-requires-4 c κs =
     let d = c .before in
     let b = d .before .before in
     let a = b .args in
     (b .pre .1 .0, (subst (λ r. Headed r (a .part .now)) (last d) (b .pre .1 .1 .0), subst (λ r. is-some (rewrite r (a .i) (a .j) (forest-in (a .part .now))) ≡ true) (last d) (b .pre .1 .1 .1)))
-
-same-length : tie.Need-same-length
-same-length c = search needs
-
-returns : tie.Need-returns
-returns c = search needs
-
-same-length-2 : tie.Need-same-length-2
-same-length-2 c = search needs
-
-returns-2 : tie.Need-returns-2
-returns-2 c = search needs
-
-same-length-3 : tie.Need-same-length-3
-same-length-3 c = search needs
-
-returns-3 : tie.Need-returns-3
-returns-3 c = search needs
-
-same-length-4 : tie.Need-same-length-4
-same-length-4 c = search needs
 
 returns-4 : tie.Need-returns-4
 returns-4 c =
@@ -62,15 +32,15 @@ pub turn-spec : {M : Type 1} → statement M
 turn-spec =
     tie.close
     (tie.spec
-    turn-requires
-    turn-requires-2
-    turn-requires-3
+    (λ c κs. search needs)
+    (λ c κs. search needs)
+    (λ c κs. search needs)
     turn-requires-4
-    same-length
-    returns
-    same-length-2
-    returns-2
-    same-length-3
-    returns-3
-    same-length-4
+    (λ c. search needs)
+    (λ c. search needs)
+    (λ c. search needs)
+    (λ c. search needs)
+    (λ c. search needs)
+    (λ c. search needs)
+    (λ c. search needs)
     returns-4)
