@@ -31,7 +31,10 @@ words-at n i b h =
     let next : 2 * i + 2 ≡ 2 * (i + 1) = omega arith in
     rw (left, word-drop (2 * i) 0 b, drop-drop 2 (2 * i) b, here, next)
 
-pub entries-at : (m i : ℕ) (b : List ℕ) → i < m → entries-from m i b ≡ record { first = word b (4 * i); count = word b (4 * i + 2) } ∷ entries-from m (i + 1) b
+pub entries-at :
+    (m i : ℕ) (b : List ℕ) →
+    i < m →
+    entries-from m i b ≡ record { first = word b (4 * i); count = word b (4 * i + 2) } ∷ entries-from m (i + 1) b
 unfolding entries
 entries-at m i b h =
     let left : m - i ≡ suc (m - (i + 1)) = omega arith in
@@ -62,11 +65,18 @@ drop-words-from k n i b =
     drop-words k (n - i) (drop (2 * i) b) ∙ rw (drop-drop (2 * k) (2 * i) b, left, next)
 
 -- Entries in line, by the first of them.
-pub in-line-at : (total sum m i : ℕ) (b : List ℕ) → i < m → in-line total sum (entries-from m i b) ≡ (eqb (word b (4 * i)) sum && leb 1 (word b (4 * i + 2)) && in-line total (sum + word b (4 * i + 2)) (entries-from m (i + 1) b))
+pub in-line-at :
+    (total sum m i : ℕ) (b : List ℕ) →
+    i < m →
+    in-line total sum (entries-from m i b) ≡ (eqb (word b (4 * i)) sum && leb 1 (word b (4 * i + 2)) && in-line total (sum + word b (4 * i + 2)) (entries-from m (i + 1) b))
 unfolding in-line
 in-line-at total sum m i b h = rw (entries-at m i b h)
 
-pub in-line-after : (total sum m i : ℕ) (b : List ℕ) → i < m → in-line total sum (entries-from m i b) ≡ true → in-line total (sum + word b (4 * i + 2)) (entries-from m (i + 1) b) ≡ true
+pub in-line-after :
+    (total sum m i : ℕ) (b : List ℕ) →
+    i < m →
+    in-line total sum (entries-from m i b) ≡ true →
+    in-line total (sum + word b (4 * i + 2)) (entries-from m (i + 1) b) ≡ true
 in-line-after total sum m i b h e =
     and-split (eqb (word b (4 * i)) sum && leb 1 (word b (4 * i + 2))) _ (sym (in-line-at total sum m i b h) ∙ e) .1
 

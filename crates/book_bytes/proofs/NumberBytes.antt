@@ -13,7 +13,12 @@ bytes-append [] ys = refl
 bytes-append (x ∷ xs) ys = ap (λ r. x % 256 ∷ x / 256 % 256 ∷ r) (bytes-append xs ys)
 
 -- A number written as two bytes after numbers that were written before.
-pub bytes-more : (xs old : List ℕ) (x : ℕ) {l : List ℕ} {n : ℕ} → 2 * length xs ≡ n → n + 1 < length old → l ≡ bytes-of xs ++ drop n old → set (set l n (x % 256)) (n + 1) (x / 256 % 256) ≡ bytes-of (xs ++ (x ∷ [])) ++ drop (n + 2) old
+pub bytes-more :
+    (xs old : List ℕ) (x : ℕ) {l : List ℕ} {n : ℕ} →
+    2 * length xs ≡ n →
+    n + 1 < length old →
+    l ≡ bytes-of xs ++ drop n old →
+    set (set l n (x % 256)) (n + 1) (x / 256 % 256) ≡ bytes-of (xs ++ (x ∷ [])) ++ drop (n + 2) old
 unfolding bytes-of
 bytes-more xs old x long h e =
     rw (bytes-append xs (x ∷ [])) (start-pair (bytes-of xs) old (x % 256) (x / 256 % 256) (length-bytes xs ∙ long) h e)

@@ -53,7 +53,13 @@ module _ (s : List ℕ) (k : ℕ) {begin count : ℕ} (here : begin ≡ total (s
       rw (spans-more, lined-more 0 count (spans k s), here, zero-add, append-assoc (lined-up 0 (spans k s)))
 
   -- Its two numbers written after the contents of the trees before it.
-  pub contents-more : (old : List ℕ) {l l₁ l₂ : List ℕ} → 4 * (k + 1) ≤ length old → l ≡ bytes-of (lined-up 0 (spans k s)) ++ drop (4 * k) old → l₁ ≡ set (set l (4 * k) (begin % 256)) (4 * k + 1) (begin / 256 % 256) → l₂ ≡ set (set l₁ (4 * k + 2) (count % 256)) (4 * k + 2 + 1) (count / 256 % 256) → l₂ ≡ bytes-of (lined-up 0 (spans (k + 1) s)) ++ drop (4 * (k + 1)) old
+  pub contents-more :
+      (old : List ℕ) {l l₁ l₂ : List ℕ} →
+      4 * (k + 1) ≤ length old →
+      l ≡ bytes-of (lined-up 0 (spans k s)) ++ drop (4 * k) old →
+      l₁ ≡ set (set l (4 * k) (begin % 256)) (4 * k + 1) (begin / 256 % 256) →
+      l₂ ≡ set (set l₁ (4 * k + 2) (count % 256)) (4 * k + 2 + 1) (count / 256 % 256) →
+      l₂ ≡ bytes-of (lined-up 0 (spans (k + 1) s)) ++ drop (4 * (k + 1)) old
   contents-more old h e f g =
       let xs : List ℕ = lined-up 0 (spans k s) in
       let ys : List ℕ = xs ++ (begin ∷ []) in

@@ -12,7 +12,11 @@ use Rattle.model.specs.Book.{pieces}
 use Rattle.book_codes.specs.CodePlaces.{lent-from, code-at, codes-after, codes-from}
 
 -- What is left of a code from byte k on begins with that byte.
-pub byte-more : (k : ℕ) (s : List ℕ) → k < code-length → code-length ≤ length s → slice k code-length s ≡ getD s k 0 ∷ slice (k + 1) code-length s
+pub byte-more :
+    (k : ℕ) (s : List ℕ) →
+    k < code-length →
+    code-length ≤ length s →
+    slice k code-length s ≡ getD s k 0 ∷ slice (k + 1) code-length s
 byte-more k s h l = rw (add-one k) (slice-cons k code-length s 0 h l)
 
 -- The codes from a place on: from the first, from code i, from the one after it, and past the last.

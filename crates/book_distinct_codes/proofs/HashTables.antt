@@ -69,7 +69,13 @@ module _ (n : ℕ) (s : List ℕ) where
       }
 
   -- The later codes of a hash, from one that is not the code looked for to the next.
-  pub comes-next : (d : List ℕ) (q p : ℕ) → q < n → hash (code-at s q) ≡ hash d → same-code d (code-at s q) ≡ false → Link n s (q + 1) (hash (code-at s q)) p → comes-from d n s q ≡ comes-from d n s p
+  pub comes-next :
+      (d : List ℕ) (q p : ℕ) →
+      q < n →
+      hash (code-at s q) ≡ hash d →
+      same-code d (code-at s q) ≡ false →
+      Link n s (q + 1) (hash (code-at s q)) p →
+      comes-from d n s q ≡ comes-from d n s p
   comes-next d q p l e other k = comes-more n s d q l ∙ rw other (k .passed d (sym e))
 
 -- The codes from code i on are entered: none of them is malformed or comes again, each hash leads to the first of them that has it,
@@ -83,7 +89,12 @@ pub record Entered (n : ℕ) (s first next : List ℕ) (i : ℕ) : Type 0 where
   pub links : Links n s next i
 
 -- Before the first is entered, before one more is, and after all are.
-pub entered-none : (n : ℕ) (s : List ℕ) (a b : ℕ) → a ≡ buckets → b ≡ most-options → n ≤ most-options → Entered n s (replicate a 65535) (replicate b 65535) n
+pub entered-none :
+    (n : ℕ) (s : List ℕ) (a b : ℕ) →
+    a ≡ buckets →
+    b ≡ most-options →
+    n ≤ most-options →
+    Entered n s (replicate a 65535) (replicate b 65535) n
 entered-none n s a b e f l =
     let none : ℕ = 65535 in
     record {

@@ -35,5 +35,12 @@ module _ (b : List ℕ) (accepted : Accepted b) where
       rw (again, count, zeros, add-one)
 
   -- The same from what is read of the head, of the bodies and of the room for them.
-  pub loaded-from : (s : List ℕ) {n m t room : ℕ} → n ≡ word b 0 → m ≡ word b 2 → t ≡ word b 4 → s ≡ drop (8 + 13 * n + 4 * m) b → room ≡ most-nodes → n ∷ (t + 1) ∷ (20480 + m) ∷ words t s ++ replicate (room - t) 0 ≡ sheet-of (options-of b) (book-nodes b)
+  pub loaded-from :
+      (s : List ℕ) {n m t room : ℕ} →
+      n ≡ word b 0 →
+      m ≡ word b 2 →
+      t ≡ word b 4 →
+      s ≡ drop (8 + 13 * n + 4 * m) b →
+      room ≡ most-nodes →
+      n ∷ (t + 1) ∷ (20480 + m) ∷ words t s ++ replicate (room - t) 0 ≡ sheet-of (options-of b) (book-nodes b)
   loaded-from s e f g p q = rw (p, q, e, f, g) (sym loaded-is)

@@ -76,7 +76,9 @@ module _ (s : List ℕ) (sheet : Formed s) where
       let k = sheet in length-take-le (getD s 1 0 - 1) (drop 3 s) (omega (arith, length-drop 3 s))
 
   -- What is written, part by part.
-  written-is : (b : List ℕ) → written s b ≡ bytes-of (getD s 0 0 ∷ children (getD s 2 0) ∷ (getD s 1 0 - 1) ∷ 0 ∷ []) ++ (take (13 * getD s 0 0) (drop 8 b) ++ (bytes-of (lined-up 0 (spans (children (getD s 2 0)) below)) ++ bytes-of below))
+  written-is :
+      (b : List ℕ) →
+      written s b ≡ bytes-of (getD s 0 0 ∷ children (getD s 2 0) ∷ (getD s 1 0 - 1) ∷ 0 ∷ []) ++ (take (13 * getD s 0 0) (drop 8 b) ++ (bytes-of (lined-up 0 (spans (children (getD s 2 0)) below)) ++ bytes-of below))
   unfolding written options-in
   written-is b = rw (rules-are, numbers-are, size-is, spans-are, length-below)
 
@@ -120,7 +122,14 @@ module _ (s b : List ℕ) (sheet : Formed s) (book : Accepted b) (same : options
       ∙ omega (arith, length-append codes (contents ++ bytes-of xs), length-append contents (bytes-of xs), length-codes, length-contents m xs, length-bytes xs, length-below s sheet)
 
   -- What is written, from what is read of the sheet and of the other book.
-  pub written-from : (codes xs old : List ℕ) {n m t : ℕ} → n ≡ options-in s → m ≡ children (getD s 2 0) → t ≡ used-in s - 1 → codes ≡ take (13 * n) (drop 8 b) → xs ≡ take t (drop 3 s) → (bytes-of (n ∷ m ∷ t ∷ 0 ∷ []) ++ (codes ++ (bytes-of (lined-up 0 (spans m xs)) ++ bytes-of xs))) ++ drop (8 + (length codes + (4 * m + 2 * length xs))) old ≡ placed (written s b) old
+  pub written-from :
+      (codes xs old : List ℕ) {n m t : ℕ} →
+      n ≡ options-in s →
+      m ≡ children (getD s 2 0) →
+      t ≡ used-in s - 1 →
+      codes ≡ take (13 * n) (drop 8 b) →
+      xs ≡ take t (drop 3 s) →
+      (bytes-of (n ∷ m ∷ t ∷ 0 ∷ []) ++ (codes ++ (bytes-of (lined-up 0 (spans m xs)) ++ bytes-of xs))) ++ drop (8 + (length codes + (4 * m + 2 * length xs))) old ≡ placed (written s b) old
   unfolding placed options-in used-in
   written-from codes xs old e f g p q =
       rw (p, q, e, f, g, length-codes, length-below s sheet, ← length-written, ← written-is s sheet b)

@@ -30,7 +30,11 @@ module _ {A : Type 0} (p old : List A) {l : List A} {a : ℕ} (long : length p �
   lent-after ys h = lent-back a l ys h ∙ ap (λ r. r ++ ys) (ap (take a) e ∙ take-at p (drop a old) a long)
 
   -- Where the rest's own start was written, both stand at the start.
-  pub lent-start : (q : List A) (b : ℕ) {ys : List A} → a ≤ length l → ys ≡ q ++ drop b (midOf a (length l - a) l) → putMid a (length l - a) l ys ≡ (p ++ q) ++ drop (a + b) old
+  pub lent-start :
+      (q : List A) (b : ℕ) {ys : List A} →
+      a ≤ length l →
+      ys ≡ q ++ drop b (midOf a (length l - a) l) →
+      putMid a (length l - a) l ys ≡ (p ++ q) ++ drop (a + b) old
   lent-start q b {ys} h f =
       lent-after ys h
       ∙ ap (λ r. p ++ r) (f ∙ ap (λ r. q ++ drop b r) lent-rest ∙ ap (λ r. q ++ r) (drop-drop b a old))

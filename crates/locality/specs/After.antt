@@ -129,14 +129,20 @@ lifts-after p i j ns ms w =
       new-part = rest-as (further (further lifted (rest-one _ _)) (past-children and a b f)) inner refl;
     }
 
-factors-after : (p i j : ℕ) (ns ms : List Node) → Turned factors p i j ns ms → Moved (tree-end p ns) (tree-end p ns + length ms - length ns) ns ms
+factors-after :
+    (p i j : ℕ) (ns ms : List Node) →
+    Turned factors p i j ns ms →
+    Moved (tree-end p ns) (tree-end p ns + length ms - length ns) ns ms
 factors-after p i j ns ms w =
     let new = further (new-here w) (past-trees (w .new) (w .rest)) in
     let place : p + length (encode (w .new)) ≡ tree-end p ns + length ms - length ns = omega (arith, new .long, end-old w .long) in
     record { kept = encode (w .rest); old-part = end-old w; new-part = rest-as new place refl }
 
 -- The nodes from the zone's end on.
-pub moved : (x : Family) (p i j : ℕ) (ns ms : List Node) → Turned x p i j ns ms → Moved (zone x p i j ns ms .old) (zone x p i j ns ms .new) ns ms
+pub moved :
+    (x : Family) (p i j : ℕ) (ns ms : List Node) →
+    Turned x p i j ns ms →
+    Moved (zone x p i j ns ms .old) (zone x p i j ns ms .new) ns ms
 unfolding zone
 moved absorbs p i j ns ms w = absorbs-after p i j ns ms w
 moved omits p i j ns ms w = omits-after p i j ns ms w

@@ -53,7 +53,9 @@ module _ (c : Conn) (l : Literal) where
   unfolding assigned assigned-node push pick first after
   assigned-push x f = go (same l x) (same (complement l) x) (assigned c l f)
     where
-      go : (a b : Bool) (g : Forest) → pick a (node (neutral c) nil g) (pick b (node (deciding c) nil g) (lit x g)) ≡ push (pick a (head (neutral c) zero) (pick b (head (deciding c) zero) (leaf x))) g
+      go :
+          (a b : Bool) (g : Forest) →
+          pick a (node (neutral c) nil g) (pick b (node (deciding c) nil g) (lit x g)) ≡ push (pick a (head (neutral c) zero) (pick b (head (deciding c) zero) (leaf x))) g
       go true b g = refl
       go false true g = refl
       go false false g = refl
@@ -119,7 +121,10 @@ module _ (c : Conn) (l : Literal) where
       e
   literal-was a (node d k f) e = none-some e
 
-  pub literal-stays : (j : ℕ) (f : Forest) (a : Literal) → literal-at (after j (assigned c l f)) ≡ some a → (literal-at (after j f) ≡ some a) × Other l a
+  pub literal-stays :
+      (j : ℕ) (f : Forest) (a : Literal) →
+      literal-at (after j (assigned c l f)) ≡ some a →
+      (literal-at (after j f) ≡ some a) × Other l a
   literal-stays j f a e = literal-was a (after j f) (ap literal-at (sym (assigned-after j f)) ∙ e)
 
   -- Literals that are not of the option stay.
@@ -142,7 +147,10 @@ module _ (c : Conn) (l : Literal) where
     unit-before j f = unit-stays (first j f) ∙ ap (has-unit a) (sym (assigned-first j f))
 
   -- Where no constant stands now, no literal was replaced.
-  literal-kept : (x : Literal) (f : Forest) → ((d : Conn) → constant-at d (assigned c l (lit x f)) ≡ false) → assigned c l (lit x f) ≡ lit x (assigned c l f)
+  literal-kept :
+      (x : Literal) (f : Forest) →
+      ((d : Conn) → constant-at d (assigned c l (lit x f)) ≡ false) →
+      assigned c l (lit x f) ≡ lit x (assigned c l f)
   literal-kept x f h =
       assigned-lit (λ g. ((d : Conn) → constant-at d g ≡ false) → g ≡ lit x (assigned c l f)) c l x f
       (λ t e. true-false (sym (constant-self (neutral c) (assigned c l f)) ∙ e (neutral c)))
@@ -162,7 +170,10 @@ module _ (c : Conn) (l : Literal) where
   assigned-level (lit x f) h = rw (literal-kept x f (λ d. h d zero)) (one-literal (assigned-level f (later-trees x f h)))
   assigned-level (node d k f) h = groups-alike (assigned-alike k) (assigned-level f (λ b i. h b (suc i)))
 
-  conjunction-was : (f : Forest) → ((d : Conn) → constant-at d (assigned c l f) ≡ false) → conjunction-at (assigned c l f) ≡ then (conjunction-at f) (λ k. some (assigned c l k))
+  conjunction-was :
+      (f : Forest) →
+      ((d : Conn) → constant-at d (assigned c l f) ≡ false) →
+      conjunction-at (assigned c l f) ≡ then (conjunction-at f) (λ k. some (assigned c l k))
   unfolding assigned conjunction-at then
   conjunction-was nil h = refl
   conjunction-was (lit x f) h = ap conjunction-at (literal-kept x f h)
@@ -170,7 +181,10 @@ module _ (c : Conn) (l : Literal) where
   conjunction-was (node or k f) h = refl
   conjunction-was (node root k f) h = refl
 
-  pub assigned-conjunction : (i : ℕ) (f : Forest) → NoConstant (assigned c l f) → conjunction-at (after i (assigned c l f)) ≡ then (conjunction-at (after i f)) (λ k. some (assigned c l k))
+  pub assigned-conjunction :
+      (i : ℕ) (f : Forest) →
+      NoConstant (assigned c l f) →
+      conjunction-at (after i (assigned c l f)) ≡ then (conjunction-at (after i f)) (λ k. some (assigned c l k))
   assigned-conjunction i f h =
       ap conjunction-at (assigned-after i f)
       ∙ conjunction-was (after i f) (λ d. ap (constant-at d) (sym (assigned-after i f)) ∙ h d i)

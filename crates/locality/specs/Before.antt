@@ -25,11 +25,19 @@ node-at (x ∷ ns) zero h = (x, refl)
 node-at (x ∷ ns) (suc q) h = node-at ns q (omega arith)
 
 -- A quiet place stays quiet where its first tree looks as before.
-pub look-same : (s q : ℕ) (ns ms : List Node) {f g : Forest} → decode (drop q ns) ≡ f → decode (drop q ms) ≡ g → Look f g → Quiet s q ns → Quiet s q ms
+pub look-same :
+    (s q : ℕ) (ns ms : List Node) {f g : Forest} →
+    decode (drop q ns) ≡ f →
+    decode (drop q ms) ≡ g →
+    Look f g →
+    Quiet s q ns →
+    Quiet s q ms
 look-same s q ns ms e h l quiet i j = rw h (look-quiet l s i j (rw e at (quiet i j)))
 
 -- What is read at a place before some nodes' end, and how long its first tree is.
-read-before : (b : List Node) (f : Forest) (q : ℕ) (h : q < length b) → decode (drop q (b ++ encode f)) ≡ push (node-at b q h .0) (decode-onto (drop (suc q) b) f)
+read-before :
+    (b : List Node) (f : Forest) (q : ℕ) (h : q < length b) →
+    decode (drop q (b ++ encode f)) ≡ push (node-at b q h .0) (decode-onto (drop (suc q) b) f)
 unfolding decode-onto
 read-before b f q h =
     let x = node-at b q h in

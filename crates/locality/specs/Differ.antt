@@ -46,7 +46,11 @@ unfolding encode
 cut-literal l (early h x e) = early (omega arith) (past-literal x) e
 cut-literal l (late m h e x) = late m (omega arith) (ap (lit l) e) x
 
-cut-group : {n t d : ℕ} {a b v w : Forest} (c : Conn) (k : Forest) → t ≡ length (encode k) + n → Cut n d a b v w → Cut (suc t) d (node c k a) b (node c k v) w
+cut-group :
+    {n t d : ℕ} {a b v w : Forest} (c : Conn) (k : Forest) →
+    t ≡ length (encode k) + n →
+    Cut n d a b v w →
+    Cut (suc t) d (node c k a) b (node c k v) w
 unfolding encode
 cut-group {a = a} c k s (early h x e) = early (omega (arith, length-append (encode k) (encode a))) (past-group s x) e
 cut-group {a = a} c k s (late m h e x) = late m (omega (arith, length-append (encode k) (encode a))) (ap (node c k) e) x

@@ -41,7 +41,13 @@ part-read a f n =
     ∙ ap (λ g. decode (drop n (encode a)) ⊕ g) (decode-encode f)
 
 -- What is read at a place among trees, of which the first stands at an earlier place.
-pub part-here : (a f : Forest) {p : ℕ} {ns : List Node} → Rest p ns (encode (a ⊕ f)) → (q : ℕ) → p ≤ q → q < p + length (encode a) → decode (drop q ns) ≡ decode (drop (q - p) (encode a)) ⊕ f
+pub part-here :
+    (a f : Forest) {p : ℕ} {ns : List Node} →
+    Rest p ns (encode (a ⊕ f)) →
+    (q : ℕ) →
+    p ≤ q →
+    q < p + length (encode a) →
+    decode (drop q ns) ≡ decode (drop (q - p) (encode a)) ⊕ f
 part-here a f {p} {ns} r q from within =
     let sum : p + (q - p) ≡ q = omega arith in
     ap (λ n. decode (drop n ns)) (sym sum)
@@ -51,7 +57,10 @@ part-here a f {p} {ns} r q from within =
     ∙ part-read a f (q - p)
 
 -- The first of a head's children stand after it.
-pub below-head : {p : ℕ} {ns : List Node} (c : Conn) (a d f : Forest) → Rest p ns (encode (node c (a ⊕ d) f)) → Rest (p + 1) ns (encode (a ⊕ (d ⊕ f)))
+pub below-head :
+    {p : ℕ} {ns : List Node} (c : Conn) (a d f : Forest) →
+    Rest p ns (encode (node c (a ⊕ d) f)) →
+    Rest (p + 1) ns (encode (a ⊕ (d ⊕ f)))
 below-head c a d f r = rest-as (further r (past-head c (a ⊕ d) f)) refl (ap encode (⊕-assoc a d f))
 
 same-front : (ns : List Node) (n : ℕ) → n < length ns → (f g : Forest) → first 1 (decode (drop n ns) ⊕ f) ≡ first 1 (decode (drop n ns) ⊕ g)

@@ -50,7 +50,13 @@ unfolding kids size
 empty-quiet r i j d f = past-last r i j (node d nil f) (omega arith)
 
 -- The first tree of some trees, before any others.
-tree-inside : (b : Conn) (l : Literal) (t f g : Forest) → 1 ≤ size t → NoConstant (kids (assigned b l t ⊕ g)) → (r i j : ℕ) → rewrite r i j (t ⊕ f) ≡ none → rewrite r i j (assigned b l t ⊕ g) ≡ none
+tree-inside :
+    (b : Conn) (l : Literal) (t f g : Forest) →
+    1 ≤ size t →
+    NoConstant (kids (assigned b l t ⊕ g)) →
+    (r i j : ℕ) →
+    rewrite r i j (t ⊕ f) ≡ none →
+    rewrite r i j (assigned b l t ⊕ g) ≡ none
 unfolding assigned _⊕_ kids size rewrite
 tree-inside b l nil f g n free r i j e = absurd (omega arith)
 tree-inside b l (lit x t) f g n free r i j e =
@@ -70,7 +76,16 @@ tree-at ns n h = let x = node-at ns n h in rw (x .1) (go (x .0))
     go (head c k) = omega arith
 
 -- A place among trees, of which the first stands at an earlier place.
-part-inside : (b : Conn) (l : Literal) (a f g : Forest) {p : ℕ} {ns ms : List Node} → Rest p ns (encode (a ⊕ f)) → Rest p ms (encode (assigned b l a ⊕ g)) → (q s : ℕ) → p ≤ q → q < p + length (encode a) → NoConstant (kids (decode (drop q ms))) → Quiet s q ns → Quiet s q ms
+part-inside :
+    (b : Conn) (l : Literal) (a f g : Forest) {p : ℕ} {ns ms : List Node} →
+    Rest p ns (encode (a ⊕ f)) →
+    Rest p ms (encode (assigned b l a ⊕ g)) →
+    (q s : ℕ) →
+    p ≤ q →
+    q < p + length (encode a) →
+    NoConstant (kids (decode (drop q ms))) →
+    Quiet s q ns →
+    Quiet s q ms
 part-inside b l a f g {p} {ns} {ms} old new q s from within free quiet i j =
     let was = part-here a f old q from within in
     let is : decode (drop q ms) ≡ assigned b l (decode (drop (q - p) (encode a))) ⊕ g =
@@ -114,7 +129,15 @@ module _ (c : Conn) (l : Literal) (a d f : Forest) {p : ℕ} {ns ms : List Node}
 
 -- A step of rule 9 or 10, at a place inside its tree, none of whose children is a constant afterwards: a rule that did not apply
 -- does not come to apply.
-spread-turned : {p i j : ℕ} {ns ms : List Node} → Turned spreads p i j ns ms → (q s : ℕ) → p < q → q < tree-end p ns → NoConstant (kids (decode (drop q ms))) → Quiet s q ns → Quiet s q ms
+spread-turned :
+    {p i j : ℕ} {ns ms : List Node} →
+    Turned spreads p i j ns ms →
+    (q s : ℕ) →
+    p < q →
+    q < tree-end p ns →
+    NoConstant (kids (decode (drop q ms))) →
+    Quiet s q ns →
+    Quiet s q ms
 unfolding change spread _⊕_
 spread-turned {p} {i} {j} {ns} {ms} w q s later within free quiet =
     let c = w .conn in
@@ -128,6 +151,17 @@ spread-turned {p} {i} {j} {ns} {ms} w q s later within free quiet =
     let end : q < p + suc (length (encode (first i k ⊕ lit (l .0) (after (suc i) k)))) = omega (arith, length-here p ns c k f (old-here w), ap (λ g. length (encode g)) parts) in
     children-inside c (l .0) (first i k) (after (suc i) k) f old new q s free quiet later end
 
-pub spread-inside : (r p i j : ℕ) (ns : List Node) {ms : List Node} {t : ℕ} → trees ns ≡ some t → step r p i j ns ≡ some ms → 9 ≤ r → r ≤ 10 → (q s : ℕ) → p < q → q < tree-end p ns → ((d : Conn) (c : ℕ) → constant-at d (after c (kids (decode (drop q ms)))) ≡ false) → Quiet s q ns → Quiet s q ms
+pub spread-inside :
+    (r p i j : ℕ) (ns : List Node) {ms : List Node} {t : ℕ} →
+    trees ns ≡ some t →
+    step r p i j ns ≡ some ms →
+    9 ≤ r →
+    r ≤ 10 →
+    (q s : ℕ) →
+    p < q →
+    q < tree-end p ns →
+    ((d : Conn) (c : ℕ) → constant-at d (after c (kids (decode (drop q ms)))) ≡ false) →
+    Quiet s q ns →
+    Quiet s q ms
 spread-inside r p i j ns h e from to q s later within free quiet =
     spread-turned (rw (family-9 r from to) at (turned r p i j ns h e)) q s later within free quiet

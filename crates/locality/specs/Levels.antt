@@ -49,23 +49,38 @@ module _ {n d : ℕ} {a b v w : Forest} (c : Conn) where
   cut-look (early h x e) deep = both-groups (differ-alike (suc (suc zero)) (deep (lt-ltb n (length (encode a)) h)) x)
   cut-look (late m s e x) deep = rw (← e) (both-groups (alike-self (suc (suc zero)) a))
 
-pub differ-onto : (xs : List Node) {f g : Forest} → Differ zero zero f g → Differ (length xs) (levels xs f) (decode-onto xs f) (decode-onto xs g)
+pub differ-onto :
+    (xs : List Node) {f g : Forest} →
+    Differ zero zero f g →
+    Differ (length xs) (levels xs f) (decode-onto xs f) (decode-onto xs g)
 unfolding levels reaches decode-onto push kids encode pick
 differ-onto [] x = x
 differ-onto (leaf l ∷ xs) x = rw (le-ltb (length xs) 0 (omega arith)) (past-literal (differ-onto xs x))
 differ-onto (head c k ∷ xs) x = cut-below c (cut-differ k (differ-onto xs x))
 
-pub look-onto : (y : Node) (xs : List Node) {f g : Forest} → Differ zero zero f g → (reaches y xs f ≡ true → 2 ≤ levels xs f) → Look (push y (decode-onto xs f)) (push y (decode-onto xs g))
+pub look-onto :
+    (y : Node) (xs : List Node) {f g : Forest} →
+    Differ zero zero f g →
+    (reaches y xs f ≡ true → 2 ≤ levels xs f) →
+    Look (push y (decode-onto xs f)) (push y (decode-onto xs g))
 unfolding reaches push kids
 look-onto (leaf l) xs x deep = both-literals
 look-onto (head c k) xs x deep = cut-look c (cut-differ k (differ-onto xs x)) deep
 
-pub above-onto : (y : Node) (xs : List Node) {f g : Forest} → Differ zero zero f g → reaches y xs f ≡ true → after 1 (push y (decode-onto xs f)) ≡ after 1 (push y (decode-onto xs g))
+pub above-onto :
+    (y : Node) (xs : List Node) {f g : Forest} →
+    Differ zero zero f g →
+    reaches y xs f ≡ true →
+    after 1 (push y (decode-onto xs f)) ≡ after 1 (push y (decode-onto xs g))
 unfolding reaches push kids encode after
 above-onto (leaf l) xs x t = absurd (omega (arith, ltb-true (length xs) 0 t))
 above-onto (head c k) xs x t = cut-above (cut-differ k (differ-onto xs x)) t
 
-pub beside-onto : (y : Node) (xs : List Node) {f g : Forest} → Differ zero zero f g → reaches y xs f ≡ false → first 1 (push y (decode-onto xs f)) ≡ first 1 (push y (decode-onto xs g))
+pub beside-onto :
+    (y : Node) (xs : List Node) {f g : Forest} →
+    Differ zero zero f g →
+    reaches y xs f ≡ false →
+    first 1 (push y (decode-onto xs f)) ≡ first 1 (push y (decode-onto xs g))
 unfolding reaches push kids first
 beside-onto (leaf l) xs x t = refl
 beside-onto (head c k) xs x t = ap (λ m. node c m nil) (cut-beside (cut-differ k (differ-onto xs x)) t)

@@ -23,7 +23,10 @@ use Rattle.locality.specs.Before.{above-place}
 use Rattle.locality.specs.Sides.{before-zone, tree-before-zone}
 
 -- The nodes from a place on are its tree and the trees after it.
-tree-and-rest : (q : ℕ) (ns : List Node) {t : ℕ} → trees ns ≡ some t → length (drop q ns) ≡ tree-length q ns + length (encode (after 1 (decode (drop q ns))))
+tree-and-rest :
+    (q : ℕ) (ns : List Node) {t : ℕ} →
+    trees ns ≡ some t →
+    length (drop q ns) ≡ tree-length q ns + length (encode (after 1 (decode (drop q ns))))
 unfolding tree-length
 tree-and-rest q ns h =
     let u = trees-drop q ns h in
@@ -86,7 +89,11 @@ module _ (r p i j : ℕ) (ns : List Node) {ms : List Node} {t : ℕ} (h : trees 
   unfolding tree-length
   length-before q lt other out = ap (λ f. length (encode f)) (sym (tree-before-zone did q lt other out))
 
-  length-grows : (q : ℕ) → q ≤ p → after 1 (decode (drop q ns)) ≡ after 1 (decode (drop q ms)) → tree-length q ms + length ns ≡ tree-length q ns + length ms
+  length-grows :
+      (q : ℕ) →
+      q ≤ p →
+      after 1 (decode (drop q ns)) ≡ after 1 (decode (drop q ms)) →
+      tree-length q ms + length ns ≡ tree-length q ns + length ms
   length-grows q le same =
       let old = tree-and-rest q ns h in
       let new = tree-and-rest q ms (turned-trees did ∙ h) in
@@ -99,7 +106,13 @@ module _ (r p i j : ℕ) (ns : List Node) {ms : List Node} {t : ℕ} (h : trees 
   length-at = length-grows p (omega arith) (rest-stays did)
 
 -- Rules 9 to 12 keep the number of nodes.
-pub level-length : (r p i j : ℕ) (ns : List Node) {ms : List Node} {t : ℕ} → trees ns ≡ some t → step r p i j ns ≡ some ms → 9 ≤ r → r ≤ 12 → length ms ≡ length ns
+pub level-length :
+    (r p i j : ℕ) (ns : List Node) {ms : List Node} {t : ℕ} →
+    trees ns ≡ some t →
+    step r p i j ns ≡ some ms →
+    9 ≤ r →
+    r ≤ 12 →
+    length ms ≡ length ns
 unfolding zone
 level-length r p i j ns {ms} h e a b =
     let x = step-extent r p i j ns h e in

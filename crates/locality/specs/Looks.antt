@@ -38,12 +38,20 @@ fades-then none p f g e h = rw (← e) gone
 fades-then (some a) p f g e h = rw (← e) (h a)
 
 -- Of a value and another one made of it; of one value that, where the second answer has it, the first has too.
-pub fades-from : {A B : Type 0} (o p : Option A) (r : A → A) (f g : A → Option B) → p ≡ then o (λ a. some (r a)) → ((a : A) → Fades (f a) (g (r a))) → Fades (then o f) (then p g)
+pub fades-from :
+    {A B : Type 0} (o p : Option A) (r : A → A) (f g : A → Option B) →
+    p ≡ then o (λ a. some (r a)) →
+    ((a : A) → Fades (f a) (g (r a))) →
+    Fades (then o f) (then p g)
 unfolding then
 fades-from none p r f g e h = rw e gone
 fades-from (some a) p r f g e h = rw e (h a)
 
-pub fades-read : {A B : Type 0} (o p : Option A) (f g : A → Option B) (K : A → Type 0) → ((a : A) → p ≡ some a → (o ≡ some a) × K a) → ((a : A) → K a → Fades (f a) (g a)) → Fades (then o f) (then p g)
+pub fades-read :
+    {A B : Type 0} (o p : Option A) (f g : A → Option B) (K : A → Type 0) →
+    ((a : A) → p ≡ some a → (o ≡ some a) × K a) →
+    ((a : A) → K a → Fades (f a) (g a)) →
+    Fades (then o f) (then p g)
 unfolding then
 fades-read o none f g K r h = gone
 fades-read o (some a) f g K r h = let s = r a refl in rw (s .0) (h a (s .1))
@@ -53,19 +61,28 @@ unfolding then
 fades-made f g gone = gone
 fades-made f g kept = kept
 
-fades-when : {A B : Type 0} (t : Bool) (k m : A) (f : A → Option B) → Fades (f k) (f m) → Fades (then (only-if t k) f) (then (only-if t m) f)
+fades-when :
+    {A B : Type 0} (t : Bool) (k m : A) (f : A → Option B) →
+    Fades (f k) (f m) →
+    Fades (then (only-if t k) f) (then (only-if t m) f)
 unfolding then only-if
 fades-when true k m f h = h
 fades-when false k m f h = gone
 
-fades-conjunction : {n : ℕ} {B : Type 0} {o p : Option Forest} (f g : Forest → Option B) → Conjunctions n o p → ((k m : Forest) → Alike n k m → Fades (f k) (g m)) → Fades (then o f) (then p g)
+fades-conjunction :
+    {n : ℕ} {B : Type 0} {o p : Option Forest} (f g : Forest → Option B) →
+    Conjunctions n o p →
+    ((k m : Forest) → Alike n k m → Fades (f k) (g m)) →
+    Fades (then o f) (then p g)
 unfolding then
 fades-conjunction f g neither h = gone
 fades-conjunction f g (each {k = k} {m = m} x) h = h k m x
 
 -- Family by family. One level down: rules that lift or factor look deeper, so what becomes of these is given.
 module _ {n : ℕ} {k m : Forest} (x : Alike (suc n) k m) (c : Conn) (i j : ℕ) where
-  constant-fades : (b : Conn) (g h : Forest) → Fades (only-if (eqb j 0 && constant-at b (after i k)) g) (only-if (eqb j 0 && constant-at b (after i m)) h)
+  constant-fades :
+      (b : Conn) (g h : Forest) →
+      Fades (only-if (eqb j 0 && constant-at b (after i k)) g) (only-if (eqb j 0 && constant-at b (after i m)) h)
   constant-fades b g h = fades-same _ _ g h (ap (λ t. eqb j 0 && t) (alike-constant b (alike-after i x)))
 
   spread-fades : Fades (spread c i j k) (spread c i j m)
@@ -84,7 +101,11 @@ module _ {n : ℕ} {k m : Forest} (x : Alike (suc n) k m) (c : Conn) (i j : ℕ)
       fades-same _ _ _ _ (ap₂ (λ s t. eqb j 0 && s && t) (alike-literals (alike-first i x)) (alike-literals (alike-after (suc i) x))))
 
   -- The test of rule 14, from the two parts of it that look deeper.
-  pub factor-test : (a : Literal) (p q g h : Forest) → has-unit a p ≡ has-unit a q → shares a k ≡ shares a m → Fades (only-if (literals-only (first i k) && not (has-unit a p) && shares a k && leb 2 (groups k)) g) (only-if (literals-only (first i m) && not (has-unit a q) && shares a m && leb 2 (groups m)) h)
+  pub factor-test :
+      (a : Literal) (p q g h : Forest) →
+      has-unit a p ≡ has-unit a q →
+      shares a k ≡ shares a m →
+      Fades (only-if (literals-only (first i k) && not (has-unit a p) && shares a k && leb 2 (groups k)) g) (only-if (literals-only (first i m) && not (has-unit a q) && shares a m && leb 2 (groups m)) h)
   factor-test a p q g h same-unit same-shares =
       fades-same _ _ g h
       (ap₂ (λ s t. s && t)

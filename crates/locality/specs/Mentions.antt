@@ -65,7 +65,11 @@ module _ (v : ℕ) where
   without-mentions a nil e = e
   without-mentions a (lit x f) e = go (same a x) e (without-mentions a f)
     where
-      go : (b : Bool) → mentions v (pick b f (lit x (without-unit a f))) ≡ true → (mentions v (without-unit a f) ≡ true → mentions v f ≡ true) → (eqb v (option x) || mentions v f) ≡ true
+      go :
+          (b : Bool) →
+          mentions v (pick b f (lit x (without-unit a f))) ≡ true →
+          (mentions v (without-unit a f) ≡ true → mentions v f ≡ true) →
+          (eqb v (option x) || mentions v f) ≡ true
       go true m r = or-right (eqb v (option x)) m
       go false m r = keep-first (eqb v (option x)) (mentions v (without-unit a f)) (mentions v f) r m
   without-mentions a (node c k f) e = keep-first (mentions v k) (mentions v (without-unit a f)) (mentions v f) (without-mentions a f) e

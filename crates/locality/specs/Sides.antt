@@ -20,17 +20,33 @@ use Rattle.locality.specs.Front.{front-quiet, front-tree}
 
 data Side {x : Family} {p i j : ℕ} {ns ms : List Node} (w : Turned x p i j ns ms) (q : ℕ) : Type 0 where
   earlier : q < p → Side w q
-  in-front : (a d v : Forest) → w .children ≡ a ⊕ d → w .new ≡ node (w .conn) (a ⊕ v) nil → p < q → q < p + suc (length (encode a)) → Side w q
+  in-front :
+      (a d v : Forest) →
+      w .children ≡ a ⊕ d →
+      w .new ≡ node (w .conn) (a ⊕ v) nil →
+      p < q →
+      q < p + suc (length (encode a)) →
+      Side w q
 
 -- A step that keeps the children before child i, at a place before that child.
-before-child : {x : Family} {p i j : ℕ} {ns ms : List Node} (w : Turned x p i j ns ms) (v : Forest) → w .new ≡ node (w .conn) (first i (w .children) ⊕ v) nil → (q : ℕ) → q < child-place p i ns → (q ≡ p → ⊥) → Side w q
+before-child :
+    {x : Family} {p i j : ℕ} {ns ms : List Node} (w : Turned x p i j ns ms) (v : Forest) →
+    w .new ≡ node (w .conn) (first i (w .children) ⊕ v) nil →
+    (q : ℕ) →
+    q < child-place p i ns →
+    (q ≡ p → ⊥) →
+    Side w q
 before-child {p = p} {i = i} {ns = ns} w v e q lt other =
     ⊎-elim
     (λ t. earlier (ltb-true q p t))
     (λ t. in-front (first i (w .children)) (after i (w .children)) v (sym (first-after i (w .children))) e (let le = ltb-false q p t in omega arith) (omega (arith, child-offset p ns (w .conn) (w .children) (w .rest) (old-here w) i)))
     (either (ltb q p))
 
-side : (x : Family) {p i j : ℕ} {ns ms : List Node} (w : Turned x p i j ns ms) (q : ℕ) → q < zone x p i j ns ms .from → (q ≡ p → ⊥) → Side w q
+side :
+    (x : Family) {p i j : ℕ} {ns ms : List Node} (w : Turned x p i j ns ms) (q : ℕ) →
+    q < zone x p i j ns ms .from →
+    (q ≡ p → ⊥) →
+    Side w q
 unfolding zone change omit lift merge
 side absorbs w q lt other = earlier lt
 side omits w q lt other = before-child w _ (sym (only-some _ _ (w .made) .1)) q lt other

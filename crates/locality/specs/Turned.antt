@@ -62,7 +62,11 @@ module _ {x : Family} {p i j : ℕ} {ns ms : List Node} (w : Turned x p i j ns m
       ∙ ap (after 1) (sym (decode-encode (w .new ⊕ w .rest)))
       ∙ ap (λ xs. after 1 (decode xs)) (sym (new-here .left))
 
-pub turned : (r p i j : ℕ) (ns : List Node) {ms : List Node} {t : ℕ} → trees ns ≡ some t → step r p i j ns ≡ some ms → Turned (family-at r) p i j ns ms
+pub turned :
+    (r p i j : ℕ) (ns : List Node) {ms : List Node} {t : ℕ} →
+    trees ns ≡ some t →
+    step r p i j ns ≡ some ms →
+    Turned (family-at r) p i j ns ms
 unfolding step turn
 turned r p i j ns h e =
     let s = then-some (rewrite r i j (decode (drop p ns))) _ e in

@@ -126,7 +126,12 @@ module _ (c : Conn) (i j : ℕ) (k : Forest) where
         two = leb-true 2 (groups k) (p .1);
       }
 
-  pub asked : {m : Forest} {a : Literal} → conjunction-at (after i k) ≡ some m → literal-at (after j m) ≡ some a → has-unit a (first j m) ≡ false → is-some (factor c i j k) ≡ (literals-only (first i k) && shares a k && leb 2 (groups k))
+  pub asked :
+      {m : Forest} {a : Literal} →
+      conjunction-at (after i k) ≡ some m →
+      literal-at (after j m) ≡ some a →
+      has-unit a (first j m) ≡ false →
+      is-some (factor c i j k) ≡ (literals-only (first i k) && shares a k && leb 2 (groups k))
   unfolding factor then
   asked {m} {a} e w n = rw (e, w, n) (is-some-only (literals-only (first i k) && true && shares a k && leb 2 (groups k)) _ ∙ go (literals-only (first i k)))
     where
@@ -135,7 +140,12 @@ module _ (c : Conn) (i j : ℕ) (k : Forest) where
       go false = refl
 
 -- The groups among trees of which each shares a literal.
-pub sharing-trees : (a : Literal) → fits (leaf a) ≡ true → (f : Forest) (r : List ℕ) → Fits f → sharing (number-of (leaf a)) (size f) (code f ++ r) ≡ pick (shares a f) (groups f) 0
+pub sharing-trees :
+    (a : Literal) →
+    fits (leaf a) ≡ true →
+    (f : Forest) (r : List ℕ) →
+    Fits f →
+    sharing (number-of (leaf a)) (size f) (code f ++ r) ≡ pick (shares a f) (groups f) 0
 unfolding sharing
 sharing-trees a h f r w = rw (share-trees a h f r w, groups-trees f r w)
 
@@ -196,7 +206,10 @@ module _ {l : List ℕ} (s : Stretch l) (h : Headed 14 l) where
         conjunction-there =
             is-some-of (conjunction-at (after i (h .children))) (sym (child-conjunction (headed-group s h) i child-there) ∙ eq-eqb (kind (getD l (child-at i l) 0)) 3 e)
 
-        pub applies-shared : child-at i l ≡ 1 + i → (unit-of j (drop (child-at i l) l) ≡ 0 → ⊥) → leb 2 (sharing (unit-of j (drop (child-at i l) l)) (children (getD l 0 0)) (drop 1 l)) ≡ is-some (rewrite 14 i j (forest-in l))
+        pub applies-shared :
+            child-at i l ≡ 1 + i →
+            (unit-of j (drop (child-at i l) l) ≡ 0 → ⊥) →
+            leb 2 (sharing (unit-of j (drop (child-at i l) l)) (children (getD l 0 0)) (drop 1 l)) ≡ is-some (rewrite 14 i j (forest-in l))
         unfolding pick
         applies-shared p some-unit =
             let k = h .children in

@@ -23,7 +23,10 @@ module _ (a : ℕ) (l : List ℕ) where
   unfolding shares-here
   shares-not h k = rw (h, ne-eqb (kind (getD l 0 0)) 3 k)
 
-  pub shares-among : is-literal (getD l 0 0) ≡ false → kind (getD l 0 0) ≡ 3 → shares-here a l ≡ ltb (unit-place a (children (getD l 0 0)) (drop 1 l)) (span (children (getD l 0 0)) (drop 1 l))
+  pub shares-among :
+      is-literal (getD l 0 0) ≡ false →
+      kind (getD l 0 0) ≡ 3 →
+      shares-here a l ≡ ltb (unit-place a (children (getD l 0 0)) (drop 1 l)) (span (children (getD l 0 0)) (drop 1 l))
   unfolding shares-here among
   shares-among h k = rw (h, eq-eqb (kind (getD l 0 0)) 3 k)
 
@@ -48,7 +51,11 @@ module _ (j : ℕ) (l : List ℕ) where
       unit-new k = rw (lt-leb (children (getD l 0 0)) j h, e, le-ltb (unit-place (getD l (child-at j l) 0) j (drop 1 l)) (span j (drop 1 l)) k)
 
 -- A group that shares a number is a conjunction that has it among its children.
-pub shares-group : (a : ℕ) (l : List ℕ) → shares-here a l ≡ true → is-literal (getD l 0 0) ≡ false → (kind (getD l 0 0) ≡ 3) × (among a (children (getD l 0 0)) (drop 1 l) ≡ true)
+pub shares-group :
+    (a : ℕ) (l : List ℕ) →
+    shares-here a l ≡ true →
+    is-literal (getD l 0 0) ≡ false →
+    (kind (getD l 0 0) ≡ 3) × (among a (children (getD l 0 0)) (drop 1 l) ≡ true)
 unfolding shares-here
 shares-group a l h e =
     let s = and-split (eqb (kind (getD l 0 0)) 3) (among a (children (getD l 0 0)) (drop 1 l)) (rw e at h) in

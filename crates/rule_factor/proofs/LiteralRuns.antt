@@ -25,7 +25,12 @@ unit-some a nil h = true-false (sym h)
 unit-some a (lit x f) h = omega arith
 unit-some a (node c k f) h = omega arith
 
-pub short-literals : (a : Literal) (i : ℕ) (f : Forest) → i ≤ size f → shares a f ≡ true → length (encode (first i f)) ≡ i → literals-only (first i f) ≡ true
+pub short-literals :
+    (a : Literal) (i : ℕ) (f : Forest) →
+    i ≤ size f →
+    shares a f ≡ true →
+    length (encode (first i f)) ≡ i →
+    literals-only (first i f) ≡ true
 unfolding shares first encode literals-only size
 short-literals a zero f n s e = refl
 short-literals a (suc i) nil n s e = refl

@@ -41,7 +41,11 @@ node-before c k f r =
 pub lit-span : (x : Literal) (s : List ℕ) → fits (leaf x) ≡ true → span 1 (number-of (leaf x) ∷ s) ≡ 1
 lit-span x s h = span-leaf x 0 s h ∙ ap suc (span-none s)
 
-pub node-span : (c : Conn) (k : Forest) (s : List ℕ) → fits (head c (size k)) ≡ true → Fits k → span 1 (number-of (head c (size k)) ∷ (code k ++ s)) ≡ suc (length (code k))
+pub node-span :
+    (c : Conn) (k : Forest) (s : List ℕ) →
+    fits (head c (size k)) ≡ true →
+    Fits k →
+    span 1 (number-of (head c (size k)) ∷ (code k ++ s)) ≡ suc (length (code k))
 node-span c k s h w =
     span-head c (size k) 0 (code k ++ s) h
     ∙ ap suc (span-code k 0 s w ∙ ap (λ n. length (encode k) + n) (span-none s) ∙ add-zero (length (encode k)) ∙ sym (length-map (encode k) number-of))

@@ -30,7 +30,11 @@ module _ {A : Type 0} (f : List ℕ → A → A) (e : A) where
   walk-over (suc n) = refl
 
   -- From a place of a list on: the tree that stands there, and those after it.
-  pub walk-step : (n i : ℕ) (l : List ℕ) → 0 < n → i < length l → walk f e n (drop i l) ≡ f (drop i l) (walk f e (n - 1) (drop (i + span 1 (drop i l)) l))
+  pub walk-step :
+      (n i : ℕ) (l : List ℕ) →
+      0 < n →
+      i < length l →
+      walk f e n (drop i l) ≡ f (drop i l) (walk f e (n - 1) (drop (i + span 1 (drop i l)) l))
   walk-step zero i l h k = absurd (omega arith)
   walk-step (suc n) i l h k =
       let one : n ≡ suc n - 1 = omega arith in
@@ -50,14 +54,21 @@ module _ (a n i : ℕ) (l : List ℕ) where
   unfolding unit-place
   unit-end h = walk-end _ 0 n i l h
 
-  unit-step : 0 < n → i < length l → unit-place a n (drop i l) ≡ pick (eqb (getD l i 0) a) 0 (span 1 (drop i l) + unit-place a (n - 1) (drop (i + span 1 (drop i l)) l))
+  unit-step :
+      0 < n →
+      i < length l →
+      unit-place a n (drop i l) ≡ pick (eqb (getD l i 0) a) 0 (span 1 (drop i l) + unit-place a (n - 1) (drop (i + span 1 (drop i l)) l))
   unfolding unit-place
   unit-step h k = rw (← first-left i l) (walk-step _ 0 n i l h k)
 
   pub unit-found : 0 < n → i < length l → getD l i 0 ≡ a → unit-place a n (drop i l) ≡ 0
   unit-found h k e = unit-step h k ∙ pick-true (eqb (getD l i 0) a) 0 _ (eq-eqb (getD l i 0) a e)
 
-  pub unit-further : 0 < n → i < length l → (getD l i 0 ≡ a → ⊥) → unit-place a n (drop i l) ≡ span 1 (drop i l) + unit-place a (n - 1) (drop (i + span 1 (drop i l)) l)
+  pub unit-further :
+      0 < n →
+      i < length l →
+      (getD l i 0 ≡ a → ⊥) →
+      unit-place a n (drop i l) ≡ span 1 (drop i l) + unit-place a (n - 1) (drop (i + span 1 (drop i l)) l)
   unit-further h k e = unit-step h k ∙ pick-false (eqb (getD l i 0) a) 0 _ (ne-eqb (getD l i 0) a e)
 
 -- Trees that all share a number.
@@ -70,7 +81,10 @@ module _ (a n i : ℕ) (l : List ℕ) where
   unfolding all-share
   share-end h = walk-end _ true n i l h
 
-  pub share-step : 0 < n → i < length l → all-share a n (drop i l) ≡ (shares-here a (drop i l) && all-share a (n - 1) (drop (i + span 1 (drop i l)) l))
+  pub share-step :
+      0 < n →
+      i < length l →
+      all-share a n (drop i l) ≡ (shares-here a (drop i l) && all-share a (n - 1) (drop (i + span 1 (drop i l)) l))
   unfolding all-share
   share-step h k = walk-step _ true n i l h k
 
@@ -84,7 +98,10 @@ module _ (n i : ℕ) (l : List ℕ) where
   unfolding groups-in
   groups-end h = walk-end _ 0 n i l h
 
-  pub groups-step : 0 < n → i < length l → groups-in n (drop i l) ≡ group-here (getD l i 0) + groups-in (n - 1) (drop (i + span 1 (drop i l)) l)
+  pub groups-step :
+      0 < n →
+      i < length l →
+      groups-in n (drop i l) ≡ group-here (getD l i 0) + groups-in (n - 1) (drop (i + span 1 (drop i l)) l)
   unfolding groups-in
   groups-step h k = rw (← first-left i l) (walk-step _ 0 n i l h k)
 

@@ -27,11 +27,18 @@ use Rattle.rule_factor.proofs.Here.{shares-literal}
 
 -- One tree of a walk.
 module _ {A : Type 0} (f : List ℕ → A → A) (e : A) (n : ℕ) (s : List ℕ) where
-  pub walk-lit : (x : Literal) → fits (leaf x) ≡ true → walk f e (suc n) (number-of (leaf x) ∷ s) ≡ f (number-of (leaf x) ∷ s) (walk f e n s)
+  pub walk-lit :
+      (x : Literal) →
+      fits (leaf x) ≡ true →
+      walk f e (suc n) (number-of (leaf x) ∷ s) ≡ f (number-of (leaf x) ∷ s) (walk f e n s)
   unfolding walk
   walk-lit x h = ap (λ m. f (number-of (leaf x) ∷ s) (walk f e n (drop m (number-of (leaf x) ∷ s)))) (lit-span x s h)
 
-  pub walk-node : (c : Conn) (k : Forest) → fits (head c (size k)) ≡ true → Fits k → walk f e (suc n) (number-of (head c (size k)) ∷ (code k ++ s)) ≡ f (number-of (head c (size k)) ∷ (code k ++ s)) (walk f e n s)
+  pub walk-node :
+      (c : Conn) (k : Forest) →
+      fits (head c (size k)) ≡ true →
+      Fits k →
+      walk f e (suc n) (number-of (head c (size k)) ∷ (code k ++ s)) ≡ f (number-of (head c (size k)) ∷ (code k ++ s)) (walk f e n s)
   unfolding walk
   walk-node c k h w =
       let l = number-of (head c (size k)) ∷ (code k ++ s) in
@@ -40,11 +47,18 @@ module _ {A : Type 0} (f : List ℕ → A → A) (e : A) (n : ℕ) (s : List ℕ
 
 -- The place of the first copy of a literal.
 module _ (a : Literal) (fit : fits (leaf a) ≡ true) where
-  unit-lit : (x : Literal) (n : ℕ) (s : List ℕ) → fits (leaf x) ≡ true → unit-place (number-of (leaf a)) (suc n) (number-of (leaf x) ∷ s) ≡ pick (same a x) 0 (1 + unit-place (number-of (leaf a)) n s)
+  unit-lit :
+      (x : Literal) (n : ℕ) (s : List ℕ) →
+      fits (leaf x) ≡ true →
+      unit-place (number-of (leaf a)) (suc n) (number-of (leaf x) ∷ s) ≡ pick (same a x) 0 (1 + unit-place (number-of (leaf a)) n s)
   unfolding unit-place
   unit-lit x n s h = walk-lit _ 0 n s x h ∙ rw (leaf-test a x fit h, lit-span x s h)
 
-  unit-node : (c : Conn) (k : Forest) (n : ℕ) (s : List ℕ) → fits (head c (size k)) ≡ true → Fits k → unit-place (number-of (leaf a)) (suc n) (number-of (head c (size k)) ∷ (code k ++ s)) ≡ suc (length (code k)) + unit-place (number-of (leaf a)) n s
+  unit-node :
+      (c : Conn) (k : Forest) (n : ℕ) (s : List ℕ) →
+      fits (head c (size k)) ≡ true →
+      Fits k →
+      unit-place (number-of (leaf a)) (suc n) (number-of (head c (size k)) ∷ (code k ++ s)) ≡ suc (length (code k)) + unit-place (number-of (leaf a)) n s
   unfolding unit-place pick
   unit-node c k n s h w = walk-node _ 0 n s c k h w ∙ rw (head-unlike c (size k) a h fit, node-span c k s h w)
 
@@ -107,7 +121,11 @@ module _ (a : Literal) (fit : fits (leaf a) ≡ true) where
   unfolding unit-place walk encode
   uncut-nil r = refl
 
-  uncut : (f : Forest) (r : List ℕ) → Fits f → has-unit a f ≡ false → unit-place (number-of (leaf a)) (size f) (code f ++ r) ≡ length (code f)
+  uncut :
+      (f : Forest) (r : List ℕ) →
+      Fits f →
+      has-unit a f ≡ false →
+      unit-place (number-of (leaf a)) (size f) (code f ++ r) ≡ length (code f)
   unfolding has-unit size pick
   uncut nil r w h = uncut-nil (code nil ++ r)
   uncut (lit x f) r w h =
@@ -140,17 +158,28 @@ module _ (a : Literal) (fit : fits (leaf a) ≡ true) where
   here-lit : (x : Literal) (s : List ℕ) → fits (leaf x) ≡ true → shares-here (number-of (leaf a)) (number-of (leaf x) ∷ s) ≡ true
   here-lit x s h = shares-literal (number-of (leaf a)) (number-of (leaf x) ∷ s) (leaf-literal x h)
 
-  here-node : (c : Conn) (k : Forest) (s : List ℕ) → fits (head c (size k)) ≡ true → Fits k → shares-here (number-of (leaf a)) (number-of (head c (size k)) ∷ (code k ++ s)) ≡ (same-conn and c && has-unit a k)
+  here-node :
+      (c : Conn) (k : Forest) (s : List ℕ) →
+      fits (head c (size k)) ≡ true →
+      Fits k →
+      shares-here (number-of (leaf a)) (number-of (head c (size k)) ∷ (code k ++ s)) ≡ (same-conn and c && has-unit a k)
   unfolding shares-here same-conn conn-kind is-literal
   here-node and k s h w = rw (head-kind and (size k) h, head-children and (size k) h) (among-trees k s w)
   here-node or k s h w = rw (head-kind or (size k) h)
   here-node root k s h w = rw (head-kind root (size k) h)
 
-  share-lit : (x : Literal) (n : ℕ) (s : List ℕ) → fits (leaf x) ≡ true → all-share (number-of (leaf a)) (suc n) (number-of (leaf x) ∷ s) ≡ all-share (number-of (leaf a)) n s
+  share-lit :
+      (x : Literal) (n : ℕ) (s : List ℕ) →
+      fits (leaf x) ≡ true →
+      all-share (number-of (leaf a)) (suc n) (number-of (leaf x) ∷ s) ≡ all-share (number-of (leaf a)) n s
   unfolding all-share
   share-lit x n s h = walk-lit _ true n s x h ∙ rw (here-lit x s h)
 
-  share-node : (c : Conn) (k : Forest) (n : ℕ) (s : List ℕ) → fits (head c (size k)) ≡ true → Fits k → all-share (number-of (leaf a)) (suc n) (number-of (head c (size k)) ∷ (code k ++ s)) ≡ ((same-conn and c && has-unit a k) && all-share (number-of (leaf a)) n s)
+  share-node :
+      (c : Conn) (k : Forest) (n : ℕ) (s : List ℕ) →
+      fits (head c (size k)) ≡ true →
+      Fits k →
+      all-share (number-of (leaf a)) (suc n) (number-of (head c (size k)) ∷ (code k ++ s)) ≡ ((same-conn and c && has-unit a k) && all-share (number-of (leaf a)) n s)
   unfolding all-share
   share-node c k n s h w = walk-node _ true n s c k h w ∙ rw (here-node c k s h w)
 
@@ -181,7 +210,11 @@ groups-lit : (x : Literal) (n : ℕ) (s : List ℕ) → fits (leaf x) ≡ true �
 unfolding groups-in group-here pick
 groups-lit x n s h = walk-lit _ 0 n s x h ∙ rw (leaf-literal x h) (omega arith)
 
-groups-node : (c : Conn) (k : Forest) (n : ℕ) (s : List ℕ) → fits (head c (size k)) ≡ true → Fits k → groups-in (suc n) (number-of (head c (size k)) ∷ (code k ++ s)) ≡ suc (groups-in n s)
+groups-node :
+    (c : Conn) (k : Forest) (n : ℕ) (s : List ℕ) →
+    fits (head c (size k)) ≡ true →
+    Fits k →
+    groups-in (suc n) (number-of (head c (size k)) ∷ (code k ++ s)) ≡ suc (groups-in n s)
 unfolding groups-in group-here pick
 groups-node c k n s h w = walk-node _ 0 n s c k h w ∙ rw (head-inner c (size k) h) (omega arith)
 

@@ -15,7 +15,11 @@ pub appended-one : (x from : ℕ) (l : List ℕ) → from < length l → Appende
 appended-one x from l h = record { end = refl; front = rw add-one (take-suc-set l from x h) }
 
 -- Two runs, one after the other, are one.
-pub appended-both : {p q : List ℕ} {from mid to : ℕ} {old new newer : List ℕ} → Appended p from old new mid → Appended q mid new newer to → Appended (p ++ q) from old newer to
+pub appended-both :
+    {p q : List ℕ} {from mid to : ℕ} {old new newer : List ℕ} →
+    Appended p from old new mid →
+    Appended q mid new newer to →
+    Appended (p ++ q) from old newer to
 appended-both {p} {q} {from} {old = old} a b =
     record {
       end = omega (arith, a .end, b .end, length-append p q);
@@ -27,14 +31,23 @@ pub appended-as : {p q : List ℕ} {from to : ℕ} {old new : List ℕ} → p �
 appended-as e a = rw e at a
 
 -- One number more of a run that is copied.
-pub appended-more : (src : List ℕ) (i x from : ℕ) {old new : List ℕ} → i < length src → from + i < length new → x ≡ getD src i 0 → Appended (take i src) from old new (from + i) → Appended (take (i + 1) src) from old (set new (from + i) x) (from + (i + 1))
+pub appended-more :
+    (src : List ℕ) (i x from : ℕ) {old new : List ℕ} →
+    i < length src →
+    from + i < length new →
+    x ≡ getD src i 0 →
+    Appended (take i src) from old new (from + i) →
+    Appended (take (i + 1) src) from old (set new (from + i) x) (from + (i + 1))
 appended-more src i x from {old} {new} h k e a =
     let next : take i src ++ (x ∷ []) ≡ take (i + 1) src = rw (add-one, take-suc src i 0, e) in
     let far : from + i + 1 ≡ from + (i + 1) = omega arith in
     rw far at (appended-as next (appended-both a (appended-one x (from + i) new k)))
 
 -- Three numbers.
-pub appended-three : (x y z from : ℕ) (l : List ℕ) → from + 3 ≤ length l → Appended (x ∷ y ∷ z ∷ []) from l (set (set (set l from x) (from + 1) y) (from + 2) z) (from + 3)
+pub appended-three :
+    (x y z from : ℕ) (l : List ℕ) →
+    from + 3 ≤ length l →
+    Appended (x ∷ y ∷ z ∷ []) from l (set (set (set l from x) (from + 1) y) (from + 2) z) (from + 3)
 appended-three x y z from l h =
     let two : from + 1 + 1 ≡ from + 2 = omega arith in
     let three : from + 2 + 1 ≡ from + 3 = omega arith in

@@ -35,7 +35,11 @@ weight-mass (lit x f) = omega (arith, weight-mass f)
 weight-mass (node c k f) =
     omega (arith, heft-one 2 c, weight-mass k, weight-mass f, length-append (encode k) (encode f), literals-append (encode k) (encode f))
 
-pub shared-light : (a : Literal) (k f : Forest) → shares a k ≡ true → 2 ≤ groups k → weight (encode (node or (shared-kids a k) f)) ≤ weight (encode (node or k f))
+pub shared-light :
+    (a : Literal) (k f : Forest) →
+    shares a k ≡ true →
+    2 ≤ groups k →
+    weight (encode (node or (shared-kids a k) f)) ≤ weight (encode (node or k f))
 unfolding mass
 shared-light a k f s g =
     omega (arith, heft-one 2 and, heft-one 2 or, weight-mass (node or (shared-kids a k) f), weight-mass (node or k f), mass-⊕ 2 (units k) (node and (lit a (node or (groups-without a k) nil)) nil), mass-shared 2 a k s)

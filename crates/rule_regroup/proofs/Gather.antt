@@ -22,7 +22,10 @@ module _ (b : Bool) (a n i : ℕ) (l : List ℕ) where
   unfolding gathered
   gathered-end h = walk-end _ [] n i l h
 
-  pub gathered-step : 0 < n → i < length l → gathered b a n (drop i l) ≡ kept b a (drop i l) ++ gathered b a (n - 1) (drop (i + span 1 (drop i l)) l)
+  pub gathered-step :
+      0 < n →
+      i < length l →
+      gathered b a n (drop i l) ≡ kept b a (drop i l) ++ gathered b a (n - 1) (drop (i + span 1 (drop i l)) l)
   unfolding gathered
   gathered-step h k = walk-step _ [] n i l h k
 
@@ -35,7 +38,10 @@ pub record Gathering (g : Bool) (a trees : ℕ) (part old : List ℕ) (at₀ : �
   pub whole : gathered g a trees part ≡ passed ++ gathered g a left (drop from part)
   pub made : Appended passed at₀ old new to
 
-pub gathering-none : (g : Bool) (a trees : ℕ) (part old : List ℕ) (at₀ : ℕ) → all-share a trees part ≡ true → Gathering g a trees part old at₀ old at₀ 0 trees
+pub gathering-none :
+    (g : Bool) (a trees : ℕ) (part old : List ℕ) (at₀ : ℕ) →
+    all-share a trees part ≡ true →
+    Gathering g a trees part old at₀ old at₀ 0 trees
 gathering-none g a trees part old at₀ h =
     record { within = omega arith; long = refl; share = h; passed = []; whole = refl; made = appended-none at₀ old }
 
@@ -60,7 +66,11 @@ module _ {g : Bool} {a trees : ℕ} {part old : List ℕ} {at₀ : ℕ} {new : L
         let later = gathered g a (left - 1) (drop (from + span 1 (drop from part)) part) in
         omega (arith, ap length further, length-append (w .passed ++ kept g a (drop from part)) later, length-append (w .passed) (kept g a (drop from part)), w .made .end, w .long)
 
-    pub gathering-more : {newer : List ℕ} {next : ℕ} → length newer ≡ length new → Appended (kept g a (drop from part)) to new newer next → Gathering g a trees part old at₀ newer next (from + span 1 (drop from part)) (left - 1)
+    pub gathering-more :
+        {newer : List ℕ} {next : ℕ} →
+        length newer ≡ length new →
+        Appended (kept g a (drop from part)) to new newer next →
+        Gathering g a trees part old at₀ newer next (from + span 1 (drop from part)) (left - 1)
     gathering-more n e =
         record {
           within = omega (arith, span-within 1 (drop from part), length-drop from part);

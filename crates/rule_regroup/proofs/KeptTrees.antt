@@ -25,22 +25,38 @@ use Rattle.rule_factor.proofs.WalkedTrees.{walk-lit, walk-node, cut}
 use Rattle.rule_regroup.specs.Regrouped.{less-unit, kept, gathered}
 
 -- A group without its first child that is the number itself: the parts of its numbers, by where they begin and end.
-pub less-unit-parts : (a : ℕ) (l : List ℕ) {m u e : ℕ} → m ≡ children (getD l 0 0) → u ≡ unit-place a m (drop 1 l) → e ≡ child-at m l → less-unit a l ≡ (getD l 0 0 - 1) ∷ (take (1 + u - 1) (drop 1 l) ++ take (e - (1 + u + 1)) (drop (1 + u + 1) l))
+pub less-unit-parts :
+    (a : ℕ) (l : List ℕ) {m u e : ℕ} →
+    m ≡ children (getD l 0 0) →
+    u ≡ unit-place a m (drop 1 l) →
+    e ≡ child-at m l →
+    less-unit a l ≡ (getD l 0 0 - 1) ∷ (take (1 + u - 1) (drop 1 l) ++ take (e - (1 + u + 1)) (drop (1 + u + 1) l))
 unfolding less-unit
 less-unit-parts a l p q r = rw (r, q, p)
 
 -- What is kept of the first tree, by the two tests.
-pub kept-is : (g : Bool) (a : ℕ) (l : List ℕ) {b t : Bool} → is-literal (getD l 0 0) ≡ t → g ≡ b → kept g a l ≡ pick t (pick b [] (getD l 0 0 ∷ [])) (pick b (less-unit a l) [])
+pub kept-is :
+    (g : Bool) (a : ℕ) (l : List ℕ) {b t : Bool} →
+    is-literal (getD l 0 0) ≡ t →
+    g ≡ b →
+    kept g a l ≡ pick t (pick b [] (getD l 0 0 ∷ [])) (pick b (less-unit a l) [])
 unfolding kept
 kept-is g a l p q = rw (p, q)
 
 -- What is kept of trees: the literals, or the groups, each without its first copy of the number.
 module _ (g : Bool) (a : ℕ) where
-  gathered-lit : (x : Literal) (n : ℕ) (s : List ℕ) → fits (leaf x) ≡ true → gathered g a (suc n) (number-of (leaf x) ∷ s) ≡ pick g [] (number-of (leaf x) ∷ []) ++ gathered g a n s
+  gathered-lit :
+      (x : Literal) (n : ℕ) (s : List ℕ) →
+      fits (leaf x) ≡ true →
+      gathered g a (suc n) (number-of (leaf x) ∷ s) ≡ pick g [] (number-of (leaf x) ∷ []) ++ gathered g a n s
   unfolding gathered pick
   gathered-lit x n s h = walk-lit _ [] n s x h ∙ ap (λ t. t ++ gathered g a n s) (kept-is g a (number-of (leaf x) ∷ s) (leaf-literal x h) refl)
 
-  gathered-node : (c : Conn) (k : Forest) (n : ℕ) (s : List ℕ) → fits (head c (size k)) ≡ true → Fits k → gathered g a (suc n) (number-of (head c (size k)) ∷ (code k ++ s)) ≡ pick g (less-unit a (number-of (head c (size k)) ∷ (code k ++ s))) [] ++ gathered g a n s
+  gathered-node :
+      (c : Conn) (k : Forest) (n : ℕ) (s : List ℕ) →
+      fits (head c (size k)) ≡ true →
+      Fits k →
+      gathered g a (suc n) (number-of (head c (size k)) ∷ (code k ++ s)) ≡ pick g (less-unit a (number-of (head c (size k)) ∷ (code k ++ s))) [] ++ gathered g a n s
   unfolding gathered pick
   gathered-node c k n s h w =
       walk-node _ [] n s c k h w ∙ ap (λ t. t ++ gathered g a n s) (kept-is g a (number-of (head c (size k)) ∷ (code k ++ s)) (head-inner c (size k) h) refl)
@@ -65,7 +81,12 @@ units-trees a (node c k f) r w =
     ∙ units-trees a f r (s .2)
 
 module _ (a : Literal) (fit : fits (leaf a) ≡ true) where
-  less-trees : (c : Conn) (k : Forest) (s : List ℕ) → fits (head c (size k)) ≡ true → Fits k → has-unit a k ≡ true → less-unit (number-of (leaf a)) (number-of (head c (size k)) ∷ (code k ++ s)) ≡ number-of (head c (size (without-unit a k))) ∷ code (without-unit a k)
+  less-trees :
+      (c : Conn) (k : Forest) (s : List ℕ) →
+      fits (head c (size k)) ≡ true →
+      Fits k →
+      has-unit a k ≡ true →
+      less-unit (number-of (leaf a)) (number-of (head c (size k)) ∷ (code k ++ s)) ≡ number-of (head c (size (without-unit a k))) ∷ code (without-unit a k)
   unfolding number size
   less-trees c k s h w e =
       let d = cut a fit k s w e in
@@ -87,7 +108,11 @@ module _ (a : Literal) (fit : fits (leaf a) ≡ true) where
       let fewer : y - 1 ≡ number-of (head c (size (without-unit a k))) = omega (arith, head-number c (size k), head-number c (size (without-unit a k)), ap size (d .whole), size-⊕ p (lit a q), ap size (d .less), size-⊕ p q) in
       parts ∙ ap₂ (λ z t. z ∷ t) fewer (ap₂ _++_ left right ∙ sym (ap code (d .less) ∙ code-⊕ p q))
 
-  pub groups-kept : (f : Forest) (r : List ℕ) → Fits f → shares a f ≡ true → gathered true (number-of (leaf a)) (size f) (code f ++ r) ≡ code (groups-without a f)
+  pub groups-kept :
+      (f : Forest) (r : List ℕ) →
+      Fits f →
+      shares a f ≡ true →
+      gathered true (number-of (leaf a)) (size f) (code f ++ r) ≡ code (groups-without a f)
   unfolding shares groups-without size pick
   groups-kept nil r w h = gathered-nil true (number-of (leaf a)) (code nil ++ r)
   groups-kept (lit x f) r w h =

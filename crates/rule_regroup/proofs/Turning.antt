@@ -37,7 +37,9 @@ unfolding encode
 code-one c k = code-node c k nil ∙ ap (λ t. number-of (head c (size k)) ∷ t) (append-nil (code k))
 
 -- What a disjunction whose groups share a literal becomes, part by part.
-conjunction-code : (a : Literal) (k : Forest) → code (node and (lit a (node or (groups-without a k) nil)) nil) ≡ 12290 ∷ number-of (leaf a) ∷ (16384 + groups k) ∷ code (groups-without a k)
+conjunction-code :
+    (a : Literal) (k : Forest) →
+    code (node and (lit a (node or (groups-without a k) nil)) nil) ≡ 12290 ∷ number-of (leaf a) ∷ (16384 + groups k) ∷ code (groups-without a k)
 unfolding number-of number conn-kind conn-value size
 conjunction-code a k =
     let g = node or (groups-without a k) nil in
@@ -46,7 +48,9 @@ conjunction-code a k =
     ∙ ap (λ t. 12290 ∷ number-of (leaf a) ∷ t) (code-one or (groups-without a k))
     ∙ ap (λ n. 12290 ∷ number-of (leaf a) ∷ (16384 + n) ∷ code (groups-without a k)) (size-groups a k)
 
-shared-code : (a : Literal) (k : Forest) → code (shared-kids a k) ≡ code (units k) ++ (12290 ∷ number-of (leaf a) ∷ (16384 + groups k) ∷ code (groups-without a k))
+shared-code :
+    (a : Literal) (k : Forest) →
+    code (shared-kids a k) ≡ code (units k) ++ (12290 ∷ number-of (leaf a) ∷ (16384 + groups k) ∷ code (groups-without a k))
 shared-code a k =
     code-⊕ (units k) (node and (lit a (node or (groups-without a k) nil)) nil) ∙ ap (λ t. code (units k) ++ t) (conjunction-code a k)
 
@@ -54,7 +58,13 @@ shared-head : (a : Literal) (k : Forest) → number-of (head or (size k)) + 1 - 
 unfolding number size
 shared-head a k = omega (arith, head-number or (size k), head-number or (size (shared-kids a k)), size-⊕ (units k) (node and (lit a (node or (groups-without a k) nil)) nil), size-units k)
 
-factored-trees : (a : Literal) → fits (leaf a) ≡ true → (k : Forest) (r : List ℕ) → Fits k → shares a k ≡ true → factored (number-of (leaf a)) (size k) (groups k) (number-of (head or (size k)) ∷ (code k ++ r)) ≡ code (node or (shared-kids a k) nil)
+factored-trees :
+    (a : Literal) →
+    fits (leaf a) ≡ true →
+    (k : Forest) (r : List ℕ) →
+    Fits k →
+    shares a k ≡ true →
+    factored (number-of (leaf a)) (size k) (groups k) (number-of (head or (size k)) ∷ (code k ++ r)) ≡ code (node or (shared-kids a k) nil)
 unfolding factored
 factored-trees a h k r w s =
     rw (code-one or (shared-kids a k), shared-code a k, units-trees (number-of (leaf a)) k r w, groups-kept a h k r w s, shared-head a k)
@@ -167,7 +177,13 @@ module _ {l : List ℕ} (s : Stretch l) (h : Headed 14 l) where
     made = rw (p .conjunction, p .there, p .before, p .new, p .shared, le-leb 2 (groups (h .children)) (p .two))
 
     -- A stretch that begins with what it should become, before zeros, has become that.
-    pub turned : {front out : List ℕ} (z : ℕ) → is-some (rewrite 14 i j (forest-in l)) ≡ true → front ≡ step-after i j l → out ≡ front ++ replicate z 0 → length out ≡ length l → out ≡ rewritten-to 14 i j l
+    pub turned :
+        {front out : List ℕ} (z : ℕ) →
+        is-some (rewrite 14 i j (forest-in l)) ≡ true →
+        front ≡ step-after i j l →
+        out ≡ front ++ replicate z 0 →
+        length out ≡ length l →
+        out ≡ rewritten-to 14 i j l
     unfolding family-at pick change spell _⊕_
     turned z t begun e n =
         family-turn h i j z t

@@ -67,13 +67,24 @@ module _ (h x : ℕ) (m n q : List ℕ) {l : List ℕ} (s : l ≡ h ∷ (m ++ x 
   part-upto = ap (take (a + 1)) upto-cut ∙ take-at upto (n ++ q) (a + 1) upto-long
 
 -- The changed list, where it is cut at a number.
-part-around : (g : ℕ → ℕ) (h x : ℕ) (m n q : List ℕ) {l : List ℕ} → l ≡ h ∷ (m ++ x ∷ (n ++ q)) → {a b : ℕ} → a ≡ 1 + length m → b ≡ a + 1 + length n → around g a b l ≡ h ∷ (map g m ++ x ∷ (map g n ++ q))
+part-around :
+    (g : ℕ → ℕ) (h x : ℕ) (m n q : List ℕ) {l : List ℕ} →
+    l ≡ h ∷ (m ++ x ∷ (n ++ q)) →
+    {a b : ℕ} →
+    a ≡ 1 + length m →
+    b ≡ a + 1 + length n →
+    around g a b l ≡ h ∷ (map g m ++ x ∷ (map g n ++ q))
 unfolding around
 part-around g h x m n q s ea eb =
     rw (part-left h x m n q s ea eb, part-right h x m n q s ea eb, part-number h x m n q s ea eb, part-rest h x m n q s ea eb, ap (take 1) s)
 
 -- Any list of which two places are known is such a list.
-cut-list : (a b : ℕ) (l : List ℕ) → 1 ≤ a → a < b → b ≤ length l → l ≡ getD l 0 0 ∷ (slice 1 a l ++ getD l a 0 ∷ (slice (a + 1) b l ++ drop b l))
+cut-list :
+    (a b : ℕ) (l : List ℕ) →
+    1 ≤ a →
+    a < b →
+    b ≤ length l →
+    l ≡ getD l 0 0 ∷ (slice 1 a l ++ getD l a 0 ∷ (slice (a + 1) b l ++ drop b l))
 cut-list a b l one h k =
     let right : drop (a + 1) l ≡ slice (a + 1) b l ++ drop b l =
     ap (drop (a + 1)) (sym (take-append-drop b l)) ∙ drop-append-le (a + 1) (take b l) (drop b l) (omega (arith, length-take-le b l k)) in
@@ -83,7 +94,14 @@ cut-list a b l one h k =
     sym (take-append-drop a l) ∙ ap₂ _++_ left (here ∙ ap (λ t. getD l a 0 ∷ t) right)
 
 -- Numbers replaced before a place, and then after it.
-pub twice-replaced : (g : ℕ → ℕ) (a b : ℕ) (l : List ℕ) {s t : List ℕ} → 1 ≤ a → a < b → b ≤ length l → s ≡ take 1 l ++ (map g (slice 1 a l) ++ drop a l) → t ≡ take (a + 1) s ++ (map g (slice (a + 1) b s) ++ drop b s) → t ≡ around g a b l
+pub twice-replaced :
+    (g : ℕ → ℕ) (a b : ℕ) (l : List ℕ) {s t : List ℕ} →
+    1 ≤ a →
+    a < b →
+    b ≤ length l →
+    s ≡ take 1 l ++ (map g (slice 1 a l) ++ drop a l) →
+    t ≡ take (a + 1) s ++ (map g (slice (a + 1) b s) ++ drop b s) →
+    t ≡ around g a b l
 twice-replaced g a b l {s} one h k e f =
     let x = getD l a 0 in
     let m = slice 1 a l in
@@ -130,7 +148,10 @@ module _ (c : Conn) (l : Literal) where
     unfolding fits amount
     complement-fits = rw (option-complement l) fit
 
-    placed-leaf : (x : Literal) → fits (leaf x) ≡ true → placed (number-of (leaf x)) ≡ pick (same l x) (number-of (head (neutral c) 0)) (pick (same (complement l) x) (number-of (head (deciding c) 0)) (number-of (leaf x)))
+    placed-leaf :
+        (x : Literal) →
+        fits (leaf x) ≡ true →
+        placed (number-of (leaf x)) ≡ pick (same l x) (number-of (head (neutral c) 0)) (pick (same (complement l) x) (number-of (head (deciding c) 0)) (number-of (leaf x)))
     unfolding replaced
     placed-leaf x h = rw (leaf-test l x fit h, leaf-test (complement l) x complement-fits h)
 
@@ -145,7 +166,9 @@ module _ (c : Conn) (l : Literal) where
         let s = fits-lit x f h in
         rw (placed-leaf x (s .0), assigned-code f (s .1)) (go (same l x) (same (complement l) x) (assigned c l f))
       where
-        go : (a b : Bool) (g : Forest) → pick a (number-of (head (neutral c) 0)) (pick b (number-of (head (deciding c) 0)) (number-of (leaf x))) ∷ code g ≡ code (pick a (node (neutral c) nil g) (pick b (node (deciding c) nil g) (lit x g)))
+        go :
+            (a b : Bool) (g : Forest) →
+            pick a (number-of (head (neutral c) 0)) (pick b (number-of (head (deciding c) 0)) (number-of (leaf x))) ∷ code g ≡ code (pick a (node (neutral c) nil g) (pick b (node (deciding c) nil g) (lit x g)))
         go true b g = refl
         go false true g = refl
         go false false g = refl
@@ -207,7 +230,10 @@ no-second c i j k n = rw (ne-eqb j 0 n) (go (literal-at (after i k)))
     go none = refl
     go (some l) = refl
 
-spread-asked : {l : List ℕ} {c : Conn} {k f : Forest} {z : ℕ} (g : Group l c k f z) (i : ℕ) → i < size k → is-some (spread c i 0 k) ≡ spreads-from (child-at i l) (child-at (size k) l) l
+spread-asked :
+    {l : List ℕ} {c : Conn} {k f : Forest} {z : ℕ} (g : Group l c k f z) (i : ℕ) →
+    i < size k →
+    is-some (spread c i 0 k) ≡ spreads-from (child-at i l) (child-at (size k) l) l
 unfolding spread spreads-from then is-some
 spread-asked {l} {c} {k} g i h = go (literal-at (after i k)) refl
   where
@@ -224,7 +250,10 @@ module _ {r : ℕ} {l : List ℕ} (s : Stretch l) (h : Headed r l) (i j : ℕ) (
   pub applies-none : (j ≡ 0 → ⊥) → false ≡ is-some (rewrite r i j (forest-in l))
   applies-none n = sym (applies-spread ∙ no-second (h .conn) i j (h .children) n)
 
-  pub applies-around : j ≡ 0 → i < size (h .children) → spreads-from (child-at i l) (child-at (size (h .children)) l) l ≡ is-some (rewrite r i j (forest-in l))
+  pub applies-around :
+      j ≡ 0 →
+      i < size (h .children) →
+      spreads-from (child-at i l) (child-at (size (h .children)) l) l ≡ is-some (rewrite r i j (forest-in l))
   applies-around e n = sym (applies-spread ∙ rw e (spread-asked (headed-group s h) i n))
 
 -- The numbers that the code puts for a literal and its complement.
@@ -249,7 +278,11 @@ empty-groups r {w} c lo hi e k =
 
 -- The step, on the numbers.
 module _ {r : ℕ} {l : List ℕ} (s : Stretch l) (h : Headed r l) (i j : ℕ) (lo : 9 ≤ r) (hi : r ≤ 10) (t : is-some (rewrite r i j (forest-in l)) ≡ true) where
-  pub turns-spread : {out : List ℕ} → length out ≡ length l → out ≡ around (assign (eqb r 9) (getD l (child-at i l) 0)) (child-at i l) (child-at (size (h .children)) l) l → out ≡ rewritten-to r i j l
+  pub turns-spread :
+      {out : List ℕ} →
+      length out ≡ length l →
+      out ≡ around (assign (eqb r 9) (getD l (child-at i l) 0)) (child-at i l) (child-at (size (h .children)) l) l →
+      out ≡ rewritten-to r i j l
   unfolding assign change spread _⊕_
   turns-spread n e =
       let g = headed-group s h in

@@ -76,7 +76,12 @@ applied-headed r i j {l} s t =
     (either (headed r l))
 
 -- Past the last child no rule applies.
-pub past-children : (r i j : ℕ) {l : List ℕ} → Stretch l → Headed r l → children (getD l 0 0) ≤ i → false ≡ is-some (rewrite r i j (forest-in l))
+pub past-children :
+    (r i j : ℕ) {l : List ℕ} →
+    Stretch l →
+    Headed r l →
+    children (getD l 0 0) ≤ i →
+    false ≡ is-some (rewrite r i j (forest-in l))
 unfolding kids is-some
 past-children r i j {l} s h past =
     let count : children (getD l 0 0) ≡ size (h .children) = group-children (headed-group s h) in

@@ -23,7 +23,13 @@ entry f d (w ∷ ws) zero h = refl
 entry f d (w ∷ ws) (suc k) h = entry f d ws k (omega arith)
 
 -- What stands at a rule's place of the column is what its row says.
-pub column : (f : Row → ℕ) (d : ℕ) (xs : List ℕ) → xs ≡ map f table → (rule : ℕ) → 1 ≤ rule → rule ≤ last-rule → getD xs (rule - 1) 0 ≡ maybe d f (row-of rule)
+pub column :
+    (f : Row → ℕ) (d : ℕ) (xs : List ℕ) →
+    xs ≡ map f table →
+    (rule : ℕ) →
+    1 ≤ rule →
+    rule ≤ last-rule →
+    getD xs (rule - 1) 0 ≡ maybe d f (row-of rule)
 unfolding row-of table
 column f d xs e zero h l = absurd (omega arith)
 column f d xs e (suc r) h l =

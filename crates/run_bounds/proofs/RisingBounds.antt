@@ -45,7 +45,10 @@ high-more {r} {from} to t h here q a b =
     (either (ltb q to))
 
 -- One entry of a table, after a store.
-stored : (t : List ℕ) (place x q : ℕ) → place < length t → ((q ≡ place) × (getD (set t place x) q 0 ≡ x)) ⊎ (getD (set t place x) q 0 ≡ getD t q 0)
+stored :
+    (t : List ℕ) (place x q : ℕ) →
+    place < length t →
+    ((q ≡ place) × (getD (set t place x) q 0 ≡ x)) ⊎ (getD (set t place x) q 0 ≡ getD t q 0)
 stored t place x q h =
     ⊎-elim
     (λ e. let same : q ≡ place = eqb-true q place e in
@@ -67,12 +70,23 @@ module _ {s sizes t : List ℕ} (w : Tabled s sizes t) where
     bound-tells r = w .right place r (omega (arith, w .measured .sheet .count))
 
     -- Besides, a rule that the bound has come to does not apply.
-    pub tells-more : {rule : ℕ} → getD t place 0 ≡ rule → none ≡ least-i rule place (decode (drop place (nodes-in s))) → (r : ℕ) → 1 ≤ r → r < rule + 1 → none ≡ least-i r place (decode (drop place (nodes-in s)))
+    pub tells-more :
+        {rule : ℕ} →
+        getD t place 0 ≡ rule →
+        none ≡ least-i rule place (decode (drop place (nodes-in s))) →
+        (r : ℕ) →
+        1 ≤ r →
+        r < rule + 1 →
+        none ≡ least-i r place (decode (drop place (nodes-in s)))
     tells-more {rule} come e r one lt =
         below-more (λ k. 1 ≤ k → none ≡ least-i k place (decode (drop place (nodes-in s)))) rule (λ k l m. bound-tells k m (omega arith)) (λ m. e) r lt one
 
     -- The bound rises to a number below which no rule applies.
-    pub raised-to : {x : ℕ} → getD t place 0 ≤ x → ((r : ℕ) → 1 ≤ r → r < x → none ≡ least-i r place (decode (drop place (nodes-in s)))) → Raised s sizes t (set t place x)
+    pub raised-to :
+        {x : ℕ} →
+        getD t place 0 ≤ x →
+        ((r : ℕ) → 1 ≤ r → r < x → none ≡ least-i r place (decode (drop place (nodes-in s)))) →
+        Raised s sizes t (set t place x)
     raised-to {x} up quiet =
         record {
           tables = record {
@@ -108,7 +122,14 @@ literal-quiet r p nil e = none-some e
 literal-quiet r p (lit x f) e = i-never r p (lit x f) (λ i j. refl)
 literal-quiet r p (node c k f) e = none-some e
 
-pub literal-none : {s : List ℕ} → Formed s → (p : ℕ) → p < used-in s → is-literal (getD s (2 + p) 0) ≡ true → (r : ℕ) → none ≡ least-i r p (decode (drop p (nodes-in s)))
+pub literal-none :
+    {s : List ℕ} →
+    Formed s →
+    (p : ℕ) →
+    p < used-in s →
+    is-literal (getD s (2 + p) 0) ≡ true →
+    (r : ℕ) →
+    none ≡ least-i r p (decode (drop p (nodes-in s)))
 literal-none {s} h p lt it r =
     let w = sheet-spelled h p (omega arith) in
     let f = decode (drop p (nodes-in s)) in

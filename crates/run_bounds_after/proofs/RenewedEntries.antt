@@ -90,7 +90,9 @@ module _ (p : Plan) (ok : Planned p) (t o : List ℕ) (lt : length t ≡ sheet-r
   others q a =
       getD-set-other o2 (p .outer) q 1 0 (a .outer) ∙ getD-set-other o1 (p .inner) q 1 0 (a .inner) ∙ getD-set-other o (p .place) q 1 0 (a .place)
 
-  pub renewed : Ones (p .zone .from) (p .zone .new) (gone t (p .zone .new) (p .zone .old - p .zone .new)) o → Renewed p t (set (set (set o (p .place) 1) (p .inner) 1) (p .outer) 1)
+  pub renewed :
+      Ones (p .zone .from) (p .zone .new) (gone t (p .zone .new) (p .zone .old - p .zone .new)) o →
+      Renewed p t (set (set (set o (p .place) 1) (p .inner) 1) (p .outer) 1)
   renewed ones =
       let new = p .zone .new in
       let back = p .zone .old - new in

@@ -70,7 +70,12 @@ module _ (s : List ℕ) (h : Formed s) (x : Redex) (a : Applies x s) where
       omega (arith, sizes (x .place) (omega arith) there, size-here s h (x .place) within)
 
   -- A zone that is the step's own, and not longer after it.
-  zoned : {z : Zone} → own-zone x (nodes-in s) ≡ between (z .from) (z .old) (z .new) → z .new ≤ z .old → (9 ≤ x .rule → x .rule ≤ 12 → z .old ≡ z .new) → Zoned x (nodes-in s) z
+  zoned :
+      {z : Zone} →
+      own-zone x (nodes-in s) ≡ between (z .from) (z .old) (z .new) →
+      z .new ≤ z .old →
+      (9 ≤ x .rule → x .rule ≤ 12 → z .old ≡ z .new) →
+      Zoned x (nodes-in s) z
   unfolding zone
   zoned {z} e le level =
       let w = step-extent (x .rule) (x .place) (x .i) (x .j) ns one did in
@@ -103,13 +108,25 @@ module _ (s : List ℕ) (h : Formed s) (x : Redex) (a : Applies x s) where
       omega (arith, length-here p ns (w .conn) (w .children) (w .rest) (old-here w), size-length (w .children))
 
   -- The own zone of a step of a family; of a rule.
-  of-family : (k : Family) → family-at (x .rule) ≡ k → own-zone x (nodes-in s) ≡ zone k (x .place) (x .i) (x .j) (nodes-in s) (after-step x (nodes-in s))
+  of-family :
+      (k : Family) →
+      family-at (x .rule) ≡ k →
+      own-zone x (nodes-in s) ≡ zone k (x .place) (x .i) (x .j) (nodes-in s) (after-step x (nodes-in s))
   of-family k = ap (λ k. zone k (x .place) (x .i) (x .j) ns ms)
 
-  of-rule : (r : ℕ) → x .rule ≡ r → own-zone x (nodes-in s) ≡ zone (family-at r) (x .place) (x .i) (x .j) (nodes-in s) (after-step x (nodes-in s))
+  of-rule :
+      (r : ℕ) →
+      x .rule ≡ r →
+      own-zone x (nodes-in s) ≡ zone (family-at r) (x .place) (x .i) (x .j) (nodes-in s) (after-step x (nodes-in s))
   of-rule r = ap (λ r. zone (family-at r) (x .place) (x .i) (x .j) ns ms)
 
-  pub zone-1 : {z : Zone} → x .rule ≤ 3 → z .from ≡ x .place → z .old ≡ tree-end (x .place) (nodes-in s) → z .new ≡ x .place + 2 → Zoned x (nodes-in s) z
+  pub zone-1 :
+      {z : Zone} →
+      x .rule ≤ 3 →
+      z .from ≡ x .place →
+      z .old ≡ tree-end (x .place) (nodes-in s) →
+      z .new ≡ x .place + 2 →
+      Zoned x (nodes-in s) z
   unfolding zone
   zone-1 b f o n = zoned (rw (f, o, n) (of-family absorbs (family-1 (x .rule) b))) (omega (arith, tall)) (λ x y. absurd (omega arith))
 
@@ -150,12 +167,25 @@ module _ (s : List ℕ) (h : Formed s) (x : Redex) (a : Applies x s) where
           spread = λ low top. absurd (omega arith);
         }
 
-  pub zone-11 : {z : Zone} → 11 ≤ x .rule → x .rule ≤ 12 → {at inner : ℕ} → z .from ≡ at → z .old ≡ inner + 1 → z .new ≡ inner + 1 → at ≡ child-place (x .place) (x .i) (nodes-in s) → inner ≡ child-place at (x .j) (nodes-in s) → Zoned x (nodes-in s) z
+  pub zone-11 :
+      {z : Zone} →
+      11 ≤ x .rule →
+      x .rule ≤ 12 →
+      {at inner : ℕ} →
+      z .from ≡ at →
+      z .old ≡ inner + 1 →
+      z .new ≡ inner + 1 →
+      at ≡ child-place (x .place) (x .i) (nodes-in s) →
+      inner ≡ child-place at (x .j) (nodes-in s) →
+      Zoned x (nodes-in s) z
   unfolding zone
   zone-11 a b f o n e e' = zoned (rw (f, o, n, e', e) (of-family lifts (family-11 (x .rule) a b))) (omega arith) (λ x y. omega arith)
 
   -- The inner child of rules 11 and 12 is there.
-  pub inner-there : 11 ≤ x .rule → x .rule ≤ 12 → x .j < size (kids (decode (drop (child-place (x .place) (x .i) (nodes-in s)) (nodes-in s))))
+  pub inner-there :
+      11 ≤ x .rule →
+      x .rule ≤ 12 →
+      x .j < size (kids (decode (drop (child-place (x .place) (x .i) (nodes-in s)) (nodes-in s))))
   unfolding change lift kids _⊕_
   inner-there a b =
       let w = it in

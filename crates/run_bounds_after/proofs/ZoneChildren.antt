@@ -32,7 +32,12 @@ pub record Here (s : List ℕ) (p i : ℕ) : Type 0 where
   pub index : i ≤ sheet-room
 
 -- Numbers that spell trees begin with a group where the first tree has children.
-pub group-of : (f : Forest) (z : ℕ) (l : List ℕ) → l ≡ spell f z → Fits f → 0 < size (kids f) → (c : Conn) × (g : Forest) × Group l c (kids f) g z
+pub group-of :
+    (f : Forest) (z : ℕ) (l : List ℕ) →
+    l ≡ spell f z →
+    Fits f →
+    0 < size (kids f) →
+    (c : Conn) × (g : Forest) × Group l c (kids f) g z
 unfolding kids size
 group-of nil z l e h some = absurd (omega arith)
 group-of (lit x f) z l e h some = absurd (omega arith)

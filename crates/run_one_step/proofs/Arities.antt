@@ -113,7 +113,17 @@ sheet-arities s h =
     ∙ ap (λ xs. xs ++ map arity (replicate (sheet-room - used-in s) 0)) (arities-below (numbers-in s))
 
 -- The table of sizes is right after the step where it was before.
-pub sizes-still : (s u : List ℕ) (h : Formed s) → Formed u → (x : Redex) → Applies x s → nodes-in u ≡ after-step x (nodes-in s) → 9 ≤ x .rule → x .rule ≤ 10 → (t : List ℕ) → Sizes-from 0 (drop 2 s) t → Sizes-from 0 (drop 2 u) t
+pub sizes-still :
+    (s u : List ℕ) (h : Formed s) →
+    Formed u →
+    (x : Redex) →
+    Applies x s →
+    nodes-in u ≡ after-step x (nodes-in s) →
+    9 ≤ x .rule →
+    x .rule ≤ 10 →
+    (t : List ℕ) →
+    Sizes-from 0 (drop 2 s) t →
+    Sizes-from 0 (drop 2 u) t
 sizes-still s u h k x a same low top t sizes q le l =
     let ns = nodes-in s in
     let r = x .rule in

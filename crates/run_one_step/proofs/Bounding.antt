@@ -44,7 +44,11 @@ module _ (s : List ℕ) (h : Formed s) (x : Redex) (a : Applies x s) {p : Plan} 
   apart : (q : ℕ) → (getD up q 0 ≡ 1) ⊎ Apart p q
   apart q = go (either (eqb q (p .place))) (either (eqb q (p .inner))) (either (eqb q (p .outer)))
     where
-      go : (eqb q (p .place) ≡ true) ⊎ (eqb q (p .place) ≡ false) → (eqb q (p .inner) ≡ true) ⊎ (eqb q (p .inner) ≡ false) → (eqb q (p .outer) ≡ true) ⊎ (eqb q (p .outer) ≡ false) → (getD up q 0 ≡ 1) ⊎ Apart p q
+      go :
+          (eqb q (p .place) ≡ true) ⊎ (eqb q (p .place) ≡ false) →
+          (eqb q (p .inner) ≡ true) ⊎ (eqb q (p .inner) ≡ false) →
+          (eqb q (p .outer) ≡ true) ⊎ (eqb q (p .outer) ≡ false) →
+          (getD up q 0 ≡ 1) ⊎ Apart p q
       go (inl e) d c = inl (ap (λ k. getD up k 0) (eqb-true q (p .place) e) ∙ n .moved .at-place)
       go (inr e) (inl d) c = inl (ap (λ k. getD up k 0) (eqb-true q (p .inner) d) ∙ n .moved .at-inner)
       go (inr e) (inr d) (inl c) = inl (ap (λ k. getD up k 0) (eqb-true q (p .outer) c) ∙ n .moved .at-outer)
@@ -55,12 +59,20 @@ module _ (s : List ℕ) (h : Formed s) (x : Redex) (a : Applies x s) {p : Plan} 
     forgotten : getD up q 0 ≡ 1 → Entry q
     stayed : q < p .zone .from → Apart p q → getD up q 0 ≡ getD low q 0 → Entry q
     kept : q < p .zone .new → Spared (x .rule) (p .place) q (after-step x (nodes-in s)) low up → Entry q
-    moved : q + (p .zone .old - p .zone .new) < length (nodes-in s) → drop q (after-step x (nodes-in s)) ≡ drop (q + (p .zone .old - p .zone .new)) (nodes-in s) → getD up q 0 ≡ getD low (q + (p .zone .old - p .zone .new)) 0 → Entry q
+    moved :
+        q + (p .zone .old - p .zone .new) < length (nodes-in s) →
+        drop q (after-step x (nodes-in s)) ≡ drop (q + (p .zone .old - p .zone .new)) (nodes-in s) →
+        getD up q 0 ≡ getD low (q + (p .zone .old - p .zone .new)) 0 →
+        Entry q
 
   entry : (q : ℕ) → q < length (after-step x (nodes-in s)) → Entry q
   entry q l = go (apart q) (either (ltb q (p .zone .from))) (either (ltb q (p .zone .new)))
     where
-      go : (getD up q 0 ≡ 1) ⊎ Apart p q → (ltb q (p .zone .from) ≡ true) ⊎ (ltb q (p .zone .from) ≡ false) → (ltb q (p .zone .new) ≡ true) ⊎ (ltb q (p .zone .new) ≡ false) → Entry q
+      go :
+          (getD up q 0 ≡ 1) ⊎ Apart p q →
+          (ltb q (p .zone .from) ≡ true) ⊎ (ltb q (p .zone .from) ≡ false) →
+          (ltb q (p .zone .new) ≡ true) ⊎ (ltb q (p .zone .new) ≡ false) →
+          Entry q
       go (inl e) b c = forgotten e
       go (inr e) (inl b) c = let lt = ltb-true q (p .zone .from) b in stayed lt e (n .moved .before q lt e)
       go (inr e) (inr b) (inl c) =
@@ -72,7 +84,10 @@ module _ (s : List ℕ) (h : Formed s) (x : Redex) (a : Applies x s) {p : Plan} 
           moved (w .1) (w .0) (n .moved .after q le (omega (arith, w .1, O.few s h x a)) e)
 
   -- By rules 9 and 10 there are as many nodes as before.
-  level : {q : ℕ} → Spared (x .rule) (p .place) q (after-step x (nodes-in s)) low up → length (after-step x (nodes-in s)) ≡ length (nodes-in s)
+  level :
+      {q : ℕ} →
+      Spared (x .rule) (p .place) q (after-step x (nodes-in s)) low up →
+      length (after-step x (nodes-in s)) ≡ length (nodes-in s)
   level y = level-length (x .rule) (x .place) (x .i) (x .j) (nodes-in s) (O.one s h x a) (O.did s h x a) (y .nine) (omega (arith, y .ten))
 
   pub bounds-after : Bounds (nodes-in s) low → Bounds (after-step x (nodes-in s)) up
@@ -114,7 +129,11 @@ module _ (s : List ℕ) (h : Formed s) (x : Redex) (a : Applies x s) {p : Plan} 
         go (kept c y) = let still = level y in let k = high q b (omega arith) in omega (arith, y .same)
         go (moved within there same) = let k = high (q + back) (omega arith) within in omega arith
 
-    pub high-outside : (q : ℕ) → q < length (after-step x (nodes-in s)) → (q < p .outer) ⊎ ((x .place < q) × (p .zone .new ≤ q)) → r ≤ getD up q 0
+    pub high-outside :
+        (q : ℕ) →
+        q < length (after-step x (nodes-in s)) →
+        (q < p .outer) ⊎ ((x .place < q) × (p .zone .new ≤ q)) →
+        r ≤ getD up q 0
     high-outside q l (inl e) =
         let k = high q (omega arith) (omega (arith, f .outer-before, f .inner-before, f .zoned .place-from, small)) in
         omega (arith, untouched q e)
@@ -127,20 +146,38 @@ module _ (s : List ℕ) (h : Formed s) (x : Redex) (a : Applies x s) {p : Plan} 
 
 -- Where the bounds that were set back have risen to a floor, all are so high: the places that were looked at lie between the two
 -- ends, cut off at the number of nodes.
-pub high-all : (used from to first last : ℕ) (t u : List ℕ) (rule f : ℕ) → first ≤ from → (last ≡ to) ⊎ (last ≡ used) → ((q : ℕ) → q < used → (q < from) ⊎ (to ≤ q) → rule ≤ getD t q 0) → Rises t u → High f first last u → f ≤ rule → High f 0 used u
+pub high-all :
+    (used from to first last : ℕ) (t u : List ℕ) (rule f : ℕ) →
+    first ≤ from →
+    (last ≡ to) ⊎ (last ≡ used) →
+    ((q : ℕ) → q < used → (q < from) ⊎ (to ≤ q) → rule ≤ getD t q 0) →
+    Rises t u →
+    High f first last u →
+    f ≤ rule →
+    High f 0 used u
 high-all used from to first last t u rule f below a out rises high le q x l = go a (either (ltb q first)) (either (ltb q last))
   where
     outside : (q < from) ⊎ (to ≤ q) → f ≤ getD u q 0
     outside side = let y = out q l side in let z = rises q in omega arith
 
-    go : (last ≡ to) ⊎ (last ≡ used) → (ltb q first ≡ true) ⊎ (ltb q first ≡ false) → (ltb q last ≡ true) ⊎ (ltb q last ≡ false) → f ≤ getD u q 0
+    go :
+        (last ≡ to) ⊎ (last ≡ used) →
+        (ltb q first ≡ true) ⊎ (ltb q first ≡ false) →
+        (ltb q last ≡ true) ⊎ (ltb q last ≡ false) →
+        f ≤ getD u q 0
     go c (inl y) z = outside (inl (omega (arith, ltb-true q first y)))
     go c (inr y) (inl z) = high q (ltb-false q first y) (ltb-true q last z)
     go (inl c) (inr y) (inr z) = outside (inr (omega (arith, ltb-false q last z)))
     go (inr c) (inr y) (inr z) = absurd (omega (arith, ltb-false q last z))
 
 -- What lies before a cursor that is no further than the bounds that stayed is still past the floor.
-pub high-ahead : (from cursor : ℕ) (t u : List ℕ) (rule f : ℕ) → High (rule + 1) 0 from t → cursor ≤ from → Rises t u → f ≤ rule → High (f + 1) 0 cursor u
+pub high-ahead :
+    (from cursor : ℕ) (t u : List ℕ) (rule f : ℕ) →
+    High (rule + 1) 0 from t →
+    cursor ≤ from →
+    Rises t u →
+    f ≤ rule →
+    High (f + 1) 0 cursor u
 high-ahead from cursor t u rule f high le rises below q a l =
     let x = high q a (omega arith) in
     let y = rises q in

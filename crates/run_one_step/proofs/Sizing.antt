@@ -45,7 +45,16 @@ zeros-here s h q le small =
     ∙ zeros-left numbers (q - used-in s) (sheet-room - q) q (omega (arith, length-map (nodes-in s) number-of, h .count))
 
 -- Past the nodes of two sheets the sizes of the one are those of the other.
-pub sizes-past : (s u : List ℕ) → Formed s → Formed u → (t : List ℕ) → Sizes-from 0 (drop 2 s) t → (most : ℕ) → used-in s ≤ most → used-in u ≤ most → Sizes-from most (drop 2 u) t
+pub sizes-past :
+    (s u : List ℕ) →
+    Formed s →
+    Formed u →
+    (t : List ℕ) →
+    Sizes-from 0 (drop 2 s) t →
+    (most : ℕ) →
+    used-in s ≤ most →
+    used-in u ≤ most →
+    Sizes-from most (drop 2 u) t
 sizes-past s u h k t sizes most a b q le l =
     let short : q < sheet-room = omega (arith, length-drop 2 u, k .whole) in
     let there : q < length (drop 2 s) = omega (arith, length-drop 2 s, h .whole) in
@@ -86,7 +95,13 @@ module _ (s u : List ℕ) (h : Formed s) (k : Formed u) (x : Redex) (a : Applies
           let still : q + (z .old - z .new) ≡ q = omega (arith, w .level low top) in
           same-length q (nodes-in s) (after-step x (nodes-in s)) (there ∙ ap (λ n. drop n (nodes-in s)) still)
 
-  pub sizes-outside : (t : List ℕ) → Sizes-from 0 (drop 2 s) t → (q : ℕ) → q < length (drop 2 u) → (q < z .from) ⊎ (z .new ≤ q) → getD t q 0 ≡ span 1 (drop q (drop 2 u))
+  pub sizes-outside :
+      (t : List ℕ) →
+      Sizes-from 0 (drop 2 s) t →
+      (q : ℕ) →
+      q < length (drop 2 u) →
+      (q < z .from) ⊎ (z .new ≤ q) →
+      getD t q 0 ≡ span 1 (drop q (drop 2 u))
   sizes-outside t sizes q l side =
       let whole = h .whole in
       let there : q < length (drop 2 s) = omega (arith, length-drop 2 s, length-drop 2 u, k .whole) in
@@ -97,6 +112,10 @@ module _ (s u : List ℕ) (h : Formed s) (k : Formed u) (x : Redex) (a : Applies
       (either (ltb q (used-in s)))
 
 -- A table that is right before a place and from it on is right.
-pub sizes-both : (from : ℕ) (l t : List ℕ) → Sizes-from from l t → ((q : ℕ) → q < from → q < length l → getD t q 0 ≡ span 1 (drop q l)) → Sizes-from 0 l t
+pub sizes-both :
+    (from : ℕ) (l t : List ℕ) →
+    Sizes-from from l t →
+    ((q : ℕ) → q < from → q < length l → getD t q 0 ≡ span 1 (drop q l)) →
+    Sizes-from 0 l t
 sizes-both from l t right before q a b =
     ⊎-elim (λ x. before q (ltb-true q from x) b) (λ x. right q (ltb-false q from x) b) (either (ltb q from))

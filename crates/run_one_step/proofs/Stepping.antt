@@ -41,7 +41,18 @@ after s h x a =
     record { sheet = made; nodes = nodes; used = sym (made .count) ∙ ap length nodes }
 
 -- The nearest two places that hold a place.
-pub nearest-two : {s t : List ℕ} → Measured s t → (p inner outer : ℕ) → p < used-in s → (inner < p → p < inner + getD t inner 0) → ((q : ℕ) → q < p → p < q + getD t q 0 → (inner < p) × (q ≤ inner)) → (outer < inner → p < outer + getD t outer 0) → ((q : ℕ) → q < inner → p < q + getD t q 0 → (outer < inner) × (q ≤ outer)) → (q : ℕ) → Holds q p (nodes-in s) → (q ≡ inner) ⊎ ((q < inner) × ((q ≡ outer) ⊎ Twice q p (nodes-in s)))
+pub nearest-two :
+    {s t : List ℕ} →
+    Measured s t →
+    (p inner outer : ℕ) →
+    p < used-in s →
+    (inner < p → p < inner + getD t inner 0) →
+    ((q : ℕ) → q < p → p < q + getD t q 0 → (inner < p) × (q ≤ inner)) →
+    (outer < inner → p < outer + getD t outer 0) →
+    ((q : ℕ) → q < inner → p < q + getD t q 0 → (outer < inner) × (q ≤ outer)) →
+    (q : ℕ) →
+    Holds q p (nodes-in s) →
+    (q ≡ inner) ⊎ ((q < inner) × ((q ≡ outer) ⊎ Twice q p (nodes-in s)))
 nearest-two {s} {t} m p inner outer within reach near reach-2 near-2 q held = go q held (near q (held .0) (wide q held)) (either (eqb q inner))
   where
     ends : (q : ℕ) → q < used-in s → q + getD t q 0 ≡ tree-end q (nodes-in s)
@@ -55,12 +66,24 @@ nearest-two {s} {t} m p inner outer within reach near reach-2 near-2 q held = go
     holds : (q : ℕ) → q < p → p < q + getD t q 0 → Holds q p (nodes-in s)
     holds q l x = (l, omega (arith, ends q (omega arith)))
 
-    deeper : (q : ℕ) → Holds q p (nodes-in s) → q < inner → inner < p → (outer < inner) × (q ≤ outer) → (eqb q outer ≡ true) ⊎ (eqb q outer ≡ false) → (q ≡ outer) ⊎ Twice q p (nodes-in s)
+    deeper :
+        (q : ℕ) →
+        Holds q p (nodes-in s) →
+        q < inner →
+        inner < p →
+        (outer < inner) × (q ≤ outer) →
+        (eqb q outer ≡ true) ⊎ (eqb q outer ≡ false) →
+        (q ≡ outer) ⊎ Twice q p (nodes-in s)
     deeper q held l lt w (inl e) = inl (eqb-true q outer e)
     deeper q held l lt w (inr e) =
         inr (record { outer = outer; inner = inner; later = omega (arith, w .1, eqb-false q outer e); deeper = w .0; outer-holds = holds outer (omega (arith, w .0)) (reach-2 (w .0)); inner-holds = holds inner lt (reach lt) })
 
-    go : (q : ℕ) → Holds q p (nodes-in s) → (inner < p) × (q ≤ inner) → (eqb q inner ≡ true) ⊎ (eqb q inner ≡ false) → (q ≡ inner) ⊎ ((q < inner) × ((q ≡ outer) ⊎ Twice q p (nodes-in s)))
+    go :
+        (q : ℕ) →
+        Holds q p (nodes-in s) →
+        (inner < p) × (q ≤ inner) →
+        (eqb q inner ≡ true) ⊎ (eqb q inner ≡ false) →
+        (q ≡ inner) ⊎ ((q < inner) × ((q ≡ outer) ⊎ Twice q p (nodes-in s)))
     go q held w (inl e) = inl (eqb-true q inner e)
     go q held w (inr e) =
         let lt : q < inner = omega (arith, w .1, eqb-false q inner e) in

@@ -14,7 +14,14 @@ use Rattle.theory_rewriting.specs.Reached.{Reached, Ends, run-done, run-over}
 use Rattle.search_sizes.specs.SizeTables.{Measured}
 use Rattle.run_bounds.specs.BoundTables.{Come-to}
 
-pub run-ended : {start s : List ℕ} {count : ℕ} → Reached start count s → (budget : ℕ) → count ≡ budget → (o : Option Redex) → o ≡ next (nodes-in s) → Ends start budget (maybe true (λ x. false) o) count s
+pub run-ended :
+    {start s : List ℕ} {count : ℕ} →
+    Reached start count s →
+    (budget : ℕ) →
+    count ≡ budget →
+    (o : Option Redex) →
+    o ≡ next (nodes-in s) →
+    Ends start budget (maybe true (λ x. false) o) count s
 unfolding maybe
 run-ended r budget same none e = run-done r budget (omega arith) (sym e)
 run-ended r budget same (some x) e = run-over r budget same (sym e)

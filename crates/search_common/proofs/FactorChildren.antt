@@ -34,7 +34,14 @@ first-arity z f nil n h = absurd (omega arith)
 first-arity z f (lit x g) n h = arity-leaf x (fits-lit x (g ⊕ f) h .0)
 first-arity z f (node c m g) n h = arity-head c (size m) (fits-tree c m (g ⊕ f) h .0)
 
-pub child-arity : {r : ℕ} {l : List ℕ} → Stretch l → (h : Headed r l) → (i : ℕ) {at : ℕ} → i < children (getD l 0 0) → at ≡ child-at i l → arity (getD l at 0) ≡ size (kids (after i (kids (forest-in l))))
+pub child-arity :
+    {r : ℕ} {l : List ℕ} →
+    Stretch l →
+    (h : Headed r l) →
+    (i : ℕ) {at : ℕ} →
+    i < children (getD l 0 0) →
+    at ≡ child-at i l →
+    arity (getD l at 0) ≡ size (kids (after i (kids (forest-in l))))
 unfolding kids
 child-arity {r} {l} s h i there e =
     let g = headed-group s h in
@@ -51,7 +58,10 @@ unfolding is-literal
 conjunction-arity x e = arity-inner x (rw e)
 
 -- A number that a group offers is that of its child j, a literal.
-unit-literal : (j : ℕ) (l : List ℕ) → (unit-of j l ≡ 0 → ⊥) → (j < children (getD l 0 0)) × (is-literal (getD l (child-at j l) 0) ≡ true) × (unit-of j l ≡ getD l (child-at j l) 0)
+unit-literal :
+    (j : ℕ) (l : List ℕ) →
+    (unit-of j l ≡ 0 → ⊥) →
+    (j < children (getD l 0 0)) × (is-literal (getD l (child-at j l) 0) ≡ true) × (unit-of j l ≡ getD l (child-at j l) 0)
 unit-literal j l some-unit =
     ⊎-elim
     (λ past. absurd (some-unit (unit-past j l (leb-true (children (getD l 0 0)) j past))))
@@ -59,7 +69,10 @@ unit-literal j l some-unit =
     ⊎-elim (offered within) (λ inner. absurd (some-unit (unit-inner j l within inner))) (either (is-literal (getD l (child-at j l) 0))))
     (either (leb (children (getD l 0 0)) j))
   where
-    offered : j < children (getD l 0 0) → is-literal (getD l (child-at j l) 0) ≡ true → (j < children (getD l 0 0)) × (is-literal (getD l (child-at j l) 0) ≡ true) × (unit-of j l ≡ getD l (child-at j l) 0)
+    offered :
+        j < children (getD l 0 0) →
+        is-literal (getD l (child-at j l) 0) ≡ true →
+        (j < children (getD l 0 0)) × (is-literal (getD l (child-at j l) 0) ≡ true) × (unit-of j l ≡ getD l (child-at j l) 0)
     offered within literal =
         let place = unit-place (getD l (child-at j l) 0) j (drop 1 l) in
         let end = span j (drop 1 l) in
@@ -118,7 +131,13 @@ module _ {l : List ℕ} (s : Stretch l) (h : Headed 14 l) (i : ℕ) (there : (i 
     few-none few =
         fails-if (is-some (rewrite 14 i j (forest-in l))) (λ t. let c = common j t in omega (arith, filter _ (c .literal) (c .shared) .0))
 
-    pub barred-none : (x : ℕ) {from : ℕ} {passed : Bool} → x ≡ getD l from 0 → from ≡ 1 + i + child-at j (drop (1 + i) l) → Barred passed x groups held → passed ≡ false → is-some (rewrite 14 i j (forest-in l)) ≡ false
+    pub barred-none :
+        (x : ℕ) {from : ℕ} {passed : Bool} →
+        x ≡ getD l from 0 →
+        from ≡ 1 + i + child-at j (drop (1 + i) l) →
+        Barred passed x groups held →
+        passed ≡ false →
+        is-some (rewrite 14 i j (forest-in l)) ≡ false
     barred-none x {from} {passed} read place barred refused =
         let its : getD l (1 + i + child-at j (drop (1 + i) l)) 0 ≡ x = sym (read ∙ ap (λ k. getD l k 0) place) in
         fails-if (is-some (rewrite 14 i j (forest-in l)))
@@ -139,7 +158,12 @@ module _ {l : List ℕ} (s : Stretch l) (h : Headed 14 l) (i : ℕ) (there : (i 
 
   -- The answer: an inner child with which the rule applies, or one more than there are.
   module _ {m : ℕ} (counted : m ≡ arity (getD l (1 + i) 0)) where
-    pub found-first : (j : ℕ) → j ≤ m → is-some (rewrite 14 i j (forest-in l)) ≡ true → ((k : ℕ) → k < j → is-some (rewrite 14 i k (forest-in l)) ≡ false) → First-inner 14 i j l
+    pub found-first :
+        (j : ℕ) →
+        j ≤ m →
+        is-some (rewrite 14 i j (forest-in l)) ≡ true →
+        ((k : ℕ) → k < j → is-some (rewrite 14 i k (forest-in l)) ≡ false) →
+        First-inner 14 i j l
     found-first j few t none = first-here (omega (arith, child-arity s h i (there .0) (there .1))) none t
 
     pub found-none : ((k : ℕ) → k < m + 1 → is-some (rewrite 14 i k (forest-in l)) ≡ false) → First-inner 14 i (m + 1) l

@@ -36,7 +36,12 @@ noted-other groups held h =
     record { higher = λ y. omega arith; risen = λ e n. true-false (sym e ∙ h) }
 
 -- An entry that has reached just so many conjunctions rises by one.
-pub noted-literal : {x groups : ℕ} (held : List ℕ) → is-literal x ≡ true → length held ≡ literal-numbers → getD held (x - kind-factor) 0 ≡ groups → Noted x groups held (set held (x - kind-factor) (groups + 1))
+pub noted-literal :
+    {x groups : ℕ} (held : List ℕ) →
+    is-literal x ≡ true →
+    length held ≡ literal-numbers →
+    getD held (x - kind-factor) 0 ≡ groups →
+    Noted x groups held (set held (x - kind-factor) (groups + 1))
 noted-literal {x} {groups} held h long e =
     let same : entry x (set held (x - kind-factor) (groups + 1)) ≡ groups + 1 =
     getD-set-same held (x - kind-factor) (groups + 1) 0 (omega (arith, literal-bounds x h)) in
@@ -64,7 +69,12 @@ group-inner x h = pick-false (is-literal x) 0 1 h
 
 -- A number that is among trees, one tree further: the first is another, and it is among none.
 module _ (x n i : ℕ) (l : List ℕ) where
-  among-further : 0 < n → i < length l → (getD l i 0 ≡ x → ⊥) → among x n (drop i l) ≡ true → among x (n - 1) (drop (i + span 1 (drop i l)) l) ≡ true
+  among-further :
+      0 < n →
+      i < length l →
+      (getD l i 0 ≡ x → ⊥) →
+      among x n (drop i l) ≡ true →
+      among x (n - 1) (drop (i + span 1 (drop i l)) l) ≡ true
   unfolding among
   among-further some inside other h =
       let next = i + span 1 (drop i l) in
@@ -87,17 +97,34 @@ abbrev pub Holding : ℕ → ℕ → ℕ → List ℕ → List ℕ → List ℕ 
 Holding groups m start l old new left from =
     (x : ℕ) → is-literal x ≡ true → among x m (drop start l) ≡ true → groups ≤ entry x old → (groups < entry x new) ⊎ ((groups ≤ entry x new) × (among x left (drop from l) ≡ true))
 
-pub holding-more : (groups m start : ℕ) (l old new : List ℕ) {last : List ℕ} (left from : ℕ) → Holding groups m start l old new left from → 0 < left → from < length l → {y : ℕ} → y ≡ getD l from 0 → Noted y groups new last → Holding groups m start l old last (left - 1) (from + span 1 (drop from l))
+pub holding-more :
+    (groups m start : ℕ) (l old new : List ℕ) {last : List ℕ} (left from : ℕ) →
+    Holding groups m start l old new left from →
+    0 < left →
+    from < length l →
+    {y : ℕ} →
+    y ≡ getD l from 0 →
+    Noted y groups new last →
+    Holding groups m start l old last (left - 1) (from + span 1 (drop from l))
 holding-more groups m start l old new {last} left from h some inside {y} read n x lit there reached =
     ⊎-elim (λ risen. inl (omega (arith, n .higher x))) (λ t. go (t .0) (t .1) (either (eqb (getD l from 0) x))) (h x lit there reached)
   where
-    go : groups ≤ entry x new → among x left (drop from l) ≡ true → (eqb (getD l from 0) x ≡ true) ⊎ (eqb (getD l from 0) x ≡ false) → (groups < entry x last) ⊎ ((groups ≤ entry x last) × (among x (left - 1) (drop (from + span 1 (drop from l)) l) ≡ true))
+    go :
+        groups ≤ entry x new →
+        among x left (drop from l) ≡ true →
+        (eqb (getD l from 0) x ≡ true) ⊎ (eqb (getD l from 0) x ≡ false) →
+        (groups < entry x last) ⊎ ((groups ≤ entry x last) × (among x (left - 1) (drop (from + span 1 (drop from l)) l) ≡ true))
     go up later (inl e) =
         let same : y ≡ x = read ∙ eqb-true (getD l from 0) x e in
         inl (subst (λ z. is-literal z ≡ true → groups ≤ entry z new → groups < entry z last) same (n .risen) lit up)
     go up later (inr e) = inr (omega (arith, n .higher x), among-further x left from l some inside (eqb-false (getD l from 0) x e) later)
 
-pub holding-all : (groups at : ℕ) (l old new : List ℕ) (left from : ℕ) → is-literal (getD l at 0) ≡ false → Holding groups (children (getD l at 0)) (at + 1) l old new left from → (left ≡ 0) ⊎ (length l ≤ from) → Carried groups (groups + 1) (drop at l) old new
+pub holding-all :
+    (groups at : ℕ) (l old new : List ℕ) (left from : ℕ) →
+    is-literal (getD l at 0) ≡ false →
+    Holding groups (children (getD l at 0)) (at + 1) l old new left from →
+    (left ≡ 0) ⊎ (length l ≤ from) →
+    Carried groups (groups + 1) (drop at l) old new
 holding-all groups at l old new left from inner h past x lit shared reached =
     let found = shares-group x (drop at l) shared (ap is-literal (first-left at l) ∙ inner) in
     let there : among x (children (getD l at 0)) (drop (at + 1) l) ≡ true = rw (first-left at l, drop-drop 1 at l) at (found .1) in

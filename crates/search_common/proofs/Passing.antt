@@ -20,13 +20,24 @@ use Rattle.search_common.specs.Held.{entry, Carried, Filter}
 -- Some children passed: their conjunctions are counted; a literal that all share is shared by those left and has reached the count.
 pub record Passing (groups : ℕ) (l held : List ℕ) (left from : ℕ) : Type 0 where
   pub counted : groups-in (children (getD l 0 0)) (drop 1 l) ≡ groups + groups-in left (drop from l)
-  pub reached : (x : ℕ) → is-literal x ≡ true → all-share x (children (getD l 0 0)) (drop 1 l) ≡ true → (all-share x left (drop from l) ≡ true) × (groups ≤ entry x held)
+  pub reached :
+      (x : ℕ) →
+      is-literal x ≡ true →
+      all-share x (children (getD l 0 0)) (drop 1 l) ≡ true →
+      (all-share x left (drop from l) ≡ true) × (groups ≤ entry x held)
 
 pub passing-none : (l held : List ℕ) → Passing 0 l held (children (getD l 0 0)) 1
 passing-none l held = record { counted = omega arith; reached = λ x lit h. (h, omega arith) }
 
 -- One child more.
-pub passing-more : {groups with : ℕ} {l held last : List ℕ} {left from : ℕ} → Passing groups l held left from → 0 < left → from < length l → with ≡ groups + group-here (getD l from 0) → Carried groups with (drop from l) held last → Passing with l last (left - 1) (from + span 1 (drop from l))
+pub passing-more :
+    {groups with : ℕ} {l held last : List ℕ} {left from : ℕ} →
+    Passing groups l held left from →
+    0 < left →
+    from < length l →
+    with ≡ groups + group-here (getD l from 0) →
+    Carried groups with (drop from l) held last →
+    Passing with l last (left - 1) (from + span 1 (drop from l))
 passing-more {groups} {with} {l} {held} {last} {left} {from} p some inside e carried =
     record {
       counted = omega (arith, p .counted, groups-step left from l some inside);
@@ -36,7 +47,11 @@ passing-more {groups} {with} {l} {held} {last} {left} {from} p some inside e car
     }
 
 -- All children passed.
-pub passing-all : {groups : ℕ} {l held : List ℕ} {left from : ℕ} → Passing groups l held left from → (left ≡ 0) ⊎ (length l ≤ from) → Filter groups l held
+pub passing-all :
+    {groups : ℕ} {l held : List ℕ} {left from : ℕ} →
+    Passing groups l held left from →
+    (left ≡ 0) ⊎ (length l ≤ from) →
+    Filter groups l held
 passing-all {groups} {l} {held} {left} {from} p past x lit two =
     let k = children (getD l 0 0) in
     let over : groups-in left (drop from l) ≡ 0 = ⊎-elim (groups-none left from l) (groups-end left from l) past in
@@ -46,7 +61,13 @@ passing-all {groups} {l} {held} {left} {from} p past x lit two =
     (either (all-share x k (drop 1 l)))
 
 -- A child that is neither a literal nor a conjunction shares no literal.
-pub passing-other : {groups : ℕ} {l held : List ℕ} {left from : ℕ} (last : List ℕ) → Passing groups l held left from → 0 < left → from < length l → 3 < kind (getD l from 0) → Filter 0 l last
+pub passing-other :
+    {groups : ℕ} {l held : List ℕ} {left from : ℕ} (last : List ℕ) →
+    Passing groups l held left from →
+    0 < left →
+    from < length l →
+    3 < kind (getD l from 0) →
+    Filter 0 l last
 unfolding is-literal
 passing-other {groups} {l} {held} {left} {from} last p some inside other x lit two =
     let k = children (getD l 0 0) in

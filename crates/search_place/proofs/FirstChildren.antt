@@ -59,7 +59,13 @@ module _ {r : ℕ} {l : List ℕ} (s : Stretch l) (h : Headed r l) where
       first-past c (λ k m. sym (applies-single s h k 0 a b refl (omega (arith, count))) ∙ ne-eqb (size (h .children)) 1 (λ e. n (c ∙ count ∙ e)))
 
   -- Rules 1 to 6: whether child i is the constant that the rule looks for.
-  pub constant-asked : r ≤ 6 → {i at x : ℕ} → i < children (getD l 0 0) → at ≡ child-at i l → x ≡ constantFor r → eqb (getD l at 0) x ≡ is-some (rewrite r i 0 (forest-in l))
+  pub constant-asked :
+      r ≤ 6 →
+      {i at x : ℕ} →
+      i < children (getD l 0 0) →
+      at ≡ child-at i l →
+      x ≡ constantFor r →
+      eqb (getD l at 0) x ≡ is-some (rewrite r i 0 (forest-in l))
   constant-asked low {i} {at} {x} lt here looked =
       ap (λ n. eqb (getD l n 0) x) here
       ∙ ap (eqb (getD l (child-at i l) 0)) looked

@@ -56,7 +56,11 @@ flat-family r (inr e) = rw e flat-merges
 
 module _ {r : ℕ} {l : List ℕ} (s : Stretch l) (h : Headed r l) (i : ℕ) where
   -- For such a rule the answer at 0 is the answer.
-  pub flat-found : (r ≤ 10) ⊎ (r ≡ 13) → is-some (rewrite r i 0 (forest-in l)) ≡ true → (p : ℕ) → some (redex r p i 0) ≡ least-j r p i (forest-in l)
+  pub flat-found :
+      (r ≤ 10) ⊎ (r ≡ 13) →
+      is-some (rewrite r i 0 (forest-in l)) ≡ true →
+      (p : ℕ) →
+      some (redex r p i 0) ≡ least-j r p i (forest-in l)
   flat-found flat t p = j-found r p (forest-in l) i 0 t (λ k m. absurd (omega arith))
 
   pub flat-none : (r ≤ 10) ⊎ (r ≡ 13) → is-some (rewrite r i 0 (forest-in l)) ≡ false → (p : ℕ) → none ≡ least-j r p i (forest-in l)
@@ -90,7 +94,9 @@ module _ {r : ℕ} {l : List ℕ} (s : Stretch l) (h : Headed r l) (i : ℕ) whe
       count : children (getD (drop at l) 0 0) ≡ children (getD l at 0)
       count = ap children (first-left at l)
 
-      asked : (j : ℕ) → (ltb j (children (getD l at 0)) && is-literal (getD l (at + child-at j (drop at l)) 0)) ≡ is-some (rewrite r i j (forest-in l))
+      asked :
+          (j : ℕ) →
+          (ltb j (children (getD l at 0)) && is-literal (getD l (at + child-at j (drop at l)) 0)) ≡ is-some (rewrite r i j (forest-in l))
       unfolding literalChild
       asked j =
           let here : literalChild j (drop at l) ≡ is-some (rewrite r i j (forest-in l)) = rw e (applies-literal s h i j (found .1) a b) in
@@ -102,12 +108,21 @@ module _ {r : ℕ} {l : List ℕ} (s : Stretch l) (h : Headed r l) (i : ℕ) whe
           let some-left : j < size (found .0) = omega (arith, count, group-children inner) in
           omega (arith, child-room inner j (omega arith), length-drop at l)
 
-      pub inner-test : (j : ℕ) → j < children (getD l at 0) → is-literal (getD l (at + child-at j (drop at l)) 0) ≡ is-some (rewrite r i j (forest-in l))
+      pub inner-test :
+          (j : ℕ) →
+          j < children (getD l at 0) →
+          is-literal (getD l (at + child-at j (drop at l)) 0) ≡ is-some (rewrite r i j (forest-in l))
       inner-test j lt = rw (lt-ltb j (children (getD l at 0)) lt) at (asked j)
 
-      pub inner-none : ((j : ℕ) → j < children (getD l at 0) → is-some (rewrite r i j (forest-in l)) ≡ false) → (p : ℕ) → none ≡ least-j r p i (forest-in l)
+      pub inner-none :
+          ((j : ℕ) → j < children (getD l at 0) → is-some (rewrite r i j (forest-in l)) ≡ false) →
+          (p : ℕ) →
+          none ≡ least-j r p i (forest-in l)
       inner-none h-below p = j-none r p (forest-in l) i (λ j m. go j (either (ltb j (children (getD l at 0)))))
         where
-          go : (j : ℕ) → (ltb j (children (getD l at 0)) ≡ true) ⊎ (ltb j (children (getD l at 0)) ≡ false) → is-some (rewrite r i j (forest-in l)) ≡ false
+          go :
+              (j : ℕ) →
+              (ltb j (children (getD l at 0)) ≡ true) ⊎ (ltb j (children (getD l at 0)) ≡ false) →
+              is-some (rewrite r i j (forest-in l)) ≡ false
           go j (inl t) = h-below j (ltb-true j (children (getD l at 0)) t)
           go j (inr t) = sym (asked j) ∙ ap (λ t. t && is-literal (getD l (at + child-at j (drop at l)) 0)) t

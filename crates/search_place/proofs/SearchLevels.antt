@@ -25,7 +25,11 @@ only-false a e = rw e
 
 module _ (r p : ℕ) (f : Forest) where
   -- Inner children.
-  pub j-found : (i j : ℕ) → is-some (rewrite r i j f) ≡ true → ((k : ℕ) → k < j → is-some (rewrite r i k f) ≡ false) → some (redex r p i j) ≡ least-j r p i f
+  pub j-found :
+      (i j : ℕ) →
+      is-some (rewrite r i j f) ≡ true →
+      ((k : ℕ) → k < j → is-some (rewrite r i k f) ≡ false) →
+      some (redex r p i j) ≡ least-j r p i f
   unfolding least-j
   j-found i j t h =
       let w = is-some-of (rewrite r i j f) t in
@@ -43,7 +47,12 @@ module _ (r p : ℕ) (f : Forest) where
   j-none i h = sym (least-none _ _ .1 (λ j l. only-false (redex r p i j) (h j l)))
 
   -- Children.
-  pub i-found : (i : ℕ) {x : Redex} → i < suc (size (kids f)) → some x ≡ least-j r p i f → ((k : ℕ) → k < i → none ≡ least-j r p k f) → some x ≡ least-i r p f
+  pub i-found :
+      (i : ℕ) {x : Redex} →
+      i < suc (size (kids f)) →
+      some x ≡ least-j r p i f →
+      ((k : ℕ) → k < i → none ≡ least-j r p k f) →
+      some x ≡ least-i r p f
   unfolding least-i
   i-found i l e h = sym (least-is (record { number = i; below = l; answer = sym e; smaller = λ k m. sym (h k m) }))
 
@@ -60,7 +69,12 @@ module _ (r p : ℕ) (f : Forest) where
 
 -- Places.
 module _ (r : ℕ) (ns : List Node) where
-  pub p-found : (p : ℕ) {x : Redex} → p < length ns → some x ≡ least-i r p (decode (drop p ns)) → ((q : ℕ) → q < p → none ≡ least-i r q (decode (drop q ns))) → some x ≡ least-place r ns
+  pub p-found :
+      (p : ℕ) {x : Redex} →
+      p < length ns →
+      some x ≡ least-i r p (decode (drop p ns)) →
+      ((q : ℕ) → q < p → none ≡ least-i r q (decode (drop q ns))) →
+      some x ≡ least-place r ns
   unfolding least-place
   p-found p l e h = sym (least-is (record { number = p; below = l; answer = sym e; smaller = λ q m. sym (h q m) }))
 
@@ -70,7 +84,13 @@ module _ (r : ℕ) (ns : List Node) where
 
 -- Rules, which count from 1.
 module _ (ns : List Node) where
-  pub r-found : (r : ℕ) {x : Redex} → 1 ≤ r → r ≤ last-rule → some x ≡ least-place r ns → ((q : ℕ) → 1 ≤ q → q < r → none ≡ least-place q ns) → some x ≡ next ns
+  pub r-found :
+      (r : ℕ) {x : Redex} →
+      1 ≤ r →
+      r ≤ last-rule →
+      some x ≡ least-place r ns →
+      ((q : ℕ) → 1 ≤ q → q < r → none ≡ least-place q ns) →
+      some x ≡ next ns
   unfolding next
   r-found zero low high e h = absurd (omega arith)
   r-found (suc r) low high e h =

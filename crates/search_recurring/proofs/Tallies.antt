@@ -49,7 +49,11 @@ module _ (p : ℕ → Bool) where
   around-told [] ys e = rw e (up-told ys)
   around-told (z ∷ xs) {x} ys e = go (p z) (tally p (xs ++ x ∷ ys)) (up-told (xs ++ x ∷ ys) ∙ any-append p xs (x ∷ ys) ∙ or-right (any p xs) (rw e)) (around-told xs ys e)
     where
-      go : (b : Bool) (n : ℕ) → eqb (up n) 2 ≡ true → eqb n 2 ≡ (any p xs || any p ys) → eqb (pick b (up n) n) 2 ≡ ((b || any p xs) || any p ys)
+      go :
+          (b : Bool) (n : ℕ) →
+          eqb (up n) 2 ≡ true →
+          eqb n 2 ≡ (any p xs || any p ys) →
+          eqb (pick b (up n) n) 2 ≡ ((b || any p xs) || any p ys)
       go true n some-one h = some-one
       go false n some-one h = h
 
@@ -80,7 +84,10 @@ twice-spreads {a} {b} {l} {t} w one h k = go (is-literal x) refl
     x : ℕ
     x = getD l a 0
 
-    go : (c : Bool) → is-literal x ≡ c → (c && eqb (getD t (value x) 0) 2) ≡ (c && (any (names (value x)) (slice 1 a l) || any (names (value x)) (slice (a + 1) b l)))
+    go :
+        (c : Bool) →
+        is-literal x ≡ c →
+        (c && eqb (getD t (value x) 0) 2) ≡ (c && (any (names (value x)) (slice 1 a l) || any (names (value x)) (slice (a + 1) b l)))
     go true e = rw (w .counted (value x) (value-small x), cut-at a b l one h k) (around-told (names (value x)) (slice 1 a l) (slice (a + 1) b l) (rw (e, eq-eqb (value x) (value x) refl)))
     go false e = refl
 

@@ -13,7 +13,12 @@ use Rattle.theory_reading.specs.Spans.{span}
 use Rattle.search_sizes.specs.SizeTables.{Sizes-from, Sizes-of, Measured}
 
 -- One entry more, before those that are right.
-pub sized-more : (p : ℕ) (l t : List ℕ) → p < length l → length t ≡ length l → Sizes-from (p + 1) l t → Sizes-from p l (set t p (span 1 (drop p l)))
+pub sized-more :
+    (p : ℕ) (l t : List ℕ) →
+    p < length l →
+    length t ≡ length l →
+    Sizes-from (p + 1) l t →
+    Sizes-from p l (set t p (span 1 (drop p l)))
 sized-more p l t h n s q from to =
     ⊎-elim
     (λ e. let same : p ≡ q = eqb-true p q e in

@@ -17,7 +17,10 @@ use Rattle.theory_forms.specs.Codes.{size-length}
 use Rattle.theory_forms.specs.Choice.{chosen-flat}
 
 -- The second and third numbers one more, and a number in place of the first zero.
-three-set : (n u r x z : ℕ) (t : List ℕ) → length t + 1 ≡ u → set (set (set (n ∷ u ∷ r ∷ t ++ replicate (suc z) 0) 1 (u + 1)) 2 (r + 1)) (2 + u) x ≡ n ∷ (u + 1) ∷ (r + 1) ∷ t ++ (x ∷ replicate z 0)
+three-set :
+    (n u r x z : ℕ) (t : List ℕ) →
+    length t + 1 ≡ u →
+    set (set (set (n ∷ u ∷ r ∷ t ++ replicate (suc z) 0) 1 (u + 1)) 2 (r + 1)) (2 + u) x ≡ n ∷ (u + 1) ∷ (r + 1) ∷ t ++ (x ∷ replicate z 0)
 three-set n u r x z t e = set-at (n ∷ (u + 1) ∷ (r + 1) ∷ t) 0 (replicate z 0) x (2 + u) (omega arith)
 
 -- On a sheet's own numbers.
@@ -66,7 +69,10 @@ module _ (s : List ℕ) (h : Formed s) where
         root-small = omega (arith, size-length (form .kids));
       }
 
-  pub append-sheet : (l : Literal) → weight (nodes-in s) + literal-weight ≤ most-weight → set (set (set s 1 (getD s 1 0 + 1)) 2 (getD s 2 0 + 1)) (2 + getD s 1 0) (number-of (leaf l)) ≡ M.appended s l
+  pub append-sheet :
+      (l : Literal) →
+      weight (nodes-in s) + literal-weight ≤ most-weight →
+      set (set (set s 1 (getD s 1 0 + 1)) 2 (getD s 2 0 + 1)) (2 + getD s 1 0) (number-of (leaf l)) ≡ M.appended s l
   unfolding sheet-of weight M.appended
   append-sheet l w =
       let facts = h in

@@ -60,7 +60,12 @@ module _ {d : List ℕ} {start end : ℕ} {src : List ℕ} {i : ℕ} {s : List �
       rw (w .made, take-all (w .count) src (omega arith), e) (append-assoc (take start d) src (drop end d))
 
 -- A part whose numbers are each replaced in their place.
-pub written-mapped : {d : List ℕ} {start end i : ℕ} {s : List ℕ} (f : ℕ → ℕ) (v : ℕ) → Written d start end (map f (slice start end d)) i s → i < end → v ≡ f (getD s i 0) → Written d start end (map f (slice start end d)) (i + 1) (set s i v)
+pub written-mapped :
+    {d : List ℕ} {start end i : ℕ} {s : List ℕ} (f : ℕ → ℕ) (v : ℕ) →
+    Written d start end (map f (slice start end d)) i s →
+    i < end →
+    v ≡ f (getD s i 0) →
+    Written d start end (map f (slice start end d)) (i + 1) (set s i v)
 written-mapped {d} {start} {end} {i} f v w h e =
     let k = w .count in
     let part : getD (slice start end d) k 0 ≡ getD d (start + k) 0 = getD-drop start (take end d) k 0 ∙ getD-take end d (start + k) 0 (omega arith) in
@@ -104,7 +109,13 @@ module _ {d : List ℕ} {from i : ℕ} {s : List ℕ} (o : Opened d from i s) wh
       }
 
 -- Numbers that have moved up, with zeros in the places that they left.
-pub removed : (l p q : List ℕ) (start count : ℕ) → start + count ≤ length l → length p ≡ length l → p ≡ take start l ++ (drop (start + count) l ++ drop (length l - count) l) → q ≡ take (length p - count) p ++ replicate (length p - (length p - count)) 0 → q ≡ take start l ++ (drop (start + count) l ++ replicate count 0)
+pub removed :
+    (l p q : List ℕ) (start count : ℕ) →
+    start + count ≤ length l →
+    length p ≡ length l →
+    p ≡ take start l ++ (drop (start + count) l ++ drop (length l - count) l) →
+    q ≡ take (length p - count) p ++ replicate (length p - (length p - count)) 0 →
+    q ≡ take start l ++ (drop (start + count) l ++ replicate count 0)
 removed l p q start count h same e f =
     let before = take start l in
     let after = drop (start + count) l in

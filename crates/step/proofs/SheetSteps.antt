@@ -62,7 +62,12 @@ module _ (s : List ℕ) (h : Formed s) where
       ∙ ap (λ o. sheet-of (options-in s) (maybe ns (λ xs. xs) o)) (sym (step-some r p i j ns (w .1)))
 
   -- A step that keeps the number of nodes leaves the used count right.
-  pub turned-level : (r p i j : ℕ) → is-some (M.step r p i j (nodes-in s)) ≡ true → 9 ≤ r → r ≤ 12 → take (2 + p) s ++ rewritten-to r i j (drop (2 + p) s) ≡ stepped s r p i j
+  pub turned-level :
+      (r p i j : ℕ) →
+      is-some (M.step r p i j (nodes-in s)) ≡ true →
+      9 ≤ r →
+      r ≤ 12 →
+      take (2 + p) s ++ rewritten-to r i j (drop (2 + p) s) ≡ stepped s r p i j
   unfolding stepped maybe sheet-of then M.step
   turned-level r p i j t low high =
       let ns = nodes-in s in
@@ -109,7 +114,9 @@ module _ (s : List ℕ) (h : Formed s) (r p i j : ℕ) (t : is-some (M.step r p 
         lent-back (2 + p) s ys (omega (arith, ready .whole, ready .within))
         ∙ ap (λ xs. take (2 + p) s ++ xs) (e ∙ ap (rewritten-to r i j) (lent-part (2 + p) s))
 
-    pub back-long : length ys ≡ length (midOf (2 + p) (length s - (2 + p)) s) → length (putMid (2 + p) (length s - (2 + p)) s ys) ≡ sheet-length
+    pub back-long :
+        length ys ≡ length (midOf (2 + p) (length s - (2 + p)) s) →
+        length (putMid (2 + p) (length s - (2 + p)) s ys) ≡ sheet-length
     back-long n =
         let long : length ys ≡ length s - (2 + p) = n ∙ ap length (lent-part (2 + p) s) ∙ length-drop (2 + p) s in
         let all = lent-back (2 + p) s ys (omega (arith, ready .whole, ready .within)) in

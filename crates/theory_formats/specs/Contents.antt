@@ -55,7 +55,10 @@ in-line-are t sum (e ∷ es) h =
     (in-line-are t (sum + e .count) es (s .1))
 
 -- And pairs in line are the places that their counts give, every count is at least 1, and the sum is the one due.
-pub in-line-means : (t sum : ℕ) (es : List Entry) → in-line t sum es ≡ true → (es ≡ places sum (node-counts es)) × (all (leb 1) (node-counts es) ≡ true) × (sum + total (node-counts es) ≡ t)
+pub in-line-means :
+    (t sum : ℕ) (es : List Entry) →
+    in-line t sum es ≡ true →
+    (es ≡ places sum (node-counts es)) × (all (leb 1) (node-counts es) ≡ true) × (sum + total (node-counts es) ≡ t)
 in-line-means t sum es h =
     let ks : List ℕ = node-counts es in
     let are = in-line-are t sum es h in

@@ -52,7 +52,13 @@ counts-one (lit l f) e = rw (size-zero f (omega arith))
 counts-one (node c k f) e = rw (size-zero f (omega arith)) (ap (λ ns. suc (length ns) ∷ []) (sym (append-nil (encode k))))
 
 -- Numbers whose nodes are the code of one tree and of trees after it: those of the tree are a well-formed body.
-body-first : (n k : ℕ) (t f : Forest) (xs : List ℕ) → size t ≡ 1 → length (encode t) ≡ k → map node-of xs ≡ encode (t ⊕ f) → all (body-node n) xs ≡ true → (body-ok n (take k xs) ≡ true) × (map node-of (drop k xs) ≡ encode f) × (all (body-node n) (drop k xs) ≡ true)
+body-first :
+    (n k : ℕ) (t f : Forest) (xs : List ℕ) →
+    size t ≡ 1 →
+    length (encode t) ≡ k →
+    map node-of xs ≡ encode (t ⊕ f) →
+    all (body-node n) xs ≡ true →
+    (body-ok n (take k xs) ≡ true) × (map node-of (drop k xs) ≡ encode f) × (all (body-node n) (drop k xs) ≡ true)
 unfolding body-ok one-tree exactly-one
 body-first n k t f xs one wide e h =
     let parts : map node-of xs ≡ encode t ++ encode f = e ∙ encode-⊕ t f in
@@ -64,7 +70,11 @@ body-first n k t f xs one wide e h =
     )
 
 -- Numbers of a forest's code, cut by its node counts, are well-formed bodies.
-pub bodies-ok : (n sum : ℕ) (f : Forest) (xs : List ℕ) → map node-of xs ≡ encode f → all (body-node n) xs ≡ true → all (body-ok n) (cut (places sum (counts f)) xs) ≡ true
+pub bodies-ok :
+    (n sum : ℕ) (f : Forest) (xs : List ℕ) →
+    map node-of xs ≡ encode f →
+    all (body-node n) xs ≡ true →
+    all (body-ok n) (cut (places sum (counts f)) xs) ≡ true
 unfolding counts places cut all encode size _⊕_
 bodies-ok n sum nil xs e h = refl
 bodies-ok n sum (lit l f) xs e h =

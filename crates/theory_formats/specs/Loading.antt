@@ -57,12 +57,18 @@ forest-of (x ∷ xs) = decode (map node-of x) ⊕ forest-of xs
 
 module _ (n : ℕ) where
   -- A body is the code of one tree.
-  pub body-tree : (xs : List ℕ) → body-ok n xs ≡ true → (encode (decode (map node-of xs)) ≡ map node-of xs) × (size (decode (map node-of xs)) ≡ 1)
+  pub body-tree :
+      (xs : List ℕ) →
+      body-ok n xs ≡ true →
+      (encode (decode (map node-of xs)) ≡ map node-of xs) × (size (decode (map node-of xs)) ≡ 1)
   unfolding body-ok
   body-tree xs h = encode-decode (map node-of xs) 1 (one-tree-is (map node-of xs) (and-split (all (body-node n) xs) _ h .1))
 
   -- The bodies, one after another, are the code of their trees.
-  pub bodies-code : (xss : List (List ℕ)) → all (body-ok n) xss ≡ true → (encode (forest-of xss) ≡ map node-of (flatten xss)) × (size (forest-of xss) ≡ length xss)
+  pub bodies-code :
+      (xss : List (List ℕ)) →
+      all (body-ok n) xss ≡ true →
+      (encode (forest-of xss) ≡ map node-of (flatten xss)) × (size (forest-of xss) ≡ length xss)
   unfolding all flatten forest-of encode size
   bodies-code [] h = (refl, refl)
   bodies-code (xs ∷ xss) h =

@@ -28,7 +28,10 @@ use Rattle.theory_formats.specs.BookParts.{book-of, Fit, Reads, book-rea
 
 -- What is written of a sheet whose root has these children: a book of the sheet's options, the other book's codes, the
 -- contents that the node counts of the children give, and their numbers.
-written-parts : (s b : List ℕ) (f : Forest) → nodes-in s ≡ encode (node root f nil) → written s b ≡ book-of (options-in s) (take (code-length * options-in s) (drop head-length b)) (places 0 (counts f)) (drop 1 (numbers-in s))
+written-parts :
+    (s b : List ℕ) (f : Forest) →
+    nodes-in s ≡ encode (node root f nil) →
+    written s b ≡ book-of (options-in s) (take (code-length * options-in s) (drop head-length b)) (places 0 (counts f)) (drop 1 (numbers-in s))
 unfolding written written-rules book-of kids
 written-parts s b f e =
     let whole : decode (nodes-in s) ≡ node root f nil = ap decode e ∙ decode-encode (node root f nil) in

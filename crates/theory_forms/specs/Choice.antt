@@ -44,7 +44,10 @@ module _ {n : ℕ} {ns : List Node} (l : Literal) (form : Shaped n ns) where
       let old = ap weight (shaped-flat form) in
       omega (arith, length-append below (leaf l ∷ []), literals-append below (leaf l ∷ []))
 
-pub chosen-flat : {n k : ℕ} {ns : List Node} (l : Literal) → Shaped n (head root k ∷ ns) → chosen l (head root k ∷ ns) ≡ head root (suc k) ∷ ns ++ (leaf l ∷ [])
+pub chosen-flat :
+    {n k : ℕ} {ns : List Node} (l : Literal) →
+    Shaped n (head root k ∷ ns) →
+    chosen l (head root k ∷ ns) ≡ head root (suc k) ∷ ns ++ (leaf l ∷ [])
 chosen-flat {n} {k} {ns} l form =
     let flat = shaped-flat form in
     let count : size (form .kids) ≡ k = cc in

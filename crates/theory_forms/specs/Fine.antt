@@ -27,6 +27,9 @@ module _ (n : ℕ) where
   unfolding fine
   fine-lit l f h = and-split (ltb (option l) n) (fine n f) h
 
-  pub fine-node : (c : Conn) (k f : Forest) → fine n (node c k f) ≡ true → (same-conn root c ≡ false) × (fine n k ≡ true) × (fine n f ≡ true)
+  pub fine-node :
+      (c : Conn) (k f : Forest) →
+      fine n (node c k f) ≡ true →
+      (same-conn root c ≡ false) × (fine n k ≡ true) × (fine n f ≡ true)
   unfolding fine
   fine-node c k f h = not-and-split (same-conn root c) (fine n k) (fine n f) h

@@ -207,11 +207,20 @@ groups-size (lit x f) = omega (arith, groups-size f)
 groups-size (node c k f) = omega (arith, groups-size f)
 
 -- What a literal becomes where another is assigned, by the test for the same literal and for its complement.
-pub assigned-lit : (P : Forest → Type 0) (c : Conn) (l x : Literal) (f : Forest) → (same l x ≡ true → P (node (neutral c) nil (assigned c l f))) → (same (complement l) x ≡ true → P (node (deciding c) nil (assigned c l f))) → (same l x ≡ false → same (complement l) x ≡ false → P (lit x (assigned c l f))) → P (assigned c l (lit x f))
+pub assigned-lit :
+    (P : Forest → Type 0) (c : Conn) (l x : Literal) (f : Forest) →
+    (same l x ≡ true → P (node (neutral c) nil (assigned c l f))) →
+    (same (complement l) x ≡ true → P (node (deciding c) nil (assigned c l f))) →
+    (same l x ≡ false → same (complement l) x ≡ false → P (lit x (assigned c l f))) →
+    P (assigned c l (lit x f))
 unfolding assigned pick
 assigned-lit P c l x f same-one other-one neither = go (same l x) (same (complement l) x) refl refl
   where
-    go : (a b : Bool) → same l x ≡ a → same (complement l) x ≡ b → P (pick a (node (neutral c) nil (assigned c l f)) (pick b (node (deciding c) nil (assigned c l f)) (lit x (assigned c l f))))
+    go :
+        (a b : Bool) →
+        same l x ≡ a →
+        same (complement l) x ≡ b →
+        P (pick a (node (neutral c) nil (assigned c l f)) (pick b (node (deciding c) nil (assigned c l f)) (lit x (assigned c l f))))
     go true b e o = same-one e
     go false true e o = other-one o
     go false false e o = neither e o

@@ -43,7 +43,10 @@ module _ {A : Type 0} (p : A → Bool) where
   any-at [] e = true-false (sym e)
   any-at (y ∷ ys) e = go (or-split (p y) (any p ys) e) (any-at ys)
     where
-      go : (p y ≡ true) ⊎ (any p ys ≡ true) → (any p ys ≡ true → (x : A) × List·Memᴰ x ys × (p x ≡ true)) → (x : A) × List·Memᴰ x (y ∷ ys) × (p x ≡ true)
+      go :
+          (p y ≡ true) ⊎ (any p ys ≡ true) →
+          (any p ys ≡ true → (x : A) × List·Memᴰ x ys × (p x ≡ true)) →
+          (x : A) × List·Memᴰ x (y ∷ ys) × (p x ≡ true)
       go (inl q) h = (y, List·Memᴰ·head refl, q)
       go (inr q) h = let w = h q in (w .0, List·Memᴰ·tail (w .1), w .2)
 

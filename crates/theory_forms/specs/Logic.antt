@@ -150,7 +150,10 @@ unfolding then
 then-none none f = ((λ e. refl), λ e. refl)
 then-none (some a) f = ((λ e. none-some (sym e)), λ e. none-some (sym e))
 
-pub then-then-none : {A B C : Type 0} (o : Option A) (t : A → Option B) (f : B → C) → then o (λ x. then (t x) (λ y. some (f y))) ≡ none → then o t ≡ none
+pub then-then-none :
+    {A B C : Type 0} (o : Option A) (t : A → Option B) (f : B → C) →
+    then o (λ x. then (t x) (λ y. some (f y))) ≡ none →
+    then o t ≡ none
 unfolding then
 then-then-none none t f e = refl
 then-then-none (some a) t f e = then-none (t a) f .0 e

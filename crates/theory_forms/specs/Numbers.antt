@@ -146,7 +146,11 @@ known-body n x h = go (eqb (kind x) 1 || eqb (kind x) 2) refl h
     within : 1 ≤ kind x → kind x ≤ 5 → known x ≡ true
     within l m = and-join (le-leb 1 (kind x) l) (le-leb (kind x) 5 m)
 
-    go : (b : Bool) → (eqb (kind x) 1 || eqb (kind x) 2) ≡ b → pick b (ltb (value x) n) (eqb (kind x) 3 || eqb (kind x) 4) ≡ true → known x ≡ true
+    go :
+        (b : Bool) →
+        (eqb (kind x) 1 || eqb (kind x) 2) ≡ b →
+        pick b (ltb (value x) n) (eqb (kind x) 3 || eqb (kind x) 4) ≡ true →
+        known x ≡ true
     go true e t = let r = of-two 1 e in within (omega arith) (omega arith)
     go false e t = let r = of-two 3 t in within (omega arith) (omega arith)
 

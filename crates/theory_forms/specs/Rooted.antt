@@ -23,7 +23,10 @@ no-root-⊕ (lit l f) g = no-root-⊕ f g
 no-root-⊕ (node c k f) g =
     rw (no-root-⊕ f g) (sym (and-assoc (not (same-conn root c) && no-root k) (no-root f) (no-root g)))
 
-pub no-root-node : (c : Conn) (k f : Forest) → no-root (node c k f) ≡ true → (same-conn root c ≡ false) × (no-root k ≡ true) × (no-root f ≡ true)
+pub no-root-node :
+    (c : Conn) (k f : Forest) →
+    no-root (node c k f) ≡ true →
+    (same-conn root c ≡ false) × (no-root k ≡ true) × (no-root f ≡ true)
 unfolding no-root
 no-root-node c k f e = not-and-split (same-conn root c) (no-root k) (no-root f) e
 

@@ -90,7 +90,9 @@ unfolding scan joined-by trees all pick then only-if
 scan-trees n [] = refl
 scan-trees n (x ∷ xs) = rw (scan-trees n xs) (go (body-node n x) (all (body-node n) xs) (trees (map node-of xs)))
   where
-    go : (b a : Bool) (o : Option ℕ) → then (pick a o none) (λ t. then (only-if b t) (joined (node-of x))) ≡ pick (b && a) (then o (joined (node-of x))) none
+    go :
+        (b a : Bool) (o : Option ℕ) →
+        then (pick a o none) (λ t. then (only-if b t) (joined (node-of x))) ≡ pick (b && a) (then o (joined (node-of x))) none
     go true true none = refl
     go true true (some t) = refl
     go true false o = refl
@@ -121,13 +123,21 @@ unfolding scan joined-by counted then only-if
 scan-count n [] = omega arith
 scan-count n (x ∷ xs) = go (scan n xs) (body-node n x) (scan-count n xs)
   where
-    go : (o : Option ℕ) (b : Bool) → counted o ≤ length xs → counted (then o (λ t. then (only-if b t) (joined (node-of x)))) ≤ suc (length xs)
+    go :
+        (o : Option ℕ) (b : Bool) →
+        counted o ≤ length xs →
+        counted (then o (λ t. then (only-if b t) (joined (node-of x)))) ≤ suc (length xs)
     go none b h = omega arith
     go (some t) true h = omega (arith, joined-count (node-of x) t)
     go (some t) false h = omega arith
 
 -- One number more, before a part of a list.
-pub scan-before : (n i end : ℕ) (s : List ℕ) → 0 < i → i ≤ end → end ≤ length s → scan n (slice (i - 1) end s) ≡ then (scan n (slice i end s)) (joined-by n (getD s (i - 1) 0))
+pub scan-before :
+    (n i end : ℕ) (s : List ℕ) →
+    0 < i →
+    i ≤ end →
+    end ≤ length s →
+    scan n (slice (i - 1) end s) ≡ then (scan n (slice i end s)) (joined-by n (getD s (i - 1) 0))
 unfolding scan
 scan-before n zero end s h k l = absurd (omega arith)
 scan-before n (suc j) end s h k l = let e : suc j - 1 ≡ j = omega arith in rw (e, slice-cons j end s 0)
@@ -150,15 +160,22 @@ unfolding node-of pick
 root-node x h = rw (eqb-true (kind x) 5 h)
 
 -- A tree with the root at its head and nowhere else: the head is of kind 5, and the rest are as many trees as it has children.
-pub rooted-scan : (n x : ℕ) (xs : List ℕ) → (rooted n (x ∷ xs) && one-tree (map node-of (x ∷ xs))) ≡ (eqb (kind x) 5 && maybe false (λ t. eqb t (children x)) (scan n xs))
+pub rooted-scan :
+    (n x : ℕ) (xs : List ℕ) →
+    (rooted n (x ∷ xs) && one-tree (map node-of (x ∷ xs))) ≡ (eqb (kind x) 5 && maybe false (λ t. eqb t (children x)) (scan n xs))
 unfolding rooted one-tree exactly-one trees then joined maybe pick
 rooted-scan n x xs = rw (scan-trees n xs) (go (eqb (kind x) 5) refl)
   where
-    rest : (a : Bool) (o : Option ℕ) → (a && exactly-one (then o (joined (head root (children x))))) ≡ maybe false (λ t. eqb t (children x)) (pick a o none)
+    rest :
+        (a : Bool) (o : Option ℕ) →
+        (a && exactly-one (then o (joined (head root (children x))))) ≡ maybe false (λ t. eqb t (children x)) (pick a o none)
     rest true none = refl
     rest true (some t) = takes-all (children x) t
     rest false o = refl
 
-    go : (b : Bool) → eqb (kind x) 5 ≡ b → ((b && all (body-node n) xs) && one-tree (node-of x ∷ map node-of xs)) ≡ (b && maybe false (λ t. eqb t (children x)) (pick (all (body-node n) xs) (trees (map node-of xs)) none))
+    go :
+        (b : Bool) →
+        eqb (kind x) 5 ≡ b →
+        ((b && all (body-node n) xs) && one-tree (node-of x ∷ map node-of xs)) ≡ (b && maybe false (λ t. eqb t (children x)) (pick (all (body-node n) xs) (trees (map node-of xs)) none))
     go true e = rw (root-node x e) (rest (all (body-node n) xs) (trees (map node-of xs)))
     go false e = refl

@@ -115,12 +115,17 @@ unfolding all others pick with-one
 all-others s l [] = refl
 all-others s l (x ∷ c) = rw (same-sym x l) (go (same l x) (all-others s l c))
   where
-    go : (b : Bool) → all s (others l c) ≡ all (with-one s l) c → all s (pick b (others l c) (x ∷ others l c)) ≡ ((s x || b) && all (with-one s l) c)
+    go :
+        (b : Bool) →
+        all s (others l c) ≡ all (with-one s l) c →
+        all s (pick b (others l c) (x ∷ others l c)) ≡ ((s x || b) && all (with-one s l) c)
     go true e = rw or-true e
     go false e = rw (or-false, e)
 
 -- All but one literal of a clause lie inside a set.
-pub all-but-one : (s : Set) (l : Literal) (c : Clause) → (all (with-one s l) c ≡ true) ↔ ((x : Literal) → List·Memᴰ x c → (x ≡ l → ⊥) → s x ≡ true)
+pub all-but-one :
+    (s : Set) (l : Literal) (c : Clause) →
+    (all (with-one s l) c ≡ true) ↔ ((x : Literal) → List·Memᴰ x c → (x ≡ l → ⊥) → s x ≡ true)
 unfolding with-one
 all-but-one s l c = (
   λ e x m n. ⊎-elim (λ h. h) (λ h. absurd (n (same-is x l h))) (or-split (s x) (same x l) (all-at (with-one s l) c e m)),

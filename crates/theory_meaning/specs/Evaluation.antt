@@ -102,7 +102,12 @@ one-more true r n =
     (λ e. or-left _ (le-leb r n (omega (arith, leb-true (suc r) (suc n) e))))
 one-more false r n = refl
 
-more-inside : (s : Set) (cs : List Clause) (later : ℕ → List Clause) (b : Bool) (n : ℕ) → some-inside s cs ≡ b → ((r : ℕ) → some-inside s (later r) ≡ leb r n) → (r : ℕ) → some-inside s (one-tree-more cs later r) ≡ leb r (pick b (suc n) n)
+more-inside :
+    (s : Set) (cs : List Clause) (later : ℕ → List Clause) (b : Bool) (n : ℕ) →
+    some-inside s cs ≡ b →
+    ((r : ℕ) → some-inside s (later r) ≡ leb r n) →
+    (r : ℕ) →
+    some-inside s (one-tree-more cs later r) ≡ leb r (pick b (suc n) n)
 unfolding some-inside one-tree-more any all
 more-inside s cs later b n e h zero = sym (leb·zero (pick b (suc n) n))
 more-inside s cs later b n e h (suc r) =

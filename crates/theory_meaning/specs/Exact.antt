@@ -18,7 +18,9 @@ use Rattle.theory_forms.specs.Literals.{same-is, not-same, mem-has, same-sym}
 use Rattle.theory_meaning.specs.Clauses.{all-others, all-but-one}
 
 -- The other literals of a clause are refuted.
-pub refuted-others : (facts : List Literal) (l : Literal) (c : Clause) → (refuted facts (others l c) ≡ true) ↔ ((x : Literal) → List·Memᴰ x c → (x ≡ l → ⊥) → has (complement x) facts ≡ true)
+pub refuted-others :
+    (facts : List Literal) (l : Literal) (c : Clause) →
+    (refuted facts (others l c) ≡ true) ↔ ((x : Literal) → List·Memᴰ x c → (x ≡ l → ⊥) → has (complement x) facts ≡ true)
 unfolding refuted
 refuted-others facts l c = rw (all-others (λ x. has (complement x) facts) l c) (all-but-one (λ x. has (complement x) facts) l c)
 
@@ -62,7 +64,10 @@ module _ (facts : List Literal) where
   forced-in-some c [] e = none-some e
   forced-in-some c (y ∷ ls) {l} e = go (first-some (only-if (forces facts c y) y) (forced-in facts c ls) e) (forced-in-some c ls)
     where
-      go : (only-if (forces facts c y) y ≡ some l) ⊎ (forced-in facts c ls ≡ some l) → (forced-in facts c ls ≡ some l → List·Memᴰ l ls × (forces facts c l ≡ true)) → List·Memᴰ l (y ∷ ls) × (forces facts c l ≡ true)
+      go :
+          (only-if (forces facts c y) y ≡ some l) ⊎ (forced-in facts c ls ≡ some l) →
+          (forced-in facts c ls ≡ some l → List·Memᴰ l ls × (forces facts c l ≡ true)) →
+          List·Memᴰ l (y ∷ ls) × (forces facts c l ≡ true)
       go (inl q) h = let w = only-some (forces facts c y) y q in (List·Memᴰ·head (sym (w .1)), rw (w .1) at (w .0))
       go (inr q) h = (List·Memᴰ·tail (h q .0), h q .1)
 
@@ -71,16 +76,27 @@ module _ (facts : List Literal) where
   forced-in-none c (y ∷ ls) {l} e (List·Memᴰ·head q) = rw q (only-none (forces facts c y) y (first-none (only-if (forces facts c y) y) (forced-in facts c ls) e .0))
   forced-in-none c (y ∷ ls) e (List·Memᴰ·tail m) = forced-in-none c ls (first-none (only-if (forces facts c y) y) (forced-in facts c ls) e .1) m
 
-  forced-some : (cs : List Clause) {l : Literal} → forced facts cs ≡ some l → (c : Clause) × List·Memᴰ c cs × List·Memᴰ l c × (forces facts c l ≡ true)
+  forced-some :
+      (cs : List Clause) {l : Literal} →
+      forced facts cs ≡ some l →
+      (c : Clause) × List·Memᴰ c cs × List·Memᴰ l c × (forces facts c l ≡ true)
   unfolding forced
   forced-some [] e = none-some e
   forced-some (d ∷ cs) {l} e = go (first-some (forced-in facts d d) (forced facts cs) e) (forced-some cs)
     where
-      go : (forced-in facts d d ≡ some l) ⊎ (forced facts cs ≡ some l) → (forced facts cs ≡ some l → (c : Clause) × List·Memᴰ c cs × List·Memᴰ l c × (forces facts c l ≡ true)) → (c : Clause) × List·Memᴰ c (d ∷ cs) × List·Memᴰ l c × (forces facts c l ≡ true)
+      go :
+          (forced-in facts d d ≡ some l) ⊎ (forced facts cs ≡ some l) →
+          (forced facts cs ≡ some l → (c : Clause) × List·Memᴰ c cs × List·Memᴰ l c × (forces facts c l ≡ true)) →
+          (c : Clause) × List·Memᴰ c (d ∷ cs) × List·Memᴰ l c × (forces facts c l ≡ true)
       go (inl q) h = let w = forced-in-some d d q in (d, List·Memᴰ·head refl, w .0, w .1)
       go (inr q) h = let w = h q in (w .0, List·Memᴰ·tail (w .1), w .2, w .3)
 
-  forced-none : (cs : List Clause) {c : Clause} {l : Literal} → forced facts cs ≡ none → List·Memᴰ c cs → List·Memᴰ l c → forces facts c l ≡ false
+  forced-none :
+      (cs : List Clause) {c : Clause} {l : Literal} →
+      forced facts cs ≡ none →
+      List·Memᴰ c cs →
+      List·Memᴰ l c →
+      forces facts c l ≡ false
   unfolding forced
   forced-none (d ∷ cs) {c} e (List·Memᴰ·head q) k = forced-in-none c c (rw q (first-none (forced-in facts d d) (forced facts cs) e .0)) k
   forced-none (d ∷ cs) e (List·Memᴰ·tail m) k = forced-none cs (first-none (forced-in facts d d) (forced facts cs) e .1) m k
@@ -100,12 +116,21 @@ missing-few facts (x ∷ ls) = go (has x facts) (missing-few facts ls)
     go false h = omega arith
 
 -- A new fact that stands in the list leaves fewer missing.
-missing-fewer : (facts ls : List Literal) (l : Literal) → has l facts ≡ false → missing (l ∷ facts) ls + pick (has l ls) 1 0 ≤ missing facts ls
+missing-fewer :
+    (facts ls : List Literal) (l : Literal) →
+    has l facts ≡ false →
+    missing (l ∷ facts) ls + pick (has l ls) 1 0 ≤ missing facts ls
 unfolding missing pick has any
 missing-fewer facts [] l f = omega arith
 missing-fewer facts (x ∷ ls) l f = rw (same-sym l x) (go (same x l) refl (has x facts) refl (missing-fewer facts ls l f))
   where
-    go : (b : Bool) → same x l ≡ b → (h : Bool) → has x facts ≡ h → missing (l ∷ facts) ls + pick (has l ls) 1 0 ≤ missing facts ls → pick (b || h) (missing (l ∷ facts) ls) (suc (missing (l ∷ facts) ls)) + pick (b || has l ls) 1 0 ≤ pick h (missing facts ls) (suc (missing facts ls))
+    go :
+        (b : Bool) →
+        same x l ≡ b →
+        (h : Bool) →
+        has x facts ≡ h →
+        missing (l ∷ facts) ls + pick (has l ls) 1 0 ≤ missing facts ls →
+        pick (b || h) (missing (l ∷ facts) ls) (suc (missing (l ∷ facts) ls)) + pick (b || has l ls) 1 0 ≤ pick h (missing facts ls) (suc (missing facts ls))
     go true e true g r = true-false (sym g ∙ ap (λ y. has y facts) (same-is x l e) ∙ f)
     go true e false g r = omega arith
     go false e true g r = r
@@ -121,7 +146,10 @@ module _ (cs : List Clause) (facts : List Literal) (s : Sound cs facts) where
       go false b p q = true-false (sym p ∙ q)
 
   -- A forced literal is derived, and leaves fewer missing.
-  forced-more : (l : Literal) → forced facts cs ≡ some l → Sound cs (l ∷ facts) × (missing (l ∷ facts) (flatten cs) + 1 ≤ missing facts (flatten cs))
+  forced-more :
+      (l : Literal) →
+      forced facts cs ≡ some l →
+      Sound cs (l ∷ facts) × (missing (l ∷ facts) (flatten cs) + 1 ≤ missing facts (flatten cs))
   unfolding has any pick
   forced-more l e =
       let w = forced-some facts cs e in
@@ -132,7 +160,11 @@ module _ (cs : List Clause) (facts : List Literal) (s : Sound cs facts) where
       )
 
 -- Rounds enough for all that is missing saturate sound facts.
-saturate : (n : ℕ) (cs : List Clause) (facts : List Literal) → Sound cs facts → missing facts (flatten cs) ≤ n → Saturated cs (propagate n cs facts)
+saturate :
+    (n : ℕ) (cs : List Clause) (facts : List Literal) →
+    Sound cs facts →
+    missing facts (flatten cs) ≤ n →
+    Saturated cs (propagate n cs facts)
 unfolding propagate maybe
 saturate zero cs facts s h = go (forced facts cs) refl
   where
@@ -141,7 +173,11 @@ saturate zero cs facts s h = go (forced facts cs) refl
     go (some l) e = let fewer = forced-more cs facts s l e .1 in absurd (omega arith)
 saturate (suc n) cs facts s h = go (forced facts cs) refl (λ l. saturate n cs (l ∷ facts))
   where
-    go : (o : Option Literal) → forced facts cs ≡ o → ((l : Literal) → Sound cs (l ∷ facts) → missing (l ∷ facts) (flatten cs) ≤ n → Saturated cs (propagate n cs (l ∷ facts))) → Saturated cs (maybe facts (λ l. propagate n cs (l ∷ facts)) o)
+    go :
+        (o : Option Literal) →
+        forced facts cs ≡ o →
+        ((l : Literal) → Sound cs (l ∷ facts) → missing (l ∷ facts) (flatten cs) ≤ n → Saturated cs (propagate n cs (l ∷ facts))) →
+        Saturated cs (maybe facts (λ l. propagate n cs (l ∷ facts)) o)
     go none e more = at-rest cs facts s e
     go (some l) e more = let w = forced-more cs facts s l e in let fewer = w .1 in more l (w .0) (omega arith)
 

@@ -27,7 +27,13 @@ pub record Tells (n : ℕ) (cs : List Clause) (r : Report) : Type 0 where
   pub is-open : (Contradictory cs → ⊥) → (v : ℕ) → v < n → (getD (r .marks) v 0 ≡ 0) ↔ ((Derived cs (pos v) → ⊥) × (Derived cs (neg v) → ⊥))
 
 -- What a mark says, of two tests that never hold both.
-told : {A B : Type 0} (x : ℕ) (a b : Bool) → x ≡ pick a 1 (pick b 2 0) → (a ≡ true) ↔ A → (b ≡ true) ↔ B → (A → B → ⊥) → ((x ≡ 1) ↔ A) × ((x ≡ 2) ↔ B) × ((x ≡ 0) ↔ ((A → ⊥) × (B → ⊥)))
+told :
+    {A B : Type 0} (x : ℕ) (a b : Bool) →
+    x ≡ pick a 1 (pick b 2 0) →
+    (a ≡ true) ↔ A →
+    (b ≡ true) ↔ B →
+    (A → B → ⊥) →
+    ((x ≡ 1) ↔ A) × ((x ≡ 2) ↔ B) × ((x ≡ 0) ↔ ((A → ⊥) × (B → ⊥)))
 unfolding pick
 told x true true e p q n = absurd (n (p .0 refl) (q .0 refl))
 told x true false e p q n = (
@@ -82,7 +88,13 @@ report-tells n cs = report-by-tells n (facts-saturated cs)
 
 -- A report is settled by what it tells: with the same contradiction and, short of that, the same derived literals, two
 -- reports are one.
-pub tells-equal : (n : ℕ) {cs ds : List Clause} {r s : Report} → Tells n cs r → Tells n ds s → Contradictory cs ↔ Contradictory ds → ((Contradictory cs → ⊥) → (l : Literal) → Derived cs l ↔ Derived ds l) → r ≡ s
+pub tells-equal :
+    (n : ℕ) {cs ds : List Clause} {r s : Report} →
+    Tells n cs r →
+    Tells n ds s →
+    Contradictory cs ↔ Contradictory ds →
+    ((Contradictory cs → ⊥) → (l : Literal) → Derived cs l ↔ Derived ds l) →
+    r ≡ s
 tells-equal n {cs} {ds} {r} {s} t u both facts = λ i. record { contradictory = tests i; marks = lists i }
   where
     tests : r .contradictory ≡ s .contradictory
@@ -106,7 +118,11 @@ tells-equal n {cs} {ds} {r} {s} t u both facts = λ i. record { contradictory = 
         (contradictory-or-not cs)
 
 -- The reports of two lists of clauses with the same contradiction and the same derived literals are equal.
-pub tells-same : (n : ℕ) {cs ds : List Clause} → Contradictory cs ↔ Contradictory ds → ((Contradictory cs → ⊥) → (l : Literal) → Derived cs l ↔ Derived ds l) → report n cs ≡ report n ds
+pub tells-same :
+    (n : ℕ) {cs ds : List Clause} →
+    Contradictory cs ↔ Contradictory ds →
+    ((Contradictory cs → ⊥) → (l : Literal) → Derived cs l ↔ Derived ds l) →
+    report n cs ≡ report n ds
 tells-same n {cs} {ds} = tells-equal n (report-tells n cs) (report-tells n ds)
 
 -- Any saturated facts give the report, however they were found.

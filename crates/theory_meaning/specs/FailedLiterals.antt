@@ -86,7 +86,13 @@ unfolding has any kept pick
 has-kept p [] l = refl
 has-kept p (x ∷ ls) l = go (p x) refl (same l x) refl (has-kept p ls l)
   where
-    go : (a : Bool) → p x ≡ a → (b : Bool) → same l x ≡ b → has l (kept p ls) ≡ (has l ls && p l) → has l (pick a (x ∷ kept p ls) (kept p ls)) ≡ ((b || has l ls) && p l)
+    go :
+        (a : Bool) →
+        p x ≡ a →
+        (b : Bool) →
+        same l x ≡ b →
+        has l (kept p ls) ≡ (has l ls && p l) →
+        has l (pick a (x ∷ kept p ls) (kept p ls)) ≡ ((b || has l ls) && p l)
     go true q true e r = rw e (sym (ap p (same-is l x e) ∙ q))
     go true q false e r = rw e r
     go false q true e r = r ∙ rw (ap p (same-is l x e) ∙ q) (and-false (has l ls))
@@ -135,7 +141,12 @@ right-none cs k d l e =
 
 module _ (f : Forest) (t : List ℕ) (l : Literal) where
   -- A literal is derived where the tree fails once it fails too; and a derived literal may become a fact.
-  pub forced-derived : place-of l < length t → Right (clauses root f) t → fails (set-of (set t (place-of l) 1)) root f ≡ true → (Contradictory (clauses root f) → ⊥) → Derived (clauses root f) l
+  pub forced-derived :
+      place-of l < length t →
+      Right (clauses root f) t →
+      fails (set-of (set t (place-of l) 1)) root f ≡ true →
+      (Contradictory (clauses root f) → ⊥) →
+      Derived (clauses root f) l
   unfolding some-inside
   forced-derived h right e d =
       let inside = bridge (with-one (set-of t) l) root f ∙ ap (λ p. fails p root f) (sym (put-one t l h)) ∙ e in
@@ -147,7 +158,11 @@ module _ (f : Forest) (t : List ℕ) (l : Literal) where
       (λ q. absurd (d (c, w .1, λ x k. out x k (λ p. not-has q (rw p at k)))))
       (either (has l c))
 
-  pub fact-right : place-of (complement l) < length t → ((Contradictory (clauses root f) → ⊥) → Derived (clauses root f) l) → Right (clauses root f) t → Right (clauses root f) (set t (place-of (complement l)) 1)
+  pub fact-right :
+      place-of (complement l) < length t →
+      ((Contradictory (clauses root f) → ⊥) → Derived (clauses root f) l) →
+      Right (clauses root f) t →
+      Right (clauses root f) (set t (place-of (complement l)) 1)
   unfolding with-one
   fact-right h e right d x q =
       let s = has-fact (set t (place-of (complement l)) 1) x ∙ ap (λ p. p (complement x)) (put-one t (complement l) h) in
@@ -166,7 +181,12 @@ all-unions p (c ∷ cs) ds a b =
     let one = all-map (λ d. c ++ d) (all p) ds ∙ all-from (λ d. all p (c ++ d)) ds (λ d m. all-append p c d ∙ and-join (s .0) (all-at (all p) ds b m)) in
     all-append (all p) (map (λ d. c ++ d) ds) (unions cs ds) ∙ and-join one (all-unions p cs ds (s .1) b)
 
-all-more : (p : Literal → Bool) (cs : List Clause) (later : ℕ → List Clause) → all (all p) cs ≡ true → ((r : ℕ) → all (all p) (later r) ≡ true) → (r : ℕ) → all (all p) (one-tree-more cs later r) ≡ true
+all-more :
+    (p : Literal → Bool) (cs : List Clause) (later : ℕ → List Clause) →
+    all (all p) cs ≡ true →
+    ((r : ℕ) → all (all p) (later r) ≡ true) →
+    (r : ℕ) →
+    all (all p) (one-tree-more cs later r) ≡ true
 unfolding one-tree-more all
 all-more p cs later a b zero = refl
 all-more p cs later a b (suc r) =
@@ -192,7 +212,11 @@ unfoldable pub forced-by : Forest → List ℕ → Literal → Bool
 forced-by f t l = not (set-of t (complement l)) && fails (set-of (set t (place-of l) 1)) root f
 
 -- Where the facts conflict with contradictory clauses, the table has the report.
-conflict-report : (n : ℕ) (cs : List Clause) (t : List ℕ) → conflict (facts-in t) cs ≡ true → Contradictory cs → report-by n cs (facts-in t) ≡ report n cs
+conflict-report :
+    (n : ℕ) (cs : List Clause) (t : List ℕ) →
+    conflict (facts-in t) cs ≡ true →
+    Contradictory cs →
+    report-by n cs (facts-in t) ≡ report n cs
 unfolding report-by
 conflict-report n cs t e d = let tells = report-tells n cs in λ i. record {
   contradictory = (e ∙ sym (tells .conflicts .1 d)) i;
@@ -200,7 +224,11 @@ conflict-report n cs t e d = let tells = report-tells n cs in λ i. record {
 }
 
 -- A tree that fails conflicts with the facts; and facts that are right conflict with contradictory clauses only.
-pub failed-report : (n : ℕ) (f : Forest) (t : List ℕ) → fails (set-of t) root f ≡ true → Right (clauses root f) t → report-by n (clauses root f) (facts-in t) ≡ report n (clauses root f)
+pub failed-report :
+    (n : ℕ) (f : Forest) (t : List ℕ) →
+    fails (set-of t) root f ≡ true →
+    Right (clauses root f) t →
+    report-by n (clauses root f) (facts-in t) ≡ report n (clauses root f)
 unfolding conflict refuted
 failed-report n f t e right =
     let loud = conflict-fails t f ∙ e in
@@ -219,7 +247,13 @@ place-below n (pos v) h = omega arith
 place-below n (neg v) h = omega arith
 
 module _ (n : ℕ) (f : Forest) (t : List ℕ) (inside : all (all (λ l. ltb (option l) n)) (clauses root f) ≡ true) (room : 2 * n ≤ length t) (rest : (l : Literal) → option l < n → forced-by f t l ≡ false) where
-  closed : (c : Clause) → List·Memᴰ c (clauses root f) → (l : Literal) → List·Memᴰ l c → refuted (facts-in t) (others l c) ≡ true → has l (facts-in t) ≡ true
+  closed :
+      (c : Clause) →
+      List·Memᴰ c (clauses root f) →
+      (l : Literal) →
+      List·Memᴰ l c →
+      refuted (facts-in t) (others l c) ≡ true →
+      has l (facts-in t) ≡ true
   unfolding forced-by some-inside
   closed c m l k e =
       let few = ltb-true (option l) n (all-at (λ x. ltb (option x) n) c (all-at (all (λ x. ltb (option x) n)) (clauses root f) inside m) k) in
@@ -270,12 +304,21 @@ module _ (s : List ℕ) (h : Formed s) where
       rw (shaped-decode form, clauses-root (form .kids)) (named (options-in s) root (form .kids) (form .fine))
 
   -- A table on which nothing is forced any more has the report.
-  pub sheet-report : (t : List ℕ) → 2 * options-in s ≤ length t → Right (clauses root (decode (nodes-in s))) t → ((l : Literal) → option l < options-in s → forced-by (decode (nodes-in s)) t l ≡ false) → Has-report s t
+  pub sheet-report :
+      (t : List ℕ) →
+      2 * options-in s ≤ length t →
+      Right (clauses root (decode (nodes-in s))) t →
+      ((l : Literal) → option l < options-in s → forced-by (decode (nodes-in s)) t l ≡ false) →
+      Has-report s t
   unfolding clauses-in report-in
   sheet-report t room right rest = rest-report (options-in s) (decode (nodes-in s)) t sheet-named room rest right
 
   -- So has one under which the sheet fails.
-  pub sheet-failed : (t : List ℕ) → fails (set-of t) root (decode (nodes-in s)) ≡ true → Right (clauses root (decode (nodes-in s))) t → Has-report s t
+  pub sheet-failed :
+      (t : List ℕ) →
+      fails (set-of t) root (decode (nodes-in s)) ≡ true →
+      Right (clauses root (decode (nodes-in s))) t →
+      Has-report s t
   unfolding clauses-in report-in
   sheet-failed t e right = failed-report (options-in s) (decode (nodes-in s)) t e right
 
@@ -313,7 +356,9 @@ open-mark t v = go (set-of t (neg v)) (set-of t (pos v))
     go false true = refl
     go false false = refl
 
-complete-marks : (b : Bool) (t : List ℕ) (n : ℕ) → (not b && all (λ m. eqb m 1 || eqb m 2) (marks-in b t n)) ≡ (not b && all (is-marked t) (count-from 0 n))
+complete-marks :
+    (b : Bool) (t : List ℕ) (n : ℕ) →
+    (not b && all (λ m. eqb m 1 || eqb m 2) (marks-in b t n)) ≡ (not b && all (is-marked t) (count-from 0 n))
 unfolding marks-in is-marked pick
 complete-marks true t n = refl
 complete-marks false t n = all-map (mark-in t) (λ m. eqb m 1 || eqb m 2) (count-from 0 n)

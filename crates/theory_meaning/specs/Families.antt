@@ -64,7 +64,12 @@ unwrapped-values s c (lit l f) e = rw (size-zero f (omega arith)) (ap (λ b. b �
 unwrapped-values s c (node d k f) e = rw (size-zero f (omega arith)) (ap (λ b. b ∷ []) (sym (one-value c (fails-all d (values s k)))))
 
 -- Rules 9, 10. Where the constants have the values of the literals that they stand for, nothing changes.
-assigned-values : (s : Set) (c : Conn) (l : Literal) → s l ≡ fails-all (neutral c) [] → s (complement l) ≡ fails-all (deciding c) [] → (f : Forest) → values s (assigned c l f) ≡ values s f
+assigned-values :
+    (s : Set) (c : Conn) (l : Literal) →
+    s l ≡ fails-all (neutral c) [] →
+    s (complement l) ≡ fails-all (deciding c) [] →
+    (f : Forest) →
+    values s (assigned c l f) ≡ values s f
 unfolding values assigned
 assigned-values s c l e h nil = refl
 assigned-values s c l e h (lit x f) =
@@ -80,12 +85,17 @@ assigned-values s c l e h (node b k f) =
 abbrev pub Opposed : Set → Conn → Literal → Type 0
 Opposed s c l = s l ≡ fails-all (neutral c) [] → s (complement l) ≡ fails-all (deciding c) []
 
-pub spread-fails : (s : Set) (c : Conn) (l : Literal) (p q : Forest) → Opposed s c l → fails s c (assigned c l p ⊕ lit l (assigned c l q)) ≡ fails s c (p ⊕ lit l q)
+pub spread-fails :
+    (s : Set) (c : Conn) (l : Literal) (p q : Forest) →
+    Opposed s c l →
+    fails s c (assigned c l p ⊕ lit l (assigned c l q)) ≡ fails s c (p ⊕ lit l q)
 unfolding fails values
 spread-fails s c l p q h =
     ap (fails-all c) (values-⊕ s (assigned c l p) (lit l (assigned c l q))) ∙ go (open-or-decided c (s l)) ∙ sym (ap (fails-all c) (values-⊕ s p (lit l q)))
   where
-    go : (s l ≡ fails-all (neutral c) []) ⊎ (s l ≡ fails-all (deciding c) []) → fails-all c (values s (assigned c l p) ++ s l ∷ values s (assigned c l q)) ≡ fails-all c (values s p ++ s l ∷ values s q)
+    go :
+        (s l ≡ fails-all (neutral c) []) ⊎ (s l ≡ fails-all (deciding c) []) →
+        fails-all c (values s (assigned c l p) ++ s l ∷ values s (assigned c l q)) ≡ fails-all c (values s p ++ s l ∷ values s q)
     go (inl e) = ap₂ (λ xs ys. fails-all c (xs ++ s l ∷ ys)) (assigned-values s c l e (h e) p) (assigned-values s c l e (h e) q)
     go (inr e) = rw e (decides-group c (values s (assigned c l p)) (values s (assigned c l q)) ∙ sym (decides-group c (values s p) (values s q)))
 
@@ -97,7 +107,10 @@ some-child or h bs = absurd (h refl)
 some-child root h bs = refl
 
 -- Rules 11, 12: where the node is no disjunction, a literal may leave a conjunction among the children. Rule 13 likewise.
-pub lifted-fails : (s : Set) (c : Conn) (l : Literal) (p a b q : Forest) → (c ≡ or → ⊥) → fails s c (p ⊕ lit l (node and (a ⊕ b) q)) ≡ fails s c (p ⊕ node and (a ⊕ lit l b) q)
+pub lifted-fails :
+    (s : Set) (c : Conn) (l : Literal) (p a b q : Forest) →
+    (c ≡ or → ⊥) →
+    fails s c (p ⊕ lit l (node and (a ⊕ b) q)) ≡ fails s c (p ⊕ node and (a ⊕ lit l b) q)
 unfolding fails fails-all values any
 lifted-fails s c l p a b q h =
     simp (some-child c h, values-⊕, any-append)
@@ -119,13 +132,21 @@ unfolding has-unit without-unit pick fails fails-all values any
 pulled-out s a nil e = true-false (sym e)
 pulled-out s a (lit x f) e = go (same a x) refl e (pulled-out s a f)
   where
-    go : (b : Bool) → same a x ≡ b → (b || has-unit a f) ≡ true → (has-unit a f ≡ true → fails s and f ≡ (s a || fails s and (without-unit a f))) → (s x || fails s and f) ≡ (s a || fails s and (pick b f (lit x (without-unit a f))))
+    go :
+        (b : Bool) →
+        same a x ≡ b →
+        (b || has-unit a f) ≡ true →
+        (has-unit a f ≡ true → fails s and f ≡ (s a || fails s and (without-unit a f))) →
+        (s x || fails s and f) ≡ (s a || fails s and (pick b f (lit x (without-unit a f))))
     go true p h r = ap (λ y. s y || fails s and f) (sym (same-is a x p))
     go false p h r = ap (λ b. s x || b) (r h) ∙ or-swap (s x) (s a) (fails s and (without-unit a f))
 pulled-out s a (node c k f) e =
     ap (λ b. fails s c k || b) (pulled-out s a f e) ∙ or-swap (fails s c k) (s a) (fails s and (without-unit a f))
 
-shared-fails : (s : Set) (a : Literal) (k : Forest) → shares a k ≡ true → (fails s or (units k) && (s a || fails s or (groups-without a k))) ≡ fails s or k
+shared-fails :
+    (s : Set) (a : Literal) (k : Forest) →
+    shares a k ≡ true →
+    (fails s or (units k) && (s a || fails s or (groups-without a k))) ≡ fails s or k
 unfolding shares units groups-without fails fails-all values any all
 shared-fails s a nil e = or-true (s a)
 shared-fails s a (lit x f) e =
@@ -143,7 +164,10 @@ shared-fails s a (node and k f) e =
 shared-fails s a (node or k f) e = true-false (sym e)
 shared-fails s a (node root k f) e = true-false (sym e)
 
-pub factored-fails : (s : Set) (a : Literal) (k : Forest) → shares a k ≡ true → fails s or (units k ⊕ node and (lit a (node or (groups-without a k) nil)) nil) ≡ fails s or k
+pub factored-fails :
+    (s : Set) (a : Literal) (k : Forest) →
+    shares a k ≡ true →
+    fails s or (units k ⊕ node and (lit a (node or (groups-without a k) nil)) nil) ≡ fails s or k
 unfolding fails fails-all values any all
 factored-fails s a k e =
     ap (all (λ b. b)) (values-⊕ s (units k) (node and (lit a (node or (groups-without a k) nil)) nil))

@@ -33,21 +33,35 @@ unfoldable pub values-of : List ℕ → List ℕ → List Bool
 values-of t xs = values (set-of t) (decode (map node-of xs))
 
 -- A literal's value, and the value of a node by those of its children.
-literal-value : (t : List ℕ) (x : ℕ) (f : Forest) → is-literal x ≡ true → values (set-of t) (push (node-of x) f) ≡ eqb (getD t (place-at x) 0) 1 ∷ values (set-of t) f
+literal-value :
+    (t : List ℕ) (x : ℕ) (f : Forest) →
+    is-literal x ≡ true →
+    values (set-of t) (push (node-of x) f) ≡ eqb (getD t (place-at x) 0) 1 ∷ values (set-of t) f
 unfolding is-literal node-of pick push values set-of place-of place-at
 literal-value t x f h = go (eqb (kind x) 1) refl (eqb (kind x) 2) refl h
   where
-    go : (a : Bool) → eqb (kind x) 1 ≡ a → (b : Bool) → eqb (kind x) 2 ≡ b → (a || b) ≡ true → values (set-of t) (push (node-of x) f) ≡ eqb (getD t (place-at x) 0) 1 ∷ values (set-of t) f
+    go :
+        (a : Bool) →
+        eqb (kind x) 1 ≡ a →
+        (b : Bool) →
+        eqb (kind x) 2 ≡ b →
+        (a || b) ≡ true →
+        values (set-of t) (push (node-of x) f) ≡ eqb (getD t (place-at x) 0) 1 ∷ values (set-of t) f
     go true p b q e = let k : 2 * value x + kind x - 1 ≡ 2 * value x = omega (arith, eqb-true (kind x) 1 p) in rw (p, k)
     go false p true q e = let k : 2 * value x + kind x - 1 ≡ 2 * value x + 1 = omega (arith, eqb-true (kind x) 2 q) in rw (p, q, k)
     go false p false q e = true-false (sym e)
 
-head-values : (s : Set) (c : Conn) (k : ℕ) (f : Forest) → values s (push (head c k) f) ≡ fails-all c (take k (values s f)) ∷ drop k (values s f)
+head-values :
+    (s : Set) (c : Conn) (k : ℕ) (f : Forest) →
+    values s (push (head c k) f) ≡ fails-all c (take k (values s f)) ∷ drop k (values s f)
 unfolding push values
 head-values s c k f =
     ap₂ _∷_ (ap (fails-all c) (values-first s k f)) (values-after s k f)
 
-inner-value : (s : Set) (x : ℕ) (f : Forest) → is-literal x ≡ false → values s (push (node-of x) f) ≡ fails-all (pick (eqb (kind x) 4) or root) (take (children x) (values s f)) ∷ drop (children x) (values s f)
+inner-value :
+    (s : Set) (x : ℕ) (f : Forest) →
+    is-literal x ≡ false →
+    values s (push (node-of x) f) ≡ fails-all (pick (eqb (kind x) 4) or root) (take (children x) (values s f)) ∷ drop (children x) (values s f)
 unfolding is-literal node-of pick
 inner-value s x f h =
     let n = or-neither (eqb (kind x) 1) (eqb (kind x) 2) h in
@@ -56,7 +70,12 @@ inner-value s x f h =
     bs : List Bool
     bs = values s f
 
-    go : (a : Bool) → eqb (kind x) 3 ≡ a → (b : Bool) → eqb (kind x) 4 ≡ b → values s (push (pick a (head and (children x)) (pick b (head or (children x)) (head root (children x)))) f) ≡ fails-all (pick b or root) (take (children x) bs) ∷ drop (children x) bs
+    go :
+        (a : Bool) →
+        eqb (kind x) 3 ≡ a →
+        (b : Bool) →
+        eqb (kind x) 4 ≡ b →
+        values s (push (pick a (head and (children x)) (pick b (head or (children x)) (head root (children x)))) f) ≡ fails-all (pick b or root) (take (children x) bs) ∷ drop (children x) bs
     go true p true q = absurd (omega (arith, eqb-true (kind x) 3 p, eqb-true (kind x) 4 q))
     go true p false q = head-values s and (children x) f ∙ ap (λ b. b ∷ drop (children x) bs) (and-root (take (children x) bs))
     go false p true q = head-values s or (children x) f
@@ -73,7 +92,10 @@ values-more t x xs = go (is-literal x) refl
     f : Forest
     f = decode (map node-of xs)
 
-    go : (b : Bool) → is-literal x ≡ b → values (set-of t) (push (node-of x) f) ≡ pick b (eqb (getD t (place-at x) 0) 1 ∷ values (set-of t) f) (fails-all (pick (eqb (kind x) 4) or root) (take (children x) (values (set-of t) f)) ∷ drop (children x) (values (set-of t) f))
+    go :
+        (b : Bool) →
+        is-literal x ≡ b →
+        values (set-of t) (push (node-of x) f) ≡ pick b (eqb (getD t (place-at x) 0) 1 ∷ values (set-of t) f) (fails-all (pick (eqb (kind x) 4) or root) (take (children x) (values (set-of t) f)) ∷ drop (children x) (values (set-of t) f))
     go true e = literal-value t x f e
     go false e = inner-value (set-of t) x f e
 
@@ -83,7 +105,9 @@ module _ (t : List ℕ) (x : ℕ) (bs : List Bool) where
   unfolding with-node pick
   with-literal h = rw h
 
-  pub with-inner : is-literal x ≡ false → with-node t x bs ≡ fails-all (pick (eqb (kind x) 4) or root) (take (children x) bs) ∷ drop (children x) bs
+  pub with-inner :
+      is-literal x ≡ false →
+      with-node t x bs ≡ fails-all (pick (eqb (kind x) 4) or root) (take (children x) bs) ∷ drop (children x) bs
   unfolding with-node pick
   with-inner h = rw h
 
@@ -102,7 +126,12 @@ all-index p (x ∷ xs) zero d e h = and-split (p x) (all p xs) e .0
 all-index p (x ∷ xs) (suc i) d e h = all-index p xs i d (and-split (p x) (all p xs) e .1) (omega arith)
 
 -- The literals among numbers that begin with the root have options below n.
-rooted-literal : (n : ℕ) (xs : List ℕ) (i : ℕ) → rooted n xs ≡ true → i < length xs → is-literal (getD xs i 0) ≡ true → value (getD xs i 0) < n
+rooted-literal :
+    (n : ℕ) (xs : List ℕ) (i : ℕ) →
+    rooted n xs ≡ true →
+    i < length xs →
+    is-literal (getD xs i 0) ≡ true →
+    value (getD xs i 0) < n
 unfolding rooted body-node is-literal pick
 rooted-literal n [] i e h l = true-false (sym e)
 rooted-literal n (x ∷ xs) zero e h l =

@@ -86,7 +86,10 @@ values-after s (suc n) (lit l f) = values-after s n f
 values-after s (suc n) (node c k f) = values-after s n f
 
 -- A change that keeps the values of the trees from a place on keeps the values of the trees from any earlier place on.
-pub values-onto : (s : Set) (ns : List Node) (f g : Forest) → values s f ≡ values s g → values s (decode-onto ns f) ≡ values s (decode-onto ns g)
+pub values-onto :
+    (s : Set) (ns : List Node) (f g : Forest) →
+    values s f ≡ values s g →
+    values s (decode-onto ns f) ≡ values s (decode-onto ns g)
 unfolding decode-onto push values
 values-onto s [] f g e = e
 values-onto s (leaf l ∷ ns) f g e = ap (λ bs. s l ∷ bs) (values-onto s ns f g e)

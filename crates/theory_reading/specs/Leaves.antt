@@ -54,6 +54,10 @@ leaf-test a b p q =
     (λ e. is-same (leaf-inj (sym (node-number (leaf a) p) ∙ ap node-of (sym (eqb-true (number-of (leaf b)) (number-of (leaf a)) e)) ∙ node-number (leaf b) q)))
     (λ e. eq-eqb (number-of (leaf b)) (number-of (leaf a)) (ap (λ x. number-of (leaf x)) (sym (same-is a b e))))
 
-pub head-unlike : (c : Conn) (n : ℕ) (a : Literal) → fits (head c n) ≡ true → fits (leaf a) ≡ true → eqb (number-of (head c n)) (number-of (leaf a)) ≡ false
+pub head-unlike :
+    (c : Conn) (n : ℕ) (a : Literal) →
+    fits (head c n) ≡ true →
+    fits (leaf a) ≡ true →
+    eqb (number-of (head c n)) (number-of (leaf a)) ≡ false
 head-unlike c n a p q =
     fails-if _ (λ e. true-false (sym (leaf-literal a q) ∙ ap is-literal (sym (eqb-true (number-of (head c n)) (number-of (leaf a)) e)) ∙ head-inner c n p))

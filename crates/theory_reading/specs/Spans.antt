@@ -87,7 +87,11 @@ span-within (suc p) (x ∷ xs) = omega (arith, span-within (p + arity x) xs)
 pub span-end : (p i : ℕ) (s : List ℕ) → length s ≤ i → span p (drop i s) ≡ zero
 span-end p i s h = rw (drop-of-length-le s h) (span-over p)
 
-pub span-step : (p i : ℕ) (s : List ℕ) → 0 < p → i < length s → i + span p (drop i s) ≡ i + 1 + span (p - 1 + arity (getD s i 0)) (drop (i + 1) s)
+pub span-step :
+    (p i : ℕ) (s : List ℕ) →
+    0 < p →
+    i < length s →
+    i + span p (drop i s) ≡ i + 1 + span (p - 1 + arity (getD s i 0)) (drop (i + 1) s)
 span-step zero i s h l = absurd (omega arith)
 span-step (suc p) i s h l =
     let one : suc p - 1 ≡ p = omega arith in
@@ -106,18 +110,26 @@ arity-head c k h = rw (head-inner c k h) (head-children c k h)
 pub span-leaf : (l : Literal) (p : ℕ) (xs : List ℕ) → fits (leaf l) ≡ true → span (suc p) (number-of (leaf l) ∷ xs) ≡ suc (span p xs)
 span-leaf l p xs h = rw (span-more, arity-leaf l h, add-zero)
 
-pub span-head : (c : Conn) (k p : ℕ) (xs : List ℕ) → fits (head c k) ≡ true → span (suc p) (number-of (head c k) ∷ xs) ≡ suc (span (k + p) xs)
+pub span-head :
+    (c : Conn) (k p : ℕ) (xs : List ℕ) →
+    fits (head c k) ≡ true →
+    span (suc p) (number-of (head c k) ∷ xs) ≡ suc (span (k + p) xs)
 span-head c k p xs h = rw (span-more, arity-head c k h, add-comm p k)
 
 -- The trees of a forest's code, before any other numbers.
 fit-parts : (ns ms : List Node) → all fits (ns ++ ms) ≡ true → (all fits ns ≡ true) × (all fits ms ≡ true)
 fit-parts ns ms h = and-split (all fits ns) (all fits ms) (sym (all-append fits ns ms) ∙ h)
 
-code-parts : (k f : Forest) (r : List ℕ) → map number-of (encode k ++ encode f) ++ r ≡ map number-of (encode k) ++ (map number-of (encode f) ++ r)
+code-parts :
+    (k f : Forest) (r : List ℕ) →
+    map number-of (encode k ++ encode f) ++ r ≡ map number-of (encode k) ++ (map number-of (encode f) ++ r)
 code-parts k f r = rw (map-append number-of (encode k) (encode f)) (append-assoc (map number-of (encode k)) _ r)
 
 -- So many trees as the forest has and any more: its code, and what the others take of the rest.
-pub span-code : (f : Forest) (p : ℕ) (r : List ℕ) → all fits (encode f) ≡ true → span (size f + p) (map number-of (encode f) ++ r) ≡ length (encode f) + span p r
+pub span-code :
+    (f : Forest) (p : ℕ) (r : List ℕ) →
+    all fits (encode f) ≡ true →
+    span (size f + p) (map number-of (encode f) ++ r) ≡ length (encode f) + span p r
 unfolding size encode all
 span-code nil p r h = simp zero-add
 span-code (lit l f) p r h =
@@ -133,7 +145,11 @@ pub span-encode : (f : Forest) (r : List ℕ) → all fits (encode f) ≡ true �
 span-encode f r h = simp (add-zero, span-none) at (span-code f 0 r h)
 
 -- The first trees of a forest take the code of those trees, so the next one begins where that code ends.
-pub span-first : (i : ℕ) (f : Forest) (r : List ℕ) → i ≤ size f → all fits (encode f) ≡ true → span i (map number-of (encode f) ++ r) ≡ length (encode (first i f))
+pub span-first :
+    (i : ℕ) (f : Forest) (r : List ℕ) →
+    i ≤ size f →
+    all fits (encode f) ≡ true →
+    span i (map number-of (encode f) ++ r) ≡ length (encode (first i f))
 span-first i f r l h =
     let whole : encode (first i f) ++ encode (after i f) ≡ encode f = sym (encode-⊕ (first i f) (after i f)) ∙ ap encode (first-after i f) in
     let part = fit-parts (encode (first i f)) (encode (after i f)) (rw whole h) .0 in

@@ -76,7 +76,13 @@ forest-spell f z h =
     ∙ decode-encode f
 
 -- A list that spells a forest is a stretch.
-pub stretch-of : (f : Forest) (l : List ℕ) → l ≡ spell-to (length l) f → Fits f → weight (encode f) ≤ length l → length l ≤ sheet-room → Stretch l × (forest-in l ≡ f)
+pub stretch-of :
+    (f : Forest) (l : List ℕ) →
+    l ≡ spell-to (length l) f →
+    Fits f →
+    weight (encode f) ≤ length l →
+    length l ≤ sheet-room →
+    Stretch l × (forest-in l ≡ f)
 unfolding spell-to
 stretch-of f l e h w s =
     let back : forest-in l ≡ f = ap forest-in e ∙ forest-spell f (length l - length (encode f)) h in
@@ -103,7 +109,11 @@ stands s facts =
     sym (take-append-drop (used-in s) (drop 2 s)) ∙ ap₂ _++_ (facts .numbers) (facts .rest)
 
 -- The stretch of a sheet from a place on.
-pub sheet-stretch : (s : List ℕ) (p : ℕ) → Formed s → p ≤ used-in s → Stretch (drop (2 + p) s) × (forest-in (drop (2 + p) s) ≡ decode (drop p (nodes-in s)))
+pub sheet-stretch :
+    (s : List ℕ) (p : ℕ) →
+    Formed s →
+    p ≤ used-in s →
+    Stretch (drop (2 + p) s) × (forest-in (drop (2 + p) s) ≡ decode (drop p (nodes-in s)))
 unfolding spell-to spell weight nodes-in numbers-in
 sheet-stretch s p h le =
     let facts = h in

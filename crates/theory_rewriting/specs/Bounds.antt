@@ -29,13 +29,19 @@ child-inside i k e = omega (arith, size-after i k)
 zero-inside : (i j : ℕ) (k : Forest) {n : ℕ} → eqb j 0 ≡ true → size (after i k) ≡ suc n → Inside i j k
 zero-inside i j k t e = (child-inside i k e, omega (arith, eqb-true j 0 t))
 
-constant-inside : (c : Conn) (i j : ℕ) (k a : Forest) {g : Forest} → only-if (eqb j 0 && constant-at c (after i k)) a ≡ some g → Inside i j k
+constant-inside :
+    (c : Conn) (i j : ℕ) (k a : Forest) {g : Forest} →
+    only-if (eqb j 0 && constant-at c (after i k)) a ≡ some g →
+    Inside i j k
 unfolding size
 constant-inside c i j k a e =
     let t = and-split (eqb j 0) (constant-at c (after i k)) (only-some _ a e .0) in
     zero-inside i j k (t .0) (ap size (constant-here c i k (t .1)))
 
-inner-inside : (i j : ℕ) (k : Forest) (h : Forest → Literal → Option Forest) {g : Forest} → then (conjunction-at (after i k)) (λ inner. then (literal-at (after j inner)) (h inner)) ≡ some g → Inside i j k
+inner-inside :
+    (i j : ℕ) (k : Forest) (h : Forest → Literal → Option Forest) {g : Forest} →
+    then (conjunction-at (after i k)) (λ inner. then (literal-at (after j inner)) (h inner)) ≡ some g →
+    Inside i j k
 unfolding size kids
 inner-inside i j k h e =
     let w = then-some (conjunction-at (after i k)) _ e in
@@ -118,7 +124,10 @@ place-within zero (x ∷ ns) h = omega arith
 place-within (suc p) (x ∷ ns) h = let l = place-within p ns h in omega arith
 
 -- The place of a step is one of the nodes, and what stands there bounds the other numbers.
-pub step-within : (r p i j : ℕ) (ns : List Node) {ms : List Node} → step r p i j ns ≡ some ms → (p < length ns) × Within r i j (decode (drop p ns))
+pub step-within :
+    (r p i j : ℕ) (ns : List Node) {ms : List Node} →
+    step r p i j ns ≡ some ms →
+    (p < length ns) × Within r i j (decode (drop p ns))
 unfolding step
 step-within r p i j ns e =
     let h = rewrite-within r i j (decode (drop p ns)) (then-some (rewrite r i j (decode (drop p ns))) _ e .1) in

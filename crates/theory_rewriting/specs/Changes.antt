@@ -10,13 +10,35 @@ use Rattle.model.specs.Rules.{neutral, deciding, assigned, shares, units, group
 
 -- `Change c k g`: a node of connective c with children k becomes the tree g.
 pub data Change : Conn → Forest → Forest → Type 0 where
-  absorbed : {c : Conn} {k g : Forest} (p q : Forest) → k ≡ p ⊕ node (deciding c) nil q → 2 ≤ size k → g ≡ node c (constant (deciding c)) nil → Change c k g
+  absorbed :
+      {c : Conn} {k g : Forest} (p q : Forest) →
+      k ≡ p ⊕ node (deciding c) nil q →
+      2 ≤ size k →
+      g ≡ node c (constant (deciding c)) nil →
+      Change c k g
   omitted : {c : Conn} {k g : Forest} (p q : Forest) → k ≡ p ⊕ node (neutral c) nil q → g ≡ node c (p ⊕ q) nil → Change c k g
   unwrapped : {c : Conn} {k g : Forest} → (c ≡ root → ⊥) → size k ≡ 1 → g ≡ k → Change c k g
-  spreaded : {c : Conn} {k g : Forest} (p q : Forest) (l : Literal) → (c ≡ and → ⊥) → k ≡ p ⊕ lit l q → mentions (option l) (p ⊕ q) ≡ true → g ≡ node c (assigned c l p ⊕ lit l (assigned c l q)) nil → Change c k g
-  lifted : {c : Conn} {k g : Forest} (p a b q : Forest) (l : Literal) → (c ≡ or → ⊥) → k ≡ p ⊕ node and (a ⊕ lit l b) q → g ≡ node c (p ⊕ lit l (node and (a ⊕ b) q)) nil → Change c k g
+  spreaded :
+      {c : Conn} {k g : Forest} (p q : Forest) (l : Literal) →
+      (c ≡ and → ⊥) →
+      k ≡ p ⊕ lit l q →
+      mentions (option l) (p ⊕ q) ≡ true →
+      g ≡ node c (assigned c l p ⊕ lit l (assigned c l q)) nil →
+      Change c k g
+  lifted :
+      {c : Conn} {k g : Forest} (p a b q : Forest) (l : Literal) →
+      (c ≡ or → ⊥) →
+      k ≡ p ⊕ node and (a ⊕ lit l b) q →
+      g ≡ node c (p ⊕ lit l (node and (a ⊕ b) q)) nil →
+      Change c k g
   merged : {c : Conn} {k g : Forest} (p a q : Forest) → c ≡ and → k ≡ p ⊕ node and a q → g ≡ node c (p ⊕ a ⊕ q) nil → Change c k g
-  factored : {c : Conn} {k g : Forest} (a : Literal) → c ≡ or → shares a k ≡ true → 2 ≤ groups k → g ≡ node c (units k ⊕ node and (lit a (node or (groups-without a k) nil)) nil) nil → Change c k g
+  factored :
+      {c : Conn} {k g : Forest} (a : Literal) →
+      c ≡ or →
+      shares a k ≡ true →
+      2 ≤ groups k →
+      g ≡ node c (units k ⊕ node and (lit a (node or (groups-without a k) nil)) nil) nil →
+      Change c k g
 
 -- A change leaves the node with other children or, below the root, its only child.
 pub change-node : {c : Conn} {k g : Forest} → Change c k g → ((m : Forest) × (g ≡ node c m nil)) ⊎ ((c ≡ root → ⊥) × (size k ≡ 1) × (g ≡ k))

@@ -47,7 +47,12 @@ module _ (n : ℕ) where
   fine-without a nil h = refl
   fine-without a (lit x f) h = let s = fine-lit n x f h in go (same a x) (s .0) (s .1) (fine-without a f (s .1))
     where
-      go : (b : Bool) → ltb (option x) n ≡ true → fine n f ≡ true → fine n (without-unit a f) ≡ true → fine n (pick b f (lit x (without-unit a f))) ≡ true
+      go :
+          (b : Bool) →
+          ltb (option x) n ≡ true →
+          fine n f ≡ true →
+          fine n (without-unit a f) ≡ true →
+          fine n (pick b f (lit x (without-unit a f))) ≡ true
       go true o h r = h
       go false o h r = rw (o, r)
   fine-without a (node c k f) h = let s = fine-node n c k f h in rw (s .0, s .1, fine-without a f (s .2))

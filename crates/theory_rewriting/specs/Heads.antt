@@ -51,7 +51,10 @@ unfolding spell encode number-of fits amount option
 first-literal (pos v) f z h = omega (arith, kind-number 1 v (fits-lit (pos v) f h .0))
 first-literal (neg v) f z h = omega (arith, kind-number 2 v (fits-lit (neg v) f h .0))
 
-pub first-node : (c : Conn) (k f : Forest) (z : ℕ) → Fits (node c k f) → (kind (getD (spell (node c k f) z) 0 0) ≡ conn-kind c) × (children (getD (spell (node c k f) z) 0 0) ≡ size k)
+pub first-node :
+    (c : Conn) (k f : Forest) (z : ℕ) →
+    Fits (node c k f) →
+    (kind (getD (spell (node c k f) z) 0 0) ≡ conn-kind c) × (children (getD (spell (node c k f) z) 0 0) ≡ size k)
 unfolding spell encode
 first-node c k f z h =
     let fit = fits-tree c k f h .0 in
@@ -76,7 +79,14 @@ row-kind : (r : ℕ) {w : Row} → row-of r ≡ some w → 3 ≤ w .kind
 row-kind r {w} e = leb-true 3 (w .kind) (all-at (λ v. leb 3 (v .kind)) table kinds-high (of-table r e))
 
 -- A rule's test of the head: where the first number is of its kind and has enough children, so is the first tree.
-pub head-test : (r : ℕ) (w : Row) → row-of r ≡ some w → (l : List ℕ) → Stretch l → kind (getD l 0 0) ≡ w .kind → w .fewest ≤ children (getD l 0 0) → Headed r l
+pub head-test :
+    (r : ℕ) (w : Row) →
+    row-of r ≡ some w →
+    (l : List ℕ) →
+    Stretch l →
+    kind (getD l 0 0) ≡ w .kind →
+    w .fewest ≤ children (getD l 0 0) →
+    Headed r l
 unfolding spell-to
 head-test r w e l s k n = go (forest-in l) refl (s .fitting) (s .spelled)
   where
@@ -103,7 +113,14 @@ head-test r w e l s k n = go (forest-in l) refl (s .fitting) (s .spelled)
         }
 
 -- Otherwise the rule does not apply.
-pub head-fails : (r : ℕ) (w : Row) → row-of r ≡ some w → (l : List ℕ) → Stretch l → ((kind (getD l 0 0) ≡ w .kind → ⊥) ⊎ (children (getD l 0 0) < w .fewest)) → (i j : ℕ) → rewrite r i j (forest-in l) ≡ none
+pub head-fails :
+    (r : ℕ) (w : Row) →
+    row-of r ≡ some w →
+    (l : List ℕ) →
+    Stretch l →
+    ((kind (getD l 0 0) ≡ w .kind → ⊥) ⊎ (children (getD l 0 0) < w .fewest)) →
+    (i j : ℕ) →
+    rewrite r i j (forest-in l) ≡ none
 unfolding spell-to rewrite turn then only-if
 head-fails r w e l s bad i j = go (forest-in l) (s .fitting) (s .spelled)
   where
@@ -122,7 +139,9 @@ head-fails r w e l s bad i j = go (forest-in l) (s .fitting) (s .spelled)
         rw (e, turned c m (⊎-elim (λ x. inl (λ q. x (known ∙ q))) (λ x. inr (omega arith)) bad))
 
 -- Where the head is right, the rule does what its family does to the children.
-pub headed-rewrite : (r : ℕ) {l : List ℕ} (h : Headed r l) (i j : ℕ) → rewrite r i j (forest-in l) ≡ then (change (h .row .family) (h .conn) i j (h .children)) (λ g. some (g ⊕ h .rest))
+pub headed-rewrite :
+    (r : ℕ) {l : List ℕ} (h : Headed r l) (i j : ℕ) →
+    rewrite r i j (forest-in l) ≡ then (change (h .row .family) (h .conn) i j (h .children)) (λ g. some (g ⊕ h .rest))
 unfolding rewrite turn then only-if
 headed-rewrite r h i j =
     rw (h .forest, h .its-row, eq-eqb (h .row .kind) (conn-kind (h .conn)) (h .its-kind), le-leb (h .row .fewest) (size (h .children)) (h .enough))

@@ -48,7 +48,12 @@ is-of : (c d : Conn) → eqb (conn-kind c) (conn-kind d) ≡ true → c ≡ d
 is-of c d t = conn-of-kind c d (eqb-true (conn-kind c) (conn-kind d) t)
 
 -- A family of rules, where it fits, does a change.
-family-change : (x : Family) (c : Conn) (n i j : ℕ) (k : Forest) {g : Forest} → fits (conn-kind c) n x ≡ true → n ≤ size k → change x c i j k ≡ some g → Change c k g
+family-change :
+    (x : Family) (c : Conn) (n i j : ℕ) (k : Forest) {g : Forest} →
+    fits (conn-kind c) n x ≡ true →
+    n ≤ size k →
+    change x c i j k ≡ some g →
+    Change c k g
 unfolding fits change absorb omit unwrap spread lift merge factor conn-kind
 family-change absorbs c n i j k t m e =
     let o = only-some _ _ e in
@@ -153,7 +158,10 @@ stepped r place i j ns e =
     }
 
 -- A step, or that there is none, from the rule on the forest that stands at the place.
-pub step-some : (r p i j : ℕ) (ns : List Node) {f : Forest} → rewrite r i j (decode (drop p ns)) ≡ some f → step r p i j ns ≡ some (take p ns ++ encode f)
+pub step-some :
+    (r p i j : ℕ) (ns : List Node) {f : Forest} →
+    rewrite r i j (decode (drop p ns)) ≡ some f →
+    step r p i j ns ≡ some (take p ns ++ encode f)
 unfolding step then
 step-some r p i j ns e = rw e
 

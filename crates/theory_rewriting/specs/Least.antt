@@ -29,14 +29,23 @@ module _ {A : Type 0} where
   least-found zero f e = none-some e
   least-found (suc n) f {a} e = go (f zero) refl e (least-found n (λ k. f (suc k)))
     where
-      go : (o : Option A) → f zero ≡ o → first-of o (least n (λ k. f (suc k))) ≡ some a → (least n (λ k. f (suc k)) ≡ some a → Least n (λ k. f (suc k)) a) → Least (suc n) f a
+      go :
+          (o : Option A) →
+          f zero ≡ o →
+          first-of o (least n (λ k. f (suc k))) ≡ some a →
+          (least n (λ k. f (suc k)) ≡ some a → Least n (λ k. f (suc k)) a) →
+          Least (suc n) f a
       go none q e h =
           let w = h e in
           record { number = suc (w .number); below = omega arith; answer = w .answer; smaller = below-suc f q (w .smaller) }
       go (some b) q e h = record { number = 0; below = omega arith; answer = q ∙ e; smaller = λ k l. absurd (omega arith) }
 
   -- An answer that tells its number is the answer there, and no smaller number has one.
-  pub least-at : (n : ℕ) (f : ℕ → Option A) (told : A → ℕ) {a : A} → ((k : ℕ) → f k ≡ some a → told a ≡ k) → least n f ≡ some a → (f (told a) ≡ some a) × ((k : ℕ) → k < told a → f k ≡ none)
+  pub least-at :
+      (n : ℕ) (f : ℕ → Option A) (told : A → ℕ) {a : A} →
+      ((k : ℕ) → f k ≡ some a → told a ≡ k) →
+      least n f ≡ some a →
+      (f (told a) ≡ some a) × ((k : ℕ) → k < told a → f k ≡ none)
   least-at n f told tells e =
       let w = least-found n f e in
       rw (tells (w .number) (w .answer)) (w .answer, w .smaller)
@@ -63,7 +72,11 @@ module _ {A : Type 0} where
 
   -- One level of a nested search: where P says of a number that it has no answer, and P holds from the bound on, there is no
   -- answer exactly where P holds of all numbers.
-  pub least-none-all : (n : ℕ) (f : ℕ → Option A) (P : ℕ → Type 0) → ((k : ℕ) → (f k ≡ none) ↔ P k) → ((k : ℕ) → n ≤ k → P k) → (least n f ≡ none) ↔ ((k : ℕ) → P k)
+  pub least-none-all :
+      (n : ℕ) (f : ℕ → Option A) (P : ℕ → Type 0) →
+      ((k : ℕ) → (f k ≡ none) ↔ P k) →
+      ((k : ℕ) → n ≤ k → P k) →
+      (least n f ≡ none) ↔ ((k : ℕ) → P k)
   least-none-all n f P says beyond =
       ((λ e k. go k (either (ltb k n)) (least-none n f .0 e k)), λ h. least-none n f .1 (λ k l. says k .1 (h k)))
     where

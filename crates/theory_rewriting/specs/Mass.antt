@@ -57,7 +57,11 @@ of-mention : (l x : Literal) → eqb (option l) (option x) ≡ true → (same l 
 of-mention l x e =
     ⊎-elim (λ p. or-left (same (complement l) x) (is-same p)) (λ p. or-right (same l x) (is-same p)) (of-option l x (eqb-true (option l) (option x) e))
 
-pub mass-mentioned : (u : ℕ) (c : Conn) (l : Literal) (f : Forest) → 2 ≤ u → mentions (option l) f ≡ true → mass u (assigned c l f) < mass u f
+pub mass-mentioned :
+    (u : ℕ) (c : Conn) (l : Literal) (f : Forest) →
+    2 ≤ u →
+    mentions (option l) f ≡ true →
+    mass u (assigned c l f) < mass u f
 unfolding mass assigned mentions
 mass-mentioned u c l nil h m = true-false (sym m)
 mass-mentioned u c l (lit x f) h m =
@@ -82,13 +86,20 @@ unfolding mass without-unit has-unit pick
 mass-without u a nil h = true-false (sym h)
 mass-without u a (lit x f) h = go (same a x) h (mass-without u a f)
   where
-    go : (b : Bool) → (b || has-unit a f) ≡ true → (has-unit a f ≡ true → mass u (without-unit a f) + u ≡ mass u f) → mass u (pick b f (lit x (without-unit a f))) + u ≡ u + mass u f
+    go :
+        (b : Bool) →
+        (b || has-unit a f) ≡ true →
+        (has-unit a f ≡ true → mass u (without-unit a f) + u ≡ mass u f) →
+        mass u (pick b f (lit x (without-unit a f))) + u ≡ u + mass u f
     go true h r = omega arith
     go false h r = let e = r h in omega arith
 mass-without u a (node c k f) h = let r = mass-without u a f h in omega arith
 
 -- Units, and groups each without a shared literal, weigh what all weighed less that literal once a group.
-pub mass-shared : (u : ℕ) (a : Literal) (f : Forest) → shares a f ≡ true → mass u (units f) + mass u (groups-without a f) + groups f * u ≡ mass u f
+pub mass-shared :
+    (u : ℕ) (a : Literal) (f : Forest) →
+    shares a f ≡ true →
+    mass u (units f) + mass u (groups-without a f) + groups f * u ≡ mass u f
 unfolding mass units groups-without groups shares
 mass-shared u a nil s = omega arith
 mass-shared u a (lit x f) s = let r = mass-shared u a f s in omega arith

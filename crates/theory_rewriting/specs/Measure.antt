@@ -73,7 +73,9 @@ sooner-moved l a z =
     let q = literals-append a (leaf l ∷ z) in
     record { same-length = simp length-append (omega arith); same-literals = omega arith; fewer-pairs = omega arith }
 
-sooner-lifted : (c : Conn) (p a b q rest : Forest) (l : Literal) → Sooner (encode (node c (p ⊕ lit l (node and (a ⊕ b) q)) rest)) (encode (node c (p ⊕ node and (a ⊕ lit l b) q) rest))
+sooner-lifted :
+    (c : Conn) (p a b q rest : Forest) (l : Literal) →
+    Sooner (encode (node c (p ⊕ lit l (node and (a ⊕ b) q)) rest)) (encode (node c (p ⊕ node and (a ⊕ lit l b) q) rest))
 unfolding encode
 sooner-lifted c p a b q rest l =
     simp (encode-⊕, append-assoc) (sooner-head (sooner-after (encode p) (sooner-moved l (encode a) (encode b ++ (encode q ++ encode rest)))))
@@ -83,7 +85,12 @@ abbrev Falls : ℕ → ℕ → ℕ → Type 0
 Falls u a b = (a ≤ b) × (2 ≤ u → a < b)
 
 -- A change lifts a literal, so that it stands sooner; or the mass falls.
-change-falls : (u : ℕ) → 1 ≤ u → {c : Conn} {k g : Forest} → Change c k g → ((rest : Forest) → Sooner (encode (g ⊕ rest)) (encode (node c k rest))) ⊎ Falls u (mass (suc u) g) (mass (suc u) (node c k nil))
+change-falls :
+    (u : ℕ) →
+    1 ≤ u →
+    {c : Conn} {k g : Forest} →
+    Change c k g →
+    ((rest : Forest) → Sooner (encode (g ⊕ rest)) (encode (node c k rest))) ⊎ Falls u (mass (suc u) g) (mass (suc u) (node c k nil))
 unfolding mass mentions assigned _⊕_
 change-falls u one {c} {k} (absorbed p q e t r) = inr (omega (arith, ap (mass (suc u)) r, mass-size (suc u) k (omega arith), heft-one (suc u) (deciding c)))
 change-falls u one {c} (omitted p q e r) = inr (omega (arith, heft-one (suc u) (neutral c), simp mass-⊕ at (ap (mass (suc u)) r), simp mass-⊕ at (ap (mass (suc u)) e)))
@@ -97,7 +104,9 @@ change-falls u one {c} {k} (factored a d s g r) =
     inr (omega (arith, heft-one (suc u) and, heft-one (suc u) or, simp mass-⊕ at (ap (mass (suc u)) r), mass-shared (suc u) a k s, mul-le-mul-right (suc u) g))
 
 -- In a list of nodes the bulk changes as the mass of the tree that changed.
-changed-bulk : (u : ℕ) {ns ms : List Node} (w : Changed ns ms) → bulk u ms + mass (suc u) (node (w .conn) (w .children) nil) ≡ bulk u ns + mass (suc u) (w .new)
+changed-bulk :
+    (u : ℕ) {ns ms : List Node} (w : Changed ns ms) →
+    bulk u ms + mass (suc u) (node (w .conn) (w .children) nil) ≡ bulk u ns + mass (suc u) (w .new)
 unfolding mass
 changed-bulk u {ns} {ms} w =
     let old : bulk u ns ≡ bulk u (w .before) + mass (suc u) (node (w .conn) (w .children) (w .rest)) = rw (w .was) (bulk-after u (w .before) _) in
@@ -112,7 +121,11 @@ changed-falls u one w =
     (change-falls u one (w .done))
 
 -- At a step nodes plus twice the literals fall; or, with as many nodes and literals, the pairs fall.
-pub step-falls : (r p i j : ℕ) {n : ℕ} {ns ms : List Node} → Shaped n ns → step r p i j ns ≡ some ms → (bulk 2 ms < bulk 2 ns) ⊎ Sooner ms ns
+pub step-falls :
+    (r p i j : ℕ) {n : ℕ} {ns ms : List Node} →
+    Shaped n ns →
+    step r p i j ns ≡ some ms →
+    (bulk 2 ms < bulk 2 ns) ⊎ Sooner ms ns
 step-falls r p i j {n} {ns} s e =
     ⊎-elim inr (λ h. inl (h .1 (omega arith))) (changed-falls 2 (omega arith) (step-changed r p i j ns (shaped-trees s) e))
 

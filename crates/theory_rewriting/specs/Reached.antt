@@ -31,7 +31,12 @@ pub run-bounded : (s : List ℕ) (budget : ℕ) → Formed s → S.run budget (n
 run-bounded s budget h = steps-bound (h .shaped) (strategy-steps (run-steps budget (nodes-in s)))
 
 -- Steps after steps.
-steps-after : {k : ℕ} {ns ms : List Node} → Strategy-steps k ns ms → {os : List Node} → next-step ms ≡ some os → Strategy-steps (k + 1) ns os
+steps-after :
+    {k : ℕ} {ns ms : List Node} →
+    Strategy-steps k ns ms →
+    {os : List Node} →
+    next-step ms ≡ some os →
+    Strategy-steps (k + 1) ns os
 steps-after (R.done {ns}) {os} e = subst (λ n. Strategy-steps n ns os) (sym (zero-add 1)) (R.more e R.done)
 steps-after (R.more {k} {ns} d t) {os} e = subst (λ n. Strategy-steps n ns os) (sym (suc-add k 1)) (R.more d (steps-after t e))
 
@@ -75,7 +80,11 @@ pub record Ends (start : List ℕ) (budget : ℕ) (settled : Bool) (count : ℕ)
   pub counts : count ≡ S.run budget (nodes-in start) .count
   pub leaves : s ≡ run-through start budget
 
-run-ends : (start s : List ℕ) (budget count : ℕ) (t : Bool) → Reached start count s → S.run budget (nodes-in start) ≡ record { settled = t; count = count; nodes = nodes-in s } → Ends start budget t count s
+run-ends :
+    (start s : List ℕ) (budget count : ℕ) (t : Bool) →
+    Reached start count s →
+    S.run budget (nodes-in start) ≡ record { settled = t; count = count; nodes = nodes-in s } →
+    Ends start budget t count s
 unfolding run-through
 run-ends start s budget count t r e =
     record {

@@ -33,7 +33,11 @@ run-more b ns e = rw e
 data Ran : ℕ → List Node → Run → Type 0 where
   settled-at-once : {b : ℕ} {ns : List Node} → next ns ≡ none → Ran b ns (record { settled = true; count = 0; nodes = ns })
   out-of-budget : {ns : List Node} {x : Redex} → next ns ≡ some x → Ran 0 ns (record { settled = false; count = 0; nodes = ns })
-  one-step : {b : ℕ} {ns ms : List Node} {r : Run} → next-step ns ≡ some ms → Ran b ms r → Ran (suc b) ns (record { settled = r .settled; count = suc (r .count); nodes = r .nodes })
+  one-step :
+      {b : ℕ} {ns ms : List Node} {r : Run} →
+      next-step ns ≡ some ms →
+      Ran b ms r →
+      Ran (suc b) ns (record { settled = r .settled; count = suc (r .count); nodes = r .nodes })
 
 ran : (b : ℕ) (ns : List Node) → Ran b ns (run b ns)
 unfolding run maybe one-more
@@ -44,7 +48,11 @@ ran zero ns = go (next ns) refl
     go (some x) e = out-of-budget e
 ran (suc b) ns = go (next-step ns) refl (ran b)
   where
-    go : (o : Option (List Node)) → next-step ns ≡ o → ((ms : List Node) → Ran b ms (run b ms)) → Ran (suc b) ns (maybe (record { settled = true; count = 0; nodes = ns }) (λ ms. one-more (run b ms)) o)
+    go :
+        (o : Option (List Node)) →
+        next-step ns ≡ o →
+        ((ms : List Node) → Ran b ms (run b ms)) →
+        Ran (suc b) ns (maybe (record { settled = true; count = 0; nodes = ns }) (λ ms. one-more (run b ms)) o)
     go none e h = settled-at-once (next-step-none ns .0 e)
     go (some ms) e h = one-step e (h ms)
 
@@ -109,7 +117,12 @@ run-add b (done {ns}) = ap (λ n. run n ns) (zero-add b) ∙ sym (steps-more-zer
 run-add b (more {k} {ns} {ms} {os} e h) =
     ap (λ n. run n ns) (suc-add k b) ∙ run-more (k + b) ns e ∙ ap one-more (run-add b h) ∙ one-more-steps k (run b os)
 
-run-ends : {k : ℕ} {ns ms : List Node} (b : ℕ) (t : Bool) → Strategy-steps k ns ms → k ≤ b → run (b - k) ms ≡ record { settled = t; count = 0; nodes = ms } → run b ns ≡ record { settled = t; count = k; nodes = ms }
+run-ends :
+    {k : ℕ} {ns ms : List Node} (b : ℕ) (t : Bool) →
+    Strategy-steps k ns ms →
+    k ≤ b →
+    run (b - k) ms ≡ record { settled = t; count = 0; nodes = ms } →
+    run b ns ≡ record { settled = t; count = k; nodes = ms }
 unfolding steps-more
 run-ends {k} {ns} {ms} b t h l e =
     let left : b ≡ k + (b - k) = omega arith in
@@ -120,10 +133,19 @@ run-ends {k} {ns} {ms} b t h l e =
 
 -- Steps that lead within the budget to where no rule applies are the whole run; so are as many steps
 -- as the budget to where one still does.
-pub run-is : {k : ℕ} {ns ms : List Node} (b : ℕ) → Strategy-steps k ns ms → k ≤ b → NoRule ms → run b ns ≡ record { settled = true; count = k; nodes = ms }
+pub run-is :
+    {k : ℕ} {ns ms : List Node} (b : ℕ) →
+    Strategy-steps k ns ms →
+    k ≤ b →
+    NoRule ms →
+    run b ns ≡ record { settled = true; count = k; nodes = ms }
 run-is {k} {ns} {ms} b h l quiet = run-ends b true h l (run-none (b - k) ms (none-iff ms .1 quiet))
 
-pub run-spent : {b : ℕ} {ns ms : List Node} {x : Redex} → Strategy-steps b ns ms → next ms ≡ some x → run b ns ≡ record { settled = false; count = b; nodes = ms }
+pub run-spent :
+    {b : ℕ} {ns ms : List Node} {x : Redex} →
+    Strategy-steps b ns ms →
+    next ms ≡ some x →
+    run b ns ≡ record { settled = false; count = b; nodes = ms }
 unfolding run maybe
 run-spent {b} {ns} {ms} h e =
     let nothing : b - b ≡ 0 = omega arith in
@@ -135,12 +157,21 @@ unfolding steps-more run
 steps-unique g h = ap (λ r. r .nodes) (sym (run-add 0 g) ∙ run-add 0 h)
 
 -- A step of the strategy is a step: of the rule, at the place and the children that its redex names.
-pub step-of : (ns : List Node) {ms : List Node} → next-step ns ≡ some ms → (x : Redex) × (next ns ≡ some x) × (step (x .rule) (x .place) (x .i) (x .j) ns ≡ some ms)
+pub step-of :
+    (ns : List Node) {ms : List Node} →
+    next-step ns ≡ some ms →
+    (x : Redex) × (next ns ≡ some x) × (step (x .rule) (x .place) (x .i) (x .j) ns ≡ some ms)
 unfolding contract
 step-of ns e = next-step-some ns e
 
 -- What every step keeps, a chain of steps keeps.
-pub steps-keep : (P : List Node → Type 0) → ((r p i j : ℕ) (ns ms : List Node) → step r p i j ns ≡ some ms → P ns → P ms) → {k : ℕ} {ns ms : List Node} → Strategy-steps k ns ms → P ns → P ms
+pub steps-keep :
+    (P : List Node → Type 0) →
+    ((r p i j : ℕ) (ns ms : List Node) → step r p i j ns ≡ some ms → P ns → P ms) →
+    {k : ℕ} {ns ms : List Node} →
+    Strategy-steps k ns ms →
+    P ns →
+    P ms
 steps-keep P keeps done h = h
 steps-keep P keeps (more {k} {ns} {ms} {os} e s) h =
     let w = step-of ns e in

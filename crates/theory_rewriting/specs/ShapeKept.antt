@@ -50,7 +50,12 @@ step-changed r p i j ns {ms} h e =
     }
 
 -- A change at the root gives the root again.
-root-shaped : (n : ℕ) (kids : Forest) {c : Conn} {k rest new : Forest} → fine n kids ≡ true → node root kids nil ≡ node c k rest → Change c k new → Shaped n (encode (new ⊕ rest))
+root-shaped :
+    (n : ℕ) (kids : Forest) {c : Conn} {k rest new : Forest} →
+    fine n kids ≡ true →
+    node root kids nil ≡ node c k rest →
+    Change c k new →
+    Shaped n (encode (new ⊕ rest))
 root-shaped n kids {c} {k} {rest} {new} h e x =
     let p : c ≡ root = cc in
     let q : k ≡ kids = cc in
@@ -60,7 +65,12 @@ root-shaped n kids {c} {k} {rest} {new} h e x =
     record { kids = m .0; spelled = ap encode (rw r (⊕-nil new) ∙ m .1); fine = m .2 }
 
 -- A change below the root keeps the number of trees and leaves plain nodes.
-inner-shaped : (n : ℕ) (kids rest : Forest) (b : List Node) {c : Conn} {k new : Forest} → fine n kids ≡ true → encode kids ≡ b ++ encode (node c k rest) → Change c k new → Shaped n (head root (size kids) ∷ b ++ encode (new ⊕ rest))
+inner-shaped :
+    (n : ℕ) (kids rest : Forest) (b : List Node) {c : Conn} {k new : Forest} →
+    fine n kids ≡ true →
+    encode kids ≡ b ++ encode (node c k rest) →
+    Change c k new →
+    Shaped n (head root (size kids) ∷ b ++ encode (new ⊕ rest))
 unfolding size
 inner-shaped n kids rest b {c} {k} {new} h e x =
     let old = node c k rest in

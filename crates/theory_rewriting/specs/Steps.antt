@@ -53,7 +53,11 @@ potential x ns = bulk 2 ns * (x * x) + pairs ns
 digits : (a b y p q : ℕ) → a < b → p < y → a * y + p < b * y + q
 digits a b y p q h s = omega (arith, mul-le-mul-right y h)
 
-potential-falls : (x : ℕ) {ns ms : List Node} → bulk 2 ns ≤ x → (bulk 2 ms < bulk 2 ns) ⊎ Sooner ms ns → (bulk 2 ms ≤ bulk 2 ns) × (potential x ms < potential x ns)
+potential-falls :
+    (x : ℕ) {ns ms : List Node} →
+    bulk 2 ns ≤ x →
+    (bulk 2 ms < bulk 2 ns) ⊎ Sooner ms ns →
+    (bulk 2 ms ≤ bulk 2 ns) × (potential x ms < potential x ns)
 unfolding potential
 potential-falls x {ns} {ms} h (inl less) =
     (omega arith, digits (bulk 2 ms) (bulk 2 ns) (x * x) (pairs ms) (pairs ns) less (pairs-small x ms (omega arith) (omega arith)))

@@ -81,7 +81,10 @@ Before x y =
     Earlier (x .rule) (y .rule) (Earlier (x .place) (y .place) (Earlier (x .i) (y .i) (x .j < y .j)))
 
 -- What an answer says at each level: it is the answer for its own number, and smaller numbers give no step.
-found-j : (r p i : ℕ) (f : Forest) {x : Redex} → least-j r p i f ≡ some x → (redex r p i (x .j) ≡ x) × (is-some (rewrite r i (x .j) f) ≡ true) × ((j : ℕ) → j < x .j → rewrite r i j f ≡ none)
+found-j :
+    (r p i : ℕ) (f : Forest) {x : Redex} →
+    least-j r p i f ≡ some x →
+    (redex r p i (x .j) ≡ x) × (is-some (rewrite r i (x .j) f) ≡ true) × ((j : ℕ) → j < x .j → rewrite r i j f ≡ none)
 unfolding least-j
 found-j r p i f {x} e =
     let tried : ℕ → Option Redex = λ j. only-if (is-some (rewrite r i j f)) (redex r p i j) in
@@ -89,13 +92,19 @@ found-j r p i f {x} e =
     let here = only-some (is-some (rewrite r i (x .j) f)) (redex r p i (x .j)) (w .0) in
     (here .1, here .0, λ j l. is-some-none (rewrite r i j f) (redex r p i j) .0 (w .1 j l))
 
-found-i : (r p : ℕ) (f : Forest) {x : Redex} → least-i r p f ≡ some x → (least-j r p (x .i) f ≡ some x) × ((i j : ℕ) → i < x .i → rewrite r i j f ≡ none)
+found-i :
+    (r p : ℕ) (f : Forest) {x : Redex} →
+    least-i r p f ≡ some x →
+    (least-j r p (x .i) f ≡ some x) × ((i j : ℕ) → i < x .i → rewrite r i j f ≡ none)
 unfolding least-i
 found-i r p f e =
     let w = least-at _ (λ i. least-j r p i f) (λ y. y .i) (λ i h. sym (ap (λ y. y .i) (found-j r p i f h .0))) e in
     (w .0, λ i j l. none-j r p i f .0 (w .1 i l) j)
 
-found-place : (r : ℕ) (ns : List Node) {x : Redex} → least-place r ns ≡ some x → (least-i r (x .place) (decode (drop (x .place) ns)) ≡ some x) × ((p i j : ℕ) → p < x .place → rewrite r i j (decode (drop p ns)) ≡ none)
+found-place :
+    (r : ℕ) (ns : List Node) {x : Redex} →
+    least-place r ns ≡ some x →
+    (least-i r (x .place) (decode (drop (x .place) ns)) ≡ some x) × ((p i j : ℕ) → p < x .place → rewrite r i j (decode (drop p ns)) ≡ none)
 unfolding least-place
 found-place r ns {x} e =
     let search : ℕ → Option Redex = λ p. least-i r p (decode (drop p ns)) in
@@ -103,7 +112,10 @@ found-place r ns {x} e =
     let w = least-at _ search (λ y. y .place) tells e in
     (w .0, λ p i j l. none-i r p (decode (drop p ns)) .0 (w .1 p l) i j)
 
-found-rule : (ns : List Node) {x : Redex} → next ns ≡ some x → (least-place (x .rule) ns ≡ some x) × ((r p i j : ℕ) → r < x .rule → step r p i j ns ≡ none)
+found-rule :
+    (ns : List Node) {x : Redex} →
+    next ns ≡ some x →
+    (least-place (x .rule) ns ≡ some x) × ((r p i j : ℕ) → r < x .rule → step r p i j ns ≡ none)
 unfolding next
 found-rule ns {x} e =
     let w = least-found last-rule (λ r. least-place (suc r) ns) e in
@@ -158,7 +170,10 @@ next-least ns {x} r p i j e a b = none-some (sym (go b) ∙ a .1)
     go (inr (q, inr (s, inr (t, l)))) = cc (w .lower-j j l)
 
 -- The nodes that the strategy's step gives are those of its redex; there are some exactly where it finds one.
-pub next-step-some : (ns : List Node) {ms : List Node} → next-step ns ≡ some ms → (x : Redex) × (next ns ≡ some x) × (contract x ns ≡ some ms)
+pub next-step-some :
+    (ns : List Node) {ms : List Node} →
+    next-step ns ≡ some ms →
+    (x : Redex) × (next ns ≡ some x) × (contract x ns ≡ some ms)
 unfolding next-step
 next-step-some ns e = then-some (next ns) (λ x. contract x ns) e
 

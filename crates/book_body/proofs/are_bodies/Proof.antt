@@ -53,7 +53,9 @@ lined c =
     rw (c .word-at .ensures)
     (in-line-after (a .total) (l .sum) (a .m) (l .i) (a .contents .now) (c .before .loop-test .taken) (l .inv .1))
 
-fits : (c : tie.After-word-at Inv-loop μ-loop) → c .before .before .loop .sum + c .word-at .result ≤ c .before .before .before .before .before .args .total
+fits :
+    (c : tie.After-word-at Inv-loop μ-loop) →
+    c .before .before .loop .sum + c .word-at .result ≤ c .before .before .before .before .before .args .total
 fits c = in-line-sum _ _ _ (lined c)
 
 mul-from : tie.Need-mul-from Inv-loop μ-loop

@@ -17,7 +17,10 @@ use Rattle.book_body.proofs.is_body.Statement.{statement}
 use Rattle.book_body.proofs.is_body.Tie as tie
 
 -- One number more, before those that were scanned.
-more : (n count i : ℕ) (b : List ℕ) → i < count → scan n (words-from count i b) ≡ then (scan n (words-from count (i + 1) b)) (joined-by n (word b (2 * i)))
+more :
+    (n count i : ℕ) (b : List ℕ) →
+    i < count →
+    scan n (words-from count i b) ≡ then (scan n (words-from count (i + 1) b)) (joined-by n (word b (2 * i)))
 unfolding scan
 more n count i b h = rw (words-at count i b h)
 

@@ -17,7 +17,9 @@ use Rattle.book_codes.proofs.is_spelled.Statement.{statement}
 use Rattle.book_codes.proofs.is_spelled.Tie as tie
 
 -- Characters that end at a zero byte, or go on with another byte, beside some characters and beside none.
-beside-some : (zero? : Bool) (x y : ℕ) (a l : List ℕ) → same-list (x ∷ a) (pick zero? [] (y ∷ l)) ≡ pick zero? false (eqb x y && same-list a l)
+beside-some :
+    (zero? : Bool) (x y : ℕ) (a l : List ℕ) →
+    same-list (x ∷ a) (pick zero? [] (y ∷ l)) ≡ pick zero? false (eqb x y && same-list a l)
 unfolding same-list pick
 beside-some true x y a l = refl
 beside-some false x y a l = refl

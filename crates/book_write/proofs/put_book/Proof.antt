@@ -15,7 +15,13 @@ use Rattle.book_write.proofs.put_book.Statement.{statement}
 use Rattle.book_write.proofs.put_book.Tie as tie
 
 -- The parts of a sheet and of a book that are lent fit the part of a slice that is lent.
-parts-fit : (s b l : List ℕ) (n m t : ℕ) → length s ≡ sheet-length → t ≤ most-nodes → 8 + 13 * n ≤ length b → 8 + (13 * n + (4 * m + 2 * t)) ≤ length l → (length (midOf 3 (3 + t - 3) s) ≤ sheet-room) × (length (midOf 8 (8 + 13 * n - 8) b) + (4 * m + 2 * length (midOf 3 (3 + t - 3) s)) ≤ length (midOf 8 (length l - 8) l))
+parts-fit :
+    (s b l : List ℕ) (n m t : ℕ) →
+    length s ≡ sheet-length →
+    t ≤ most-nodes →
+    8 + 13 * n ≤ length b →
+    8 + (13 * n + (4 * m + 2 * t)) ≤ length l →
+    (length (midOf 3 (3 + t - 3) s) ≤ sheet-room) × (length (midOf 8 (8 + 13 * n - 8) b) + (4 * m + 2 * length (midOf 3 (3 + t - 3) s)) ≤ length (midOf 8 (length l - 8) l))
 parts-fit s b l n m t whole few codes room =
     let xs = mid-len 3 (3 + t) s (omega arith) in
     let cs = mid-len 8 (8 + 13 * n) b codes in

@@ -37,7 +37,10 @@ few : (c : tie.After-known-told) → trees c ≤ 65535
 unfolding counted
 few c = rw (counted-trees c) at (c .before .before .before .pre)
 
-due : (c : tie.After-known-told) (o : Option ℕ) → joined-by (c .before .before .before .args .n) (c .before .before .before .args .x) (trees c) ≡ o → Due c o
+due :
+    (c : tie.After-known-told) (o : Option ℕ) →
+    joined-by (c .before .before .before .args .n) (c .before .before .before .args .x) (trees c) ≡ o →
+    Due c o
 unfolding then
 due c o e = rw (counted-trees c) (sym e)
 

@@ -13,7 +13,11 @@ use Rattle.rule_spread.specs.Assigning.{names}
 use Rattle.rule_spread.proofs.occurs.Statement.{statement}
 use Rattle.rule_spread.proofs.occurs.Tie as tie
 
-more : (p : ℕ → Bool) (i to : ℕ) (l : List ℕ) → i < to → to ≤ length l → any p (slice i to l) ≡ (p (getD l i 0) || any p (slice (i + 1) to l))
+more :
+    (p : ℕ → Bool) (i to : ℕ) (l : List ℕ) →
+    i < to →
+    to ≤ length l →
+    any p (slice i to l) ≡ (p (getD l i 0) || any p (slice (i + 1) to l))
 unfolding any
 more p i to l h k = rw (slice-cons i to l 0 h k, add-one)
 

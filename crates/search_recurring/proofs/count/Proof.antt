@@ -24,7 +24,9 @@ number c = c .wide16 .ensures .0
 literal : (c : tie.Then1 Inv-loop μ-loop) → is-literal (c .before .before .wide16 .result) ≡ true
 literal c = sym (c .before .is-literal .ensures) ∙ c .if1 .taken
 
-option-within : (c : tie.After-value-of Inv-loop μ-loop) → c .value-of .result < length (c .before .before .before .before .before .before .loop .tally)
+option-within :
+    (c : tie.After-value-of Inv-loop μ-loop) →
+    c .value-of .result < length (c .before .before .before .before .before .before .loop .tally)
 option-within c =
     let w = c .before .before .before in
     let n = w .before .before .before in

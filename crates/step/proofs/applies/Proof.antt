@@ -17,7 +17,9 @@ right c =
     let a = c .before .before .before in
     head-right (a .args .rule) (a .pre .1) (sym (c .before .is-headed .ensures) ∙ not-false (c .before .is-headed .result) (c .if1 .left))
 
-counted : (c : tie.After-children-of) → c .children-of .result ≡ children (getD (c .before .before .before .before .before .before .args .part .now) 0 0)
+counted :
+    (c : tie.After-children-of) →
+    c .children-of .result ≡ children (getD (c .before .before .before .before .before .before .args .part .now) 0 0)
 counted c = c .children-of .ensures ∙ ap children (c .before .wide16 .ensures .0)
 
 returns : tie.Need-returns
