@@ -1,6 +1,5 @@
 // The table of the fourteen rules, the node kind and the fewest children of each, read by the rule's number; and the test of a node by it.
 ghost use mathlib.Core.Path.{_≡_};
-ghost use mathlib.Core.Option.{some};
 ghost use Prim.Native.Nat.{_≤_};
 ghost use Rattle.model.specs.Limits.{«last-rule»};
 ghost use Rattle.model.specs.Rules.{«is-rule»};

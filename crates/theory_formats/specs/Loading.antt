@@ -1,21 +1,19 @@
 -- Loading: what an accepted book holds, and that the sheet which it fills is a sheet and means what its bodies mean.
-use mathlib.Core.Bool.{true, _&&_, not}
+use mathlib.Core.Bool.{true}
 use mathlib.Core.List.{List, [], _∷_, _++_, map, flatten, map-append}
-use mathlib.Core.Option.{none, some}
+use mathlib.Core.Option.{some}
 use mathlib.Core.Path.{_≡_, refl, sym, ap, ap₂, _∙_}
 use Prim.Native.Nat.{ℕ, _≤_}
 use native.Mathlib.Omega.{arith}
-use borrow.Author.Tests.{eqb-true, eq-eqb, leb-true, le-leb, ltb-false, le-ltb, not-false}
-use lib.Dec.{eqb, leb, ltb}
 use lib.ListN.{length, drop}
-use Rattle.model.specs.Base.{only-if, first-of, all}
+use Rattle.model.specs.Base.{all}
 use Rattle.model.specs.Forest.{root, Forest, nil, _⊕_, size}
 use Rattle.model.specs.Code.{encode, decode, trees, weight, node-of}
 use Rattle.model.specs.Clauses.{clauses, need, no-tree, some-of}
 use Rattle.model.specs.Limits.{most-options, most-rules, most-nodes, most-weight, head-length}
 use Rattle.model.specs.Sheet.{body-node, is-sheet, sheet-of, clauses-in}
-use Rattle.model.specs.Book.{word, options-of, rules-of, size-of, head-in-limits, length-due, codes-of, contents-of, numbers-of, codes-ok, in-line, bodies-of, body-ok, book-nodes, clauses-of-body, clauses-of-book, contents-end}
-use Rattle.theory_forms.specs.Logic.{and-split, only-none, none-due}
+use Rattle.model.specs.Book.{word, options-of, rules-of, size-of, length-due, codes-of, contents-of, numbers-of, codes-ok, in-line, bodies-of, body-ok, book-nodes, clauses-of-body, clauses-of-book, contents-end}
+use Rattle.theory_forms.specs.Logic.{and-split}
 use Rattle.theory_forms.specs.Lists.{all-weaken, all-flatten}
 use Rattle.theory_forms.specs.Forests.{size-⊕}
 use Rattle.theory_forms.specs.Codes.{encode-⊕, decode-encode, encode-decode, trees-code, one-tree-is}

@@ -11,7 +11,7 @@ use lib.Seq.{drop-cons, drop-at}
 use Rattle.model.specs.Base.{pick, all}
 use Rattle.model.specs.Limits.{kind-factor}
 use Rattle.model.specs.Literal.{Literal, pos, neg, option}
-use Rattle.model.specs.Forest.{Conn, and, Forest, nil, lit, node, size, first, after}
+use Rattle.model.specs.Forest.{Conn, Forest, nil, lit, node, size, first, after}
 use Rattle.model.specs.Code.{Node, leaf, head, kind, value, children, encode, number-of}
 use Rattle.model.specs.Book.{counts}
 use Rattle.theory_forms.specs.Logic.{pick-true, pick-false, and-split, pick-keeps}

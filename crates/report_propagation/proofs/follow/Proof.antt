@@ -1,14 +1,12 @@
 -- `report_propagation::follow` meets its contract. Invariant: the literals of the trail were followed so far. Each turn of the loop goes
 -- down a chain or begins the next literal's, and the trail never has more literals than there are.
-use mathlib.Core.Path.{_≡_, refl, sym, _∙_}
+use mathlib.Core.Path.{refl}
 use Prim.Native.Nat.{_+_, _*_, _-_, _≤_, _<_}
 use native.Mathlib.Omega.{arith}
 use borrow.Author.Needs.{needs}
-use lib.ListN.{getD}
 use Rattle.model.specs.Limits.{sheet-length, most-literals}
 use Rattle.theory_forms.specs.Sheets.{Formed}
 use Rattle.report_parts.specs.Parts.{Parted, Linked}
-use Rattle.report_propagation.specs.Trails.{Next-due}
 use Rattle.report_propagation.proofs.Watching.{watching-none}
 use Rattle.report_propagation.proofs.Following.{fallen-report, Following, following-none, following-looked}
 use Rattle.report_propagation.proofs.Following.{following-over, following-some, following-all, followed}
