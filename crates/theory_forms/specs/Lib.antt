@@ -7,9 +7,9 @@ pub mod Forests
 pub mod Codes
 pub mod Numbers
 pub mod Scan
+-- The form of trees and of sheets; a choice keeps it.
 pub mod Rooted
 pub mod Fine
 pub mod Shape
--- Sheets, choices on them, and runs under way.
 pub mod Sheets
 pub mod Choice

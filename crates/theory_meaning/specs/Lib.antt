@@ -1,10 +1,12 @@
-pub mod TreeValues
-pub mod NumberTrees
--- Meaning: evaluation; clauses; propagation is exact.
+-- Evaluation; clauses; propagation is exact.
 pub mod Evaluation
 pub mod Clauses
 pub mod Exact
 pub mod ExactReports
+-- The values of trees, and what each family of rules does to them.
 pub mod Values
 pub mod Families
+-- Tables of failed literals, and the values of trees that numbers spell under them.
 pub mod FailedLiterals
+pub mod NumberTrees
+pub mod TreeValues

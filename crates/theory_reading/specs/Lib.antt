@@ -1,4 +1,4 @@
--- What code computes: numbers of literals told from others; numbers read from the left; stretches of a sheet, their heads and children.
+-- Numbers of literals told from others; numbers read from the left; stretches of a sheet, and the forests that they spell.
 pub mod Leaves
 pub mod Spans
 pub mod Flat

@@ -1,4 +1,4 @@
--- The rules: as a relation; what they keep of a value, and the form.
+-- The rules as a relation, and the form that they keep.
 pub mod Changes
 pub mod Inversion
 pub mod FineKept
@@ -7,12 +7,13 @@ pub mod ShapeKept
 pub mod Mass
 pub mod Measure
 pub mod Steps
--- The strategy and runs.
+-- The strategy, and runs.
 pub mod Least
 pub mod Bounds
 pub mod Strategy
 pub mod Runs
 pub mod Reached
+-- Rules on the stretch of a sheet from a place on: its head, its children, the families.
 pub mod SheetPlaces
 pub mod Heads
 pub mod Children
