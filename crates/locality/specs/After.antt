@@ -110,7 +110,11 @@ spreads-after p i j ns ms w =
       new-part = rest-as new (ap (λ n. p + suc n) as-long ∙ sym (end-at w)) (ap encode (nil-⊕ (w .rest)));
     }
 
-lifts-after : (p i j : ℕ) (ns ms : List Node) → Turned lifts p i j ns ms → let inner = child-place (child-place p i ns) j ns in Moved (inner + 1) (inner + 1) ns ms
+lifts-after :
+    (p i j : ℕ) (ns ms : List Node) →
+    Turned lifts p i j ns ms →
+    let inner = child-place (child-place p i ns) j ns in
+    Moved (inner + 1) (inner + 1) ns ms
 unfolding change lift encode _⊕_
 lifts-after p i j ns ms w =
     let k = w .children in

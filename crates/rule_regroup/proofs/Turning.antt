@@ -139,7 +139,9 @@ module _ {l : List ℕ} (s : Stretch l) (h : Headed 14 l) where
     groups-is : sharing (unit-of j (drop (child-at i l) l)) (children (getD l 0 0)) (drop 1 l) ≡ groups (h .children)
     groups-is = ap₂ (λ x m. sharing x m (drop 1 l)) unit-number (group-children rule-group) ∙ groups-number
 
-    pub groups-few : let g = sharing (unit-of j (drop (child-at i l) l)) (children (getD l 0 0)) (drop 1 l) in (g < kind-factor) × (g ≤ getD l 0 0) × (getD l 0 0 < 20480)
+    pub groups-few :
+        let g = sharing (unit-of j (drop (child-at i l) l)) (children (getD l 0 0)) (drop 1 l) in
+        (g < kind-factor) × (g ≤ getD l 0 0) × (getD l 0 0 < 20480)
     unfolding number conn-kind
     groups-few =
         let few = group-few rule-group in

@@ -18,7 +18,13 @@ use Rattle.search_sizes.specs.SizeTables.{Sizes-of, Measured}
 use Rattle.search_sizes.proofs.SizeEntries.{sizes-part, sheet-sizes}
 
 -- The numbers of a sheet from a place on spell the trees there.
-pub sheet-spelled : {s : List ℕ} → Formed s → (p : ℕ) → p ≤ used-in s → let f = decode (drop p (nodes-in s)) in (z : ℕ) × (drop (2 + p) s ≡ spell f z) × Fits f
+pub sheet-spelled :
+    {s : List ℕ} →
+    Formed s →
+    (p : ℕ) →
+    p ≤ used-in s →
+    let f = decode (drop p (nodes-in s)) in
+    (z : ℕ) × (drop (2 + p) s ≡ spell f z) × Fits f
 unfolding spell-to
 sheet-spelled {s} h p le =
     let w = sheet-stretch s p h le in

@@ -77,7 +77,14 @@ cut-at a b l one h k =
     ap (drop 1) parts ∙ drop-append-le 1 (take a l) (getD l a 0 ∷ slice (a + 1) b l) (omega (arith, length-take-le a l (omega arith)))
 
 -- The option of a literal occurs around it where it is counted twice.
-pub twice-spreads : {a b : ℕ} {l t : List ℕ} → Tallied 1 b l t → 1 ≤ a → a < b → b ≤ length l → let x = getD l a 0 in (is-literal x && eqb (getD t (value x) 0) 2) ≡ spreads-from a b l
+pub twice-spreads :
+    {a b : ℕ} {l t : List ℕ} →
+    Tallied 1 b l t →
+    1 ≤ a →
+    a < b →
+    b ≤ length l →
+    let x = getD l a 0 in
+    (is-literal x && eqb (getD t (value x) 0) 2) ≡ spreads-from a b l
 unfolding spreads-from names
 twice-spreads {a} {b} {l} {t} w one h k = go (is-literal x) refl
   where

@@ -24,7 +24,13 @@ three-set :
 three-set n u r x z t e = set-at (n ∷ (u + 1) ∷ (r + 1) ∷ t) 0 (replicate z 0) x (2 + u) (omega arith)
 
 -- On a sheet's own numbers.
-pub appended : (n k : ℕ) (ns : List Node) (l : Literal) → Shaped n (head root k ∷ ns) → suc (length ns) < sheet-room → let s = sheet-of n (head root k ∷ ns) in set (set (set s 1 (suc (length ns) + 1)) 2 (number-of (head root k) + 1)) (2 + suc (length ns)) (number-of (leaf l)) ≡ sheet-of n (chosen l (head root k ∷ ns))
+pub appended :
+    (n k : ℕ) (ns : List Node) (l : Literal) →
+    Shaped n (head root k ∷ ns) →
+    suc (length ns) < sheet-room →
+    let s = sheet-of n (head root k ∷ ns) in
+    set (set (set s 1 (suc (length ns) + 1)) 2 (number-of (head root k) + 1)) (2 + suc (length ns)) (number-of (leaf l))
+    ≡ sheet-of n (chosen l (head root k ∷ ns))
 unfolding sheet-of number-of number conn-value
 appended n k ns l form room =
     let z = sheet-room - suc (suc (length ns)) in

@@ -31,7 +31,13 @@ use Rattle.model.specs.Results.{stepped}
 
 module _ (s : List ℕ) (h : Formed s) where
   -- The stretch as a step leaves it, after the numbers before its place.
-  turned-numbers : (r p i j : ℕ) {g : Forest} → p < used-in s → rewrite r i j (decode (drop p (nodes-in s))) ≡ some g → let ms = take p (nodes-in s) ++ encode g in take (2 + p) s ++ rewritten-to r i j (drop (2 + p) s) ≡ options-in s ∷ used-in s ∷ (map number-of ms ++ replicate (sheet-room - length ms) 0)
+  turned-numbers :
+      (r p i j : ℕ) {g : Forest} →
+      p < used-in s →
+      rewrite r i j (decode (drop p (nodes-in s))) ≡ some g →
+      let ms = take p (nodes-in s) ++ encode g in
+      take (2 + p) s ++ rewritten-to r i j (drop (2 + p) s)
+      ≡ options-in s ∷ used-in s ∷ (map number-of ms ++ replicate (sheet-room - length ms) 0)
   unfolding rewritten-to spell-to spell maybe
   turned-numbers r p i j {g} lt e =
       let facts = h in
@@ -49,7 +55,11 @@ module _ (s : List ℕ) (h : Formed s) where
       ∙ ap (λ xs. options-in s ∷ used-in s ∷ xs) joined
 
   -- With the new used count it is the sheet that the step leaves.
-  pub turned-sheet : (r p i j : ℕ) → is-some (M.step r p i j (nodes-in s)) ≡ true → let new = take (2 + p) s ++ rewritten-to r i j (drop (2 + p) s) in set new 1 (length (live (drop 2 new))) ≡ stepped s r p i j
+  pub turned-sheet :
+      (r p i j : ℕ) →
+      is-some (M.step r p i j (nodes-in s)) ≡ true →
+      let new = take (2 + p) s ++ rewritten-to r i j (drop (2 + p) s) in
+      set new 1 (length (live (drop 2 new))) ≡ stepped s r p i j
   unfolding stepped maybe sheet-of then M.step
   turned-sheet r p i j t =
       let ns = nodes-in s in
@@ -123,7 +133,9 @@ module _ (s : List ℕ) (h : Formed s) (r p i j : ℕ) (t : is-some (M.step r p 
         omega (arith, ap length all, length-append (take (2 + p) s) ys, length-take-le (2 + p) s (omega (arith, ready .whole, ready .within)), ready .whole, ready .within)
 
     -- With its live numbers counted it is the sheet that the step leaves.
-    pub back-sheet : let new = putMid (2 + p) (length s - (2 + p)) s ys in set new 1 (length (live (midOf 2 (length new - 2) new))) ≡ stepped s r p i j
+    pub back-sheet :
+        let new = putMid (2 + p) (length s - (2 + p)) s ys in
+        set new 1 (length (live (midOf 2 (length new - 2) new))) ≡ stepped s r p i j
     back-sheet =
         let new = putMid (2 + p) (length s - (2 + p)) s ys in
         ap (λ xs. set new 1 (length (live xs))) (lent-part 2 new)

@@ -16,7 +16,13 @@ use Rattle.book_body.proofs.are_bodies.Statement.{statement}
 use Rattle.book_body.proofs.are_bodies.Tie as tie
 
 -- One body more, where its entry ends within the total.
-more : (n total sum m i : ℕ) (b s : List ℕ) → i < m → let k = word b (4 * i + 2) in sum + k ≤ total → all (body-ok n) (cut (entries-from m i b) (words-from total sum s)) ≡ (body-ok n (words k (drop (2 * sum) s)) && all (body-ok n) (cut (entries-from m (i + 1) b) (words-from total (sum + k) s)))
+more :
+    (n total sum m i : ℕ) (b s : List ℕ) →
+    i < m →
+    let k = word b (4 * i + 2) in
+    sum + k ≤ total →
+    all (body-ok n) (cut (entries-from m i b) (words-from total sum s))
+    ≡ (body-ok n (words k (drop (2 * sum) s)) && all (body-ok n) (cut (entries-from m (i + 1) b) (words-from total (sum + k) s)))
 unfolding cut all
 more n total sum m i b s h within =
     let k = word b (4 * i + 2) in
@@ -46,7 +52,11 @@ word-at-requires : tie.Need-word-at-requires Inv-loop μ-loop
 word-at-requires c κs = omega arith
 
 -- What the next entry leaves: the entries after it are in line, so that its nodes are within the total.
-lined : (c : tie.After-word-at Inv-loop μ-loop) → let a = c .before .before .before .before .before .args in let l = c .before .before .loop in in-line (a .total) (l .sum + c .word-at .result) (entries-from (a .m) (l .i + 1) (a .contents .now)) ≡ true
+lined :
+    (c : tie.After-word-at Inv-loop μ-loop) →
+    let a = c .before .before .before .before .before .args in
+    let l = c .before .before .loop in
+    in-line (a .total) (l .sum + c .word-at .result) (entries-from (a .m) (l .i + 1) (a .contents .now)) ≡ true
 lined c =
     let a = c .before .before .before .before .before .args in
     let l = c .before .before .loop in
@@ -78,7 +88,13 @@ is-body-requires c κs =
     (omega arith, rw (part-to-end s k, length-drop k s) (omega arith))
 
 -- The answer for the next body, and what is left after it.
-step : (c : tie.After-is-body Inv-loop μ-loop) → let k = c .before .before in let a = k .before .before .before .before .before .args in let l = k .before .before .loop in all (body-ok (a .n)) (cut (entries (a .m) (a .contents .now)) (words (a .total) (a .s .now))) ≡ (c .is-body .result && all (body-ok (a .n)) (cut (entries-from (a .m) (l .i + 1) (a .contents .now)) (words-from (a .total) (l .sum + k .word-at .result) (a .s .now))))
+step :
+    (c : tie.After-is-body Inv-loop μ-loop) →
+    let k = c .before .before in
+    let a = k .before .before .before .before .before .args in
+    let l = k .before .before .loop in
+    all (body-ok (a .n)) (cut (entries (a .m) (a .contents .now)) (words (a .total) (a .s .now)))
+    ≡ (c .is-body .result && all (body-ok (a .n)) (cut (entries-from (a .m) (l .i + 1) (a .contents .now)) (words-from (a .total) (l .sum + k .word-at .result) (a .s .now))))
 step c =
     let k = c .before .before in
     let a = k .before .before .before .before .before .args in

@@ -34,7 +34,12 @@ word-at-requires-2 : tie.Need-word-at-requires-2 Inv-loop μ-loop
 word-at-requires-2 c κs = omega arith
 
 -- One entry more.
-more : (c : tie.After-word-at2 Inv-loop μ-loop) → let n = c .before .before .before in let a = n .before .before .args in in-line (a .total) 0 (entries (a .m) (a .s .now)) ≡ (eqb (c .before .word-at .result) (n .loop .sum) && leb 1 (c .word-at2 .result) && in-line (a .total) (n .loop .sum + c .word-at2 .result) (entries-from (a .m) (n .loop .i + 1) (a .s .now)))
+more :
+    (c : tie.After-word-at2 Inv-loop μ-loop) →
+    let n = c .before .before .before in
+    let a = n .before .before .args in
+    in-line (a .total) 0 (entries (a .m) (a .s .now))
+    ≡ (eqb (c .before .word-at .result) (n .loop .sum) && leb 1 (c .word-at2 .result) && in-line (a .total) (n .loop .sum + c .word-at2 .result) (entries-from (a .m) (n .loop .i + 1) (a .s .now)))
 more c =
     let n = c .before .before .before in
     let a = n .before .before .args in
@@ -48,7 +53,13 @@ returns c =
     sym (more k ∙ rw (ne-eqb (k .before .word-at .result) (k .before .before .before .loop .sum) (c .if1 .taken)))
 
 -- Where the entry's first node is the sum, its count decides.
-by-count : (c : tie.Else1 Inv-loop μ-loop) → let k = c .before in let n = k .before .before .before in let a = n .before .before .args in in-line (a .total) 0 (entries (a .m) (a .s .now)) ≡ (leb 1 (k .word-at2 .result) && in-line (a .total) (n .loop .sum + k .word-at2 .result) (entries-from (a .m) (n .loop .i + 1) (a .s .now)))
+by-count :
+    (c : tie.Else1 Inv-loop μ-loop) →
+    let k = c .before in
+    let n = k .before .before .before in
+    let a = n .before .before .args in
+    in-line (a .total) 0 (entries (a .m) (a .s .now))
+    ≡ (leb 1 (k .word-at2 .result) && in-line (a .total) (n .loop .sum + k .word-at2 .result) (entries-from (a .m) (n .loop .i + 1) (a .s .now)))
 by-count c =
     let k = c .before in
     more k ∙ rw (eq-eqb (k .before .word-at .result) (k .before .before .before .loop .sum) (c .if1 .left))

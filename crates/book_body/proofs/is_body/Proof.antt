@@ -64,7 +64,10 @@ enum-told : tie.Need-enum-told Inv-loop μ-loop
 enum-told c = search needs
 
 -- The numbers have all been scanned.
-scanned : (c : tie.After-loop Inv-loop μ-loop) → let a = c .before .before .before .args in body-ok (a .n) (words (a .count) (a .s .now)) ≡ exactly-one (treesOf (c .before .loop .trees))
+scanned :
+    (c : tie.After-loop Inv-loop μ-loop) →
+    let a = c .before .before .before .args in
+    body-ok (a .n) (words (a .count) (a .s .now)) ≡ exactly-one (treesOf (c .before .loop .trees))
 scanned c =
     let l = c .before .loop in
     let a = c .before .before .before .args in

@@ -52,7 +52,11 @@ part-is-spelled-start c = omega arith
 part-is-spelled-end : tie.Need-part-is-spelled-end Inv-loop μ-loop
 part-is-spelled-end c = omega arith
 
-turn : (c : tie.In-loop Inv-loop μ-loop) → let a = c .before .before .before .before .args in option-of-code (a .given .now) 0 (pieces code-length (a .n) (a .s .now)) ≡ found-by (a .given .now) (a .n) (a .s .now) (c .before .loop .i)
+turn :
+    (c : tie.In-loop Inv-loop μ-loop) →
+    let a = c .before .before .before .before .args in
+    option-of-code (a .given .now) 0 (pieces code-length (a .n) (a .s .now))
+    ≡ found-by (a .given .now) (a .n) (a .s .now) (c .before .loop .i)
 turn c = let n = c .before in let a = n .before .before .before .args in n .loop .inv .1 ∙ more (a .given .now) (a .n) (a .s .now) (n .loop .i) (omega arith)
 
 returns : tie.Need-returns Inv-loop μ-loop

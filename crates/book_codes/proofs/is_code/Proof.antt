@@ -47,7 +47,11 @@ Inv-loop s k₀ k = (k ≤ code-length) × (code-ok (take code-length s) ≡ ok-
 abbrev μ-loop : tie.MeasureT-loop
 μ-loop s k₀ k = code-length - k
 
-turn : (c : tie.In-loop Inv-loop μ-loop) → let n = c .before in let s = n .before .before .before .before .before .args .s .now in code-ok (take code-length s) ≡ ok-by s (n .loop .k)
+turn :
+    (c : tie.In-loop Inv-loop μ-loop) →
+    let n = c .before in
+    let s = n .before .before .before .before .before .args .s .now in
+    code-ok (take code-length s) ≡ ok-by s (n .loop .k)
 turn c = let n = c .before in n .loop .inv .1 ∙ more (n .before .before .before .before .before .args .s .now) (n .loop .k) (omega arith) (omega arith)
 
 shared-slice-read-is-character : tie.Need-shared-slice-read-is-character Inv-loop μ-loop

@@ -36,7 +36,11 @@ Inv-loop s t k₀ k = (k ≤ code-length) × (same-code (take code-length s) (ta
 abbrev μ-loop : tie.MeasureT-loop
 μ-loop s t k₀ k = code-length - k
 
-turn : (c : tie.In-loop Inv-loop μ-loop) → let n = c .before in let a = n .before .args in same-code (take code-length (a .s .now)) (take code-length (a .t .now)) ≡ same-by (a .s .now) (a .t .now) (n .loop .k)
+turn :
+    (c : tie.In-loop Inv-loop μ-loop) →
+    let n = c .before in
+    let a = n .before .args in
+    same-code (take code-length (a .s .now)) (take code-length (a .t .now)) ≡ same-by (a .s .now) (a .t .now) (n .loop .k)
 turn c = let n = c .before in let a = n .before .args in n .loop .inv .1 ∙ more (a .s .now) (a .t .now) (n .loop .k) (omega arith) (omega arith) (omega arith)
 
 loop-holds : tie.Need-loop-holds Inv-loop μ-loop

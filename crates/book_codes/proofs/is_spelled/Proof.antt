@@ -74,7 +74,11 @@ returns c =
     let s = c .before .args .s .now in
     sym (too-long (c .before .args .given .now) (take code-length s) (rw (length-take-le code-length s (omega arith)) (omega arith)))
 
-turn : (c : tie.In-loop Inv-loop μ-loop) → let n = c .before in let a = n .before .before .args in same-code (a .given .now) (characters (take code-length (a .s .now))) ≡ agree-by (a .s .now) (a .given .now) (n .loop .j)
+turn :
+    (c : tie.In-loop Inv-loop μ-loop) →
+    let n = c .before in
+    let a = n .before .before .args in
+    same-code (a .given .now) (characters (take code-length (a .s .now))) ≡ agree-by (a .s .now) (a .given .now) (n .loop .j)
 turn c = let n = c .before in let a = n .before .before .args in n .loop .inv .1 ∙ more (a .s .now) (a .given .now) (omega arith) (n .loop .j) (omega arith) (omega arith)
 
 loop-holds : tie.Need-loop-holds Inv-loop μ-loop

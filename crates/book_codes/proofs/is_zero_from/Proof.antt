@@ -35,7 +35,11 @@ Inv-loop s from k₀ k = (k ≤ code-length) × (zero-from s from ≡ zero-from 
 abbrev μ-loop : tie.MeasureT-loop
 μ-loop s from k₀ k = code-length - k
 
-turn : (c : tie.In-loop Inv-loop μ-loop) → let n = c .before in let a = n .before .args in zero-from (a .s .now) (a .from) ≡ zero-by (a .s .now) (n .loop .k)
+turn :
+    (c : tie.In-loop Inv-loop μ-loop) →
+    let n = c .before in
+    let a = n .before .args in
+    zero-from (a .s .now) (a .from) ≡ zero-by (a .s .now) (n .loop .k)
 turn c = let n = c .before in n .loop .inv .1 ∙ more (n .before .args .s .now) (n .loop .k) (omega arith) (omega arith)
 
 loop-holds : tie.Need-loop-holds Inv-loop μ-loop

@@ -20,7 +20,12 @@ Inv-loop s n i₀ i = (i ≤ n) × (codes-ok (pieces code-length n s) ≡ ok-fro
 abbrev μ-loop : tie.MeasureT-loop
 μ-loop s n i₀ i = n - i
 
-turn : (c : tie.In-loop Inv-loop μ-loop) → let n = c .before in let a = n .before .before .args in codes-ok (pieces code-length (a .n) (a .s .now)) ≡ code-ok (code-at (a .s .now) (n .loop .i)) && not (comes-after (a .n) (a .s .now) (n .loop .i)) && ok-from (a .n) (a .s .now) (n .loop .i + 1)
+turn :
+    (c : tie.In-loop Inv-loop μ-loop) →
+    let n = c .before in
+    let a = n .before .before .args in
+    codes-ok (pieces code-length (a .n) (a .s .now))
+    ≡ code-ok (code-at (a .s .now) (n .loop .i)) && not (comes-after (a .n) (a .s .now) (n .loop .i)) && ok-from (a .n) (a .s .now) (n .loop .i + 1)
 turn c = let n = c .before in let a = n .before .before .args in n .loop .inv .1 ∙ ok-more (a .n) (a .s .now) (n .loop .i) (omega arith)
 
 loop-holds : tie.Need-loop-holds Inv-loop μ-loop

@@ -26,7 +26,12 @@ Inv-loop s n i₀ i = (i ≤ n) × (again n s ≡ comes-from (take code-length s
 abbrev μ-loop : tie.MeasureT-loop
 μ-loop s n i₀ i = n - i
 
-turn : (c : tie.In-loop Inv-loop μ-loop) → let n = c .before in let a = n .before .before .args in again (a .n) (a .s .now) ≡ same-code (take code-length (a .s .now)) (code-at (a .s .now) (n .loop .i)) || comes-from (take code-length (a .s .now)) (a .n) (a .s .now) (n .loop .i + 1)
+turn :
+    (c : tie.In-loop Inv-loop μ-loop) →
+    let n = c .before in
+    let a = n .before .before .args in
+    again (a .n) (a .s .now)
+    ≡ same-code (take code-length (a .s .now)) (code-at (a .s .now) (n .loop .i)) || comes-from (take code-length (a .s .now)) (a .n) (a .s .now) (n .loop .i + 1)
 turn c = let n = c .before in let a = n .before .before .args in n .loop .inv .1 ∙ comes-more (a .n) (a .s .now) (take code-length (a .s .now)) (n .loop .i) (omega arith)
 
 loop-holds : tie.Need-loop-holds Inv-loop μ-loop

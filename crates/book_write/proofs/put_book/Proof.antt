@@ -29,7 +29,13 @@ parts-fit s b l n m t whole few codes room =
     (omega arith, omega arith)
 
 -- The sheet is whole, the codes stand in the book, and what is written fits.
-known : (c : tie.After-rules-in) → let a = c .before .before .before .before .before .before .args in let n = c .before .before .options-in .result in let m = c .rules-in .result in let t = c .before .nodes-below .result in (length (a .sheet .now) ≡ sheet-length) × (8 + 13 * n ≤ length (a .book .now)) × (8 + (13 * n + (4 * m + 2 * t)) ≤ length (a .out .now))
+known :
+    (c : tie.After-rules-in) →
+    let a = c .before .before .before .before .before .before .args in
+    let n = c .before .before .options-in .result in
+    let m = c .rules-in .result in
+    let t = c .before .nodes-below .result in
+    (length (a .sheet .now) ≡ sheet-length) × (8 + 13 * n ≤ length (a .book .now)) × (8 + (13 * n + (4 * m + 2 * t)) ≤ length (a .out .now))
 known c =
     let start = c .before .before .before .before .before .before in
     let s = start .args .sheet .now in

@@ -63,7 +63,12 @@ returns-3 c =
     (joined-literal _ _ (trees k) (body (c .before .before)) literal ∙ ap some (sym (add-one (trees k))))
 
 -- A connective takes as many trees as it has children.
-takes : (c : tie.After-children-of) (o : Option ℕ) → let k = c .before .before .before .before .before in let v = c .children-of .result in only-if (leb v (trees k)) (suc (trees k - v)) ≡ o → Due k o
+takes :
+    (c : tie.After-children-of) (o : Option ℕ) →
+    let k = c .before .before .before .before .before in
+    let v = c .children-of .result in
+    only-if (leb v (trees k)) (suc (trees k - v)) ≡ o →
+    Due k o
 takes c o e =
     let k = c .before .before .before .before .before in
     let inner = sym (c .before .before .is-literal .ensures) ∙ c .before .if2 .left in

@@ -160,7 +160,11 @@ loop-holds c =
     begun _ _ _ (length-take-le (a .args .end) (a .args .places .now) (a .pre .0 .0)) (a .pre .1 .1) (a .pre .0 .2)
 
 -- The tree's literals begin and end within the literals.
-within : (c : tie.Then1 Inv-loop μ-loop) → let n = c .before .before .before .before in let a = n .before .before .before .before .args in (c .before .wide16 .result / 2 ≤ n .loop .to) × (n .loop .to ≤ a .end) × (a .end ≤ length (a .places .now))
+within :
+    (c : tie.Then1 Inv-loop μ-loop) →
+    let n = c .before .before .before .before in
+    let a = n .before .before .before .before .args in
+    (c .before .wide16 .result / 2 ≤ n .loop .to) × (n .loop .to ≤ a .end) × (a .end ≤ length (a .places .now))
 unfolding begin
 within c =
     let n = c .before .before .before .before in

@@ -60,7 +60,11 @@ module _ {places fs : List ℕ} {base end : ℕ} (g : Children places fs base en
       (take-take base r new above ∙ same ∙ sym (take-take base end places low)) places-new (λ q. rw h (each q))
 
 -- What the test says of the trees.
-fallen : (c : tie.Joined1) → c .if1 .fails ≡ true → let a = c .before .before .before .before .before .args in ((a .disjunction ≡ true) × (standing (a .children .now) ≡ 0)) ⊎ ((a .disjunction ≡ false) × (standing (a .children .now) < length (a .children .now)))
+fallen :
+    (c : tie.Joined1) →
+    c .if1 .fails ≡ true →
+    let a = c .before .before .before .before .before .args in
+    ((a .disjunction ≡ true) × (standing (a .children .now) ≡ 0)) ⊎ ((a .disjunction ≡ false) × (standing (a .children .now) < length (a .children .now)))
 fallen c h =
     let n = c .before .count-standing in
     let fs = c .before .before .before .before .before .args .children .now in
@@ -69,7 +73,11 @@ fallen c h =
     (λ w. inr (w .0 .left, omega (arith, ltb-true (n .result) (length fs) (sym (w .1) ∙ h), n .ensures .0)))
     (c .if1 .came)
 
-stood : (c : tie.Joined1) → c .if1 .fails ≡ false → let a = c .before .before .before .before .before .args in ((a .disjunction ≡ true) × (1 ≤ standing (a .children .now))) ⊎ ((a .disjunction ≡ false) × (standing (a .children .now) ≡ length (a .children .now)))
+stood :
+    (c : tie.Joined1) →
+    c .if1 .fails ≡ false →
+    let a = c .before .before .before .before .before .args in
+    ((a .disjunction ≡ true) × (1 ≤ standing (a .children .now))) ⊎ ((a .disjunction ≡ false) × (standing (a .children .now) ≡ length (a .children .now)))
 stood c h =
     let n = c .before .count-standing in
     let fs = c .before .before .before .before .before .args .children .now in

@@ -37,7 +37,10 @@ inner : (c : tie.Else1) → is-literal (c .before .before .before .before .befor
 inner c = sym (c .before .is-literal .ensures) ∙ c .if1 .left
 
 -- A connective's children are on the stack.
-enough : (c : tie.After-children-of) → let a = c .before .before .before .before .before .before .before .args in a .top + c .children-of .result ≤ length (a .stack .now)
+enough :
+    (c : tie.After-children-of) →
+    let a = c .before .before .before .before .before .before .before .args in
+    a .top + c .children-of .result ≤ length (a .stack .now)
 enough c =
     let a = c .before .before .before .before .before .before .before in
     omega (arith, c .children-of .ensures, a .pre .0 .2 (inner (c .before)))

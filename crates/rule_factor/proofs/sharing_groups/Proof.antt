@@ -29,7 +29,10 @@ shares-requires c κs =
     rw (lent-part (n .loop .at) l) (omega (arith, length-drop (n .loop .at) l, ltb-true), omega (arith, length-drop (n .loop .at) l))
 
 -- What is found of the tree at the present place.
-shown : (c : tie.After-shares Inv-loop μ-loop) → let n = c .before .before .before .before in c .shares .result ≡ shares-here (n .before .before .args .literal) (drop (n .loop .at) (n .before .before .args .part .now))
+shown :
+    (c : tie.After-shares Inv-loop μ-loop) →
+    let n = c .before .before .before .before in
+    c .shares .result ≡ shares-here (n .before .before .args .literal) (drop (n .loop .at) (n .before .before .args .part .now))
 shown c = let n = c .before .before .before .before in rw (lent-part (n .loop .at) (n .before .before .args .part .now)) at (c .shares .ensures)
 
 returns : tie.Need-returns Inv-loop μ-loop

@@ -22,7 +22,10 @@ loop-holds : tie.Need-loop-holds Inv-loop μ-loop
 loop-holds c = (c .before .pre .0, c .before .pre .1, refl)
 
 -- What is read of the number at the present place.
-seen : (c : tie.After-is-literal Inv-loop μ-loop) → let n = c .before .before .before .before in c .is-literal .result ≡ is-literal (getD (n .before .before .args .part .now) (n .loop .k) 0)
+seen :
+    (c : tie.After-is-literal Inv-loop μ-loop) →
+    let n = c .before .before .before .before in
+    c .is-literal .result ≡ is-literal (getD (n .before .before .args .part .now) (n .loop .k) 0)
 seen c = c .is-literal .ensures ∙ ap is-literal (c .before .wide16 .ensures .0)
 
 returns : tie.Need-returns Inv-loop μ-loop

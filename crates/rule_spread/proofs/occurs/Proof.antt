@@ -33,7 +33,12 @@ abbrev μ-loop : tie.MeasureT-loop
 μ-loop part from to option k₀ k = to - k
 
 -- What is left, told by the present number and those after it.
-now : (c : tie.In-loop Inv-loop μ-loop) → let n = c .before in let a = n .before .before .args in any (names (a .option)) (slice (a .from) (a .to) (a .part .now)) ≡ (names (a .option) (getD (a .part .now) (n .loop .k) 0) || any (names (a .option)) (slice (n .loop .k + 1) (a .to) (a .part .now)))
+now :
+    (c : tie.In-loop Inv-loop μ-loop) →
+    let n = c .before in
+    let a = n .before .before .args in
+    any (names (a .option)) (slice (a .from) (a .to) (a .part .now))
+    ≡ (names (a .option) (getD (a .part .now) (n .loop .k) 0) || any (names (a .option)) (slice (n .loop .k + 1) (a .to) (a .part .now)))
 now c =
     let n = c .before in
     let a = n .before .before .args in

@@ -13,7 +13,11 @@ use Rattle.run_bounds_after.proofs.child_place.Tie as tie
 known : (c : tie.Start) → Here (c .args .sheet .now) (c .args .place) (c .args .i)
 known c = here (c .args .sheet .now) (c .pre .0) (c .args .place) (c .args .i) (c .pre .1)
 
-found : (c : tie.After-child-at) → let b = c .before .before .before in let a = b .args in c .child-at .result ≡ child-at (a .i) (drop (2 + a .place) (a .sheet .now))
+found :
+    (c : tie.After-child-at) →
+    let b = c .before .before .before in
+    let a = b .args in
+    c .child-at .result ≡ child-at (a .i) (drop (2 + a .place) (a .sheet .now))
 found c =
     let a = c .before .before .before .args in
     c .child-at .ensures .0 ∙ ap (child-at (a .i)) (lent-part (2 + a .place) (a .sheet .now))

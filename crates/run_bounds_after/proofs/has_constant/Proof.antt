@@ -25,11 +25,17 @@ abbrev μ-loop : tie.MeasureT-loop
 placed : (c : tie.Start Inv-loop μ-loop) → (c .args .place < sheet-room) × (length (c .args .sheet .now) ≡ sheet-length)
 placed c = let w = lend (c .args .sheet .now) (c .pre .0 .sheet) (c .args .place) (c .pre .1) in (w .within, w .whole)
 
-counted : (c : tie.After-arity-of Inv-loop μ-loop) → let a = c .before .before .before .before .before .args in c .arity-of .result ≡ arity (getD (a .sheet .now) (2 + a .place) 0)
+counted :
+    (c : tie.After-arity-of Inv-loop μ-loop) →
+    let a = c .before .before .before .before .before .args in
+    c .arity-of .result ≡ arity (getD (a .sheet .now) (2 + a .place) 0)
 counted c = c .arity-of .ensures .0 ∙ ap arity (c .before .wide16 .ensures .0)
 
 -- Child i is there, and begins within the sheet.
-here : (c : tie.In-loop Inv-loop μ-loop) → let a = c .before .before .before .before .before .before .before .args in c .before .loop .i < arity (getD (a .sheet .now) (2 + a .place) 0)
+here :
+    (c : tie.In-loop Inv-loop μ-loop) →
+    let a = c .before .before .before .before .before .before .before .args in
+    c .before .loop .i < arity (getD (a .sheet .now) (2 + a .place) 0)
 here c = omega (arith, counted (c .before .before), c .loop-test .taken)
 
 inside : (c : tie.In-loop Inv-loop μ-loop) → c .before .loop .at < sheet-room
@@ -38,7 +44,10 @@ inside c =
     child-inside (b .pre .0 .sheet) (b .pre .1) (c .before .loop .inv .here) (here c)
 
 -- So the table has its size.
-entry : (c : tie.In-loop Inv-loop μ-loop) → let a = c .before .before .before .before .before .before .before .args in c .before .loop .at < length (drop 2 (a .sheet .now))
+entry :
+    (c : tie.In-loop Inv-loop μ-loop) →
+    let a = c .before .before .before .before .before .before .before .args in
+    c .before .loop .at < length (drop 2 (a .sheet .now))
 entry c =
     let b = c .before .before .before .before .before .before .before in
     omega (arith, inside c, length-drop 2 (b .args .sheet .now), b .pre .0 .sheet .whole)

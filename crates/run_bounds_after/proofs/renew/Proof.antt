@@ -18,7 +18,11 @@ whole c =
     let d = c .before .before .before .before in
     c .put-ones .kept .0 ∙ d .close-up .kept .0 ∙ d .before .before .before .before .pre .0
 
-ones : (c : tie.After-put-ones) → let a = start c .args in let z = a .plan .zone in Ones (z .from) (z .new) (gone (a .low .now) (z .new) (z .old - z .new)) (c .put-ones .last .0)
+ones :
+    (c : tie.After-put-ones) →
+    let a = start c .args in
+    let z = a .plan .zone in
+    Ones (z .from) (z .new) (gone (a .low .now) (z .new) (z .old - z .new)) (c .put-ones .last .0)
 ones c =
     let d = c .before .before .before .before in
     let e = c .put-ones .ensures in

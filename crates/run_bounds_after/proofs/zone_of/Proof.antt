@@ -20,7 +20,10 @@ here c =
     (omega (arith, within (a .sheet .now) h (a .redex) (c .pre .1), h .used), r .0, r .1)
 
 -- Where the tree at the place ends.
-ended : (c : tie.After-wide16) → let a = c .before .before .before .before .args in a .redex .place + c .wide16 .result ≡ tree-end (a .redex .place) (nodes-in (a .sheet .now))
+ended :
+    (c : tie.After-wide16) →
+    let a = c .before .before .before .before .args in
+    a .redex .place + c .wide16 .result ≡ tree-end (a .redex .place) (nodes-in (a .sheet .now))
 ended c =
     let b = c .before .before .before .before in
     let a = b .args in

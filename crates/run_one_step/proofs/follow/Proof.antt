@@ -12,7 +12,11 @@ use Rattle.run_one_step.proofs.follow.Tie as tie
 spreads : (c : tie.Then2) → let a = c .before .before .before .before .before .args in (9 ≤ a .rule) × (a .rule ≤ 10)
 spreads c = (c .before .if1 .left, omega (arith, c .if2 .taken))
 
-tree : (c : tie.Then2) → let a = c .before .before .before .before .before .args in let p = a .plan in (p .zone .from ≡ p .place) × (p .place < p .zone .new) × (p .zone .new ≤ used-in (a .sheet .now))
+tree :
+    (c : tie.Then2) →
+    let a = c .before .before .before .before .before .args in
+    let p = a .plan in
+    (p .zone .from ≡ p .place) × (p .place < p .zone .new) × (p .zone .new ≤ used-in (a .sheet .now))
 tree c = c .before .before .before .before .before .pre .1 .1 .1 (spreads c .0) (spreads c .1)
 
 set-back-requires : tie.Need-set-back-requires

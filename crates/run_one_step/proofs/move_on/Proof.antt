@@ -19,7 +19,10 @@ made c =
     let b = k .before .before .before .before .before .before in
     formed-after (b .pre .0) (b .pre .1) (k .look-ahead .ensures) (c .apply .ensures)
 
-counted : (c : tie.After-wide16) → let k = c .before .before .before in c .wide16 .result ≡ used-in (k .before .before .before .before .before .before .args .sheet .now)
+counted :
+    (c : tie.After-wide16) →
+    let k = c .before .before .before in
+    c .wide16 .result ≡ used-in (k .before .before .before .before .before .before .args .sheet .now)
 counted c =
     let k = c .before .before .before in
     c .wide16 .ensures .0 ∙ sym (used-here (k .before .before .before .before .before .before .args .sheet .now))

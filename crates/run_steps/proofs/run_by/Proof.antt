@@ -59,7 +59,11 @@ returns c =
     run-done (n .loop .inv .2) _ (n .loop .inv .0) (sym (d .next-redex .ensures .0) ∙ ap nextOf (c .enum-told .given .1))
 
 -- The strategy's step, as the search found it.
-found : (c : tie.After-known-told Inv-loop μ-loop) → let x = c .before .next .given .0 .0 in let d = c .before .before .before .before .before in next (nodes-in (d .before .before .before .before .before .loop .sheet)) ≡ some (redex (x .rule) (x .place) (x .i) (x .j))
+found :
+    (c : tie.After-known-told Inv-loop μ-loop) →
+    let x = c .before .next .given .0 .0 in
+    let d = c .before .before .before .before .before in
+    next (nodes-in (d .before .before .before .before .before .loop .sheet)) ≡ some (redex (x .rule) (x .place) (x .i) (x .j))
 found c = let d = c .before .before .before .before .before in sym (d .next-redex .ensures .0) ∙ ap nextOf (c .before .next .given .1)
 
 advance-requires : tie.Need-advance-requires Inv-loop μ-loop

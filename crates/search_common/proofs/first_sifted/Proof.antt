@@ -33,7 +33,10 @@ abbrev μ-loop : tie.MeasureT-loop
 child : (c : tie.Start Inv-loop μ-loop) → (1 + c .args .i < length (c .args .part .now)) × (length (c .args .part .now) ≤ sheet-room)
 child c = let w = counted-child (c .pre .0) (c .pre .1 .0) (c .pre .1 .1 .0) in (w .1, w .2)
 
-counted : (c : tie.After-arity-of Inv-loop μ-loop) → let a = c .before .before .before .before .before .before .args in c .arity-of .result ≡ arity (getD (a .part .now) (1 + a .i) 0)
+counted :
+    (c : tie.After-arity-of Inv-loop μ-loop) →
+    let a = c .before .before .before .before .before .before .args in
+    c .arity-of .result ≡ arity (getD (a .part .now) (1 + a .i) 0)
 counted c = c .arity-of .ensures .0 ∙ ap arity (c .before .wide16 .ensures .0)
 
 add-at : tie.Need-add-at Inv-loop μ-loop
@@ -67,7 +70,10 @@ conjunction c =
     let k = c .before .kind-of .result in
     sym (c .before .kind-of .ensures ∙ ap kind (c .before .before .before .before .wide16 .ensures .0)) ∙ eqb-true k 3 (not-false (eqb k 3) (c .if2 .left))
 
-announced : (c : tie.Else2 Inv-loop μ-loop) → let a = start c .args in c .before .before .before .arity-of .result ≡ children (getD (a .part .now) (1 + a .i) 0)
+announced :
+    (c : tie.Else2 Inv-loop μ-loop) →
+    let a = start c .args in
+    c .before .before .before .arity-of .result ≡ children (getD (a .part .now) (1 + a .i) 0)
 announced c =
     let a = start c .args in
     counted (c .before .before .before) ∙ conjunction-arity (getD (a .part .now) (1 + a .i) 0) (conjunction c)
@@ -79,12 +85,18 @@ loop-holds : tie.Need-loop-holds Inv-loop μ-loop
 loop-holds c = (omega arith, passed-first)
 
 -- Inner child j, of which the conjunction has one, begins within the stretch.
-placed : (c : tie.At-loop Inv-loop μ-loop) → let a = start (c .before) .args in c .loop .from ≡ 1 + a .i + child-at (c .loop .j) (drop (1 + a .i) (a .part .now))
+placed :
+    (c : tie.At-loop Inv-loop μ-loop) →
+    let a = start (c .before) .args in
+    c .loop .from ≡ 1 + a .i + child-at (c .loop .j) (drop (1 + a .i) (a .part .now))
 placed c =
     let a = start (c .before) .args in
     c .loop .inv .1 .here ∙ sym (inner-at (1 + a .i) (c .loop .j) (a .part .now))
 
-inside : (c : tie.In-loop Inv-loop μ-loop) → let a = start (c .before .before) .args in (c .before .loop .from < length (a .part .now)) × (length (a .part .now) ≤ sheet-room)
+inside :
+    (c : tie.In-loop Inv-loop μ-loop) →
+    let a = start (c .before .before) .args in
+    (c .before .loop .from < length (a .part .now)) × (length (a .part .now) ≤ sheet-room)
 inside c =
     let n = c .before in
     let s = start (n .before) in
@@ -131,7 +143,11 @@ loop-less : tie.Need-loop-less Inv-loop μ-loop
 loop-less c = omega arith
 
 -- Inner child j was refused by the table, or tried in vain.
-none-here : (c : tie.Joined3 Inv-loop μ-loop) → let n = c .before .before .before .before .before in let a = start (n .before) .args in is-some (rewrite 14 (a .i) (n .loop .j) (forest-in (a .part .now))) ≡ false
+none-here :
+    (c : tie.Joined3 Inv-loop μ-loop) →
+    let n = c .before .before .before .before .before in
+    let a = start (n .before) .args in
+    is-some (rewrite 14 (a .i) (n .loop .j) (forest-in (a .part .now))) ≡ false
 none-here c =
     let n = c .before .before .before .before .before in
     let s = start (n .before) in

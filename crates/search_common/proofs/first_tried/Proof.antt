@@ -27,7 +27,10 @@ abbrev μ-loop : tie.MeasureT-loop
 child : (c : tie.Start Inv-loop μ-loop) → (1 + c .args .i < length (c .args .part .now)) × (length (c .args .part .now) ≤ sheet-room)
 child c = let w = counted-child (c .pre .0) (c .pre .1 .0) (c .pre .1 .1) in (w .1, w .2)
 
-counted : (c : tie.After-arity-of Inv-loop μ-loop) → let a = c .before .before .before .before .args in c .arity-of .result ≡ arity (getD (a .part .now) (1 + a .i) 0)
+counted :
+    (c : tie.After-arity-of Inv-loop μ-loop) →
+    let a = c .before .before .before .before .args in
+    c .arity-of .result ≡ arity (getD (a .part .now) (1 + a .i) 0)
 counted c = c .arity-of .ensures .0 ∙ ap arity (c .before .wide16 .ensures .0)
 
 add-wide16 : tie.Need-add-wide16 Inv-loop μ-loop

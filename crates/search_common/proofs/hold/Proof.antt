@@ -40,7 +40,10 @@ returns c =
     (omega (arith, group-literal (getD (a .part .now) (a .at) 0) literal), λ x lit shared reached. reached)
 
 -- Past the test the tree is a group.
-inner : (c : tie.Else1 Inv-loop μ-loop) → let a = c .before .before .before .before .before .before .before .args in is-literal (getD (a .part .now) (a .at) 0) ≡ false
+inner :
+    (c : tie.Else1 Inv-loop μ-loop) →
+    let a = c .before .before .before .before .before .before .before .args in
+    is-literal (getD (a .part .now) (a .at) 0) ≡ false
 inner c = ap is-literal (sym (c .before .before .wide16 .ensures .0)) ∙ sym (c .before .is-literal .ensures) ∙ c .if1 .left
 
 loop-holds : tie.Need-loop-holds Inv-loop μ-loop
@@ -60,7 +63,11 @@ shared-slice-read-wide16-3 : tie.Need-shared-slice-read-wide16-3 Inv-loop μ-loo
 shared-slice-read-wide16-3 c = omega (arith, ltb-true)
 
 -- One hop.
-hop : (c : tie.After-wide163 Inv-loop μ-loop) → let n = turn c in let l = start n .args .part .now in c .wide163 .result ≡ span 1 (drop (n .loop .from) l)
+hop :
+    (c : tie.After-wide163 Inv-loop μ-loop) →
+    let n = turn c in
+    let l = start n .args .part .now in
+    c .wide163 .result ≡ span 1 (drop (n .loop .from) l)
 hop c =
     let n = turn c in
     let s = start n in

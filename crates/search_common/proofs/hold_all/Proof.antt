@@ -51,7 +51,10 @@ abbrev turn : tie.After-wide163 Inv-loop μ-loop → tie.At-loop Inv-loop μ-loo
 turn c = let d = c .before .before .before .before .before .before in d .before .before .before .before .before .before
 
 -- One hop.
-hop : (c : tie.After-wide163 Inv-loop μ-loop) → let n = turn c in c .wide163 .result ≡ span 1 (drop (n .loop .at) (n .before .before .before .before .before .before .before .args .part .now))
+hop :
+    (c : tie.After-wide163 Inv-loop μ-loop) →
+    let n = turn c in
+    c .wide163 .result ≡ span 1 (drop (n .loop .at) (n .before .before .before .before .before .before .before .args .part .now))
 hop c =
     let n = turn c in
     c .wide163 .ensures .0 ∙ n .before .before .before .before .before .before .before .pre .1 .0 .each (n .loop .at) (omega arith) (omega (arith, ltb-true))

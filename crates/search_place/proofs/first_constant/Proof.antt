@@ -26,7 +26,10 @@ Inv-loop part sizes rule constant k i₀ at₀ i at =
 abbrev μ-loop : tie.MeasureT-loop
 μ-loop part sizes rule constant k i₀ at₀ i at = k - i
 
-counted : (c : tie.After-children-of Inv-loop μ-loop) → let a = c .before .before .before .before .before .before .args in c .children-of .result ≡ children (getD (a .part .now) 0 0)
+counted :
+    (c : tie.After-children-of Inv-loop μ-loop) →
+    let a = c .before .before .before .before .before .before .args in
+    c .children-of .result ≡ children (getD (a .part .now) 0 0)
 counted c = c .children-of .ensures ∙ ap children (c .before .wide16 .ensures .0)
 
 -- Back to where the function starts.
@@ -37,14 +40,22 @@ start c = let d = c .before .before .before .before in d .before .before .before
 here : (c : tie.In-loop Inv-loop μ-loop) → let a = start c .args in c .before .loop .i < children (getD (a .part .now) 0 0)
 here c = omega (arith, counted (c .before .before), c .loop-test .taken)
 
-inside : (c : tie.In-loop Inv-loop μ-loop) → let a = start c .args in (c .before .loop .at < length (a .part .now)) × (length (a .part .now) ≤ sheet-room)
+inside :
+    (c : tie.In-loop Inv-loop μ-loop) →
+    let a = start c .args in
+    (c .before .loop .at < length (a .part .now)) × (length (a .part .now) ≤ sheet-room)
 inside c =
     let b = start c in
     let w = counted-child (b .pre .1 .0) (b .pre .1 .1 .0) (here c, c .before .loop .inv .0 .here) in
     (w .1, w .2)
 
 -- Its number says what the rule asks.
-asked : (c : tie.In-loop Inv-loop μ-loop) → let b = start c in let l = b .args .part .now in eqb (getD l (c .before .loop .at) 0) (c .before .before .before .before .before .constant-for .result) ≡ is-some (rewrite (b .args .rule) (c .before .loop .i) 0 (forest-in l))
+asked :
+    (c : tie.In-loop Inv-loop μ-loop) →
+    let b = start c in
+    let l = b .args .part .now in
+    eqb (getD l (c .before .loop .at) 0) (c .before .before .before .before .before .constant-for .result)
+    ≡ is-some (rewrite (b .args .rule) (c .before .loop .i) 0 (forest-in l))
 asked c =
     let b = start c in
     constant-asked (b .pre .1 .0) (b .pre .1 .1 .0) (b .pre .0 .1) (here c) (c .before .loop .inv .0 .here) (c .before .before .before .before .before .constant-for .ensures)

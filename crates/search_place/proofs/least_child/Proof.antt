@@ -36,7 +36,11 @@ shared-slice-read-wide16 : tie.Need-shared-slice-read-wide16
 shared-slice-read-wide16 c = let d = c .before .before .before .before in d .before .before .before .before .pre .0 .2
 
 -- What the first child with which the rule applies is to the search, by the number of the children.
-counted : (c : tie.After-children-of) → let d = c .before .before .before .before .before in let a = d .before .before .before .before .before .args in c .children-of .result ≡ children (getD (a .part .now) 0 0)
+counted :
+    (c : tie.After-children-of) →
+    let d = c .before .before .before .before .before in
+    let a = d .before .before .before .before .before .args in
+    c .children-of .result ≡ children (getD (a .part .now) 0 0)
 counted c = c .children-of .ensures ∙ ap children (c .before .wide16 .ensures .0)
 
 returns-2 : tie.Need-returns-2

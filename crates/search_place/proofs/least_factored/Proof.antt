@@ -14,7 +14,10 @@ use Rattle.search_place.proofs.least_factored.Tie as tie
 child : (c : tie.Start) → (c .args .at < length (c .args .part .now)) × (length (c .args .part .now) ≤ sheet-room)
 child c = let w = counted-child (c .pre .0) (c .pre .1 .0) (c .pre .1 .1 .0) in (w .1, w .2)
 
-counted : (c : tie.After-arity-of) → let a = c .before .before .before .before .before .before .before .args in c .arity-of .result ≡ arity (getD (a .part .now) (a .at) 0)
+counted :
+    (c : tie.After-arity-of) →
+    let a = c .before .before .before .before .before .before .before .args in
+    c .arity-of .result ≡ arity (getD (a .part .now) (a .at) 0)
 counted c = c .arity-of .ensures .0 ∙ ap arity (c .before .wide16 .ensures .0)
 
 add-if1 : tie.Need-add-if1

@@ -24,7 +24,10 @@ Inv-loop part sizes rule k i₀ at₀ i at =
 abbrev μ-loop : tie.MeasureT-loop
 μ-loop part sizes rule k i₀ at₀ i at = k - i
 
-counted : (c : tie.After-children-of Inv-loop μ-loop) → let a = c .before .before .before .before .before .args in c .children-of .result ≡ children (getD (a .part .now) 0 0)
+counted :
+    (c : tie.After-children-of Inv-loop μ-loop) →
+    let a = c .before .before .before .before .before .args in
+    c .children-of .result ≡ children (getD (a .part .now) 0 0)
 counted c = c .children-of .ensures ∙ ap children (c .before .wide16 .ensures .0)
 
 shared-slice-read-wide16 : tie.Need-shared-slice-read-wide16 Inv-loop μ-loop
@@ -55,7 +58,10 @@ enum-told : tie.Need-enum-told Inv-loop μ-loop
 enum-told c = search needs
 
 -- Child i begins within the stretch.
-inside : (c : tie.In-loop Inv-loop μ-loop) → let a = c .before .before .before .before .before .before .before .args in (c .before .loop .at < length (a .part .now)) × (length (a .part .now) ≤ sheet-room)
+inside :
+    (c : tie.In-loop Inv-loop μ-loop) →
+    let a = c .before .before .before .before .before .before .before .args in
+    (c .before .loop .at < length (a .part .now)) × (length (a .part .now) ≤ sheet-room)
 inside c =
     let n = c .before in
     let b = n .before .before .before .before .before .before in

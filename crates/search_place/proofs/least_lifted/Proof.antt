@@ -31,10 +31,16 @@ child : (c : tie.Start Inv-loop μ-loop) → (c .args .at < length (c .args .par
 child c = let w = counted-child (c .pre .1 .0) (c .pre .1 .1 .0) (c .pre .1 .1 .1 .0) in (w .1, w .2)
 
 -- It is a conjunction, past the test of its kind.
-conjunction : (c : tie.Else1 Inv-loop μ-loop) → let a = c .before .before .before .before .before .before .args in kind (getD (a .part .now) (a .at) 0) ≡ 3
+conjunction :
+    (c : tie.Else1 Inv-loop μ-loop) →
+    let a = c .before .before .before .before .before .before .args in
+    kind (getD (a .part .now) (a .at) 0) ≡ 3
 conjunction c = sym (c .before .kind-of .ensures ∙ ap kind (c .before .before .wide16 .ensures .0)) ∙ c .if1 .left
 
-counted : (c : tie.After-children-of Inv-loop μ-loop) → let a = c .before .before .before .before .before .before .before .args in c .children-of .result ≡ children (getD (a .part .now) (a .at) 0)
+counted :
+    (c : tie.After-children-of Inv-loop μ-loop) →
+    let a = c .before .before .before .before .before .before .before .args in
+    c .children-of .result ≡ children (getD (a .part .now) (a .at) 0)
 counted c = c .children-of .ensures ∙ ap children (c .before .before .before .wide16 .ensures .0)
 
 mul-wide16 : tie.Need-mul-wide16 Inv-loop μ-loop
@@ -60,20 +66,30 @@ abbrev start : tie.At-loop Inv-loop μ-loop → tie.Start Inv-loop μ-loop
 start c = let d = c .before .before .before .before in d .before .before .before .before
 
 -- Where inner child j begins, as the rule's laws say it.
-placed : (c : tie.At-loop Inv-loop μ-loop) → let a = start c .args in c .loop .from ≡ a .at + child-at (c .loop .j) (drop (a .at) (a .part .now))
+placed :
+    (c : tie.At-loop Inv-loop μ-loop) →
+    let a = start c .args in
+    c .loop .from ≡ a .at + child-at (c .loop .j) (drop (a .at) (a .part .now))
 placed c =
     let a = start c .args in
     c .loop .inv .here ∙ sym (inner-at (a .at) (c .loop .j) (a .part .now))
 
 -- The place of inner child j is within the stretch, and its number says what the rule asks.
-inside : (c : tie.In-loop Inv-loop μ-loop) → let a = start (c .before) .args in (c .before .loop .from < length (a .part .now)) × (length (a .part .now) ≤ sheet-room)
+inside :
+    (c : tie.In-loop Inv-loop μ-loop) →
+    let a = start (c .before) .args in
+    (c .before .loop .from < length (a .part .now)) × (length (a .part .now) ≤ sheet-room)
 inside c =
     let v = c .before .before in
     let b = v .before .before .before .before .before .before .before in
     let room = inner-room (b .pre .1 .0) (b .pre .1 .1 .0) (b .args .i) (b .pre .0 .0) (b .pre .0 .1) (b .pre .1 .1 .1 .0 .0) (b .pre .1 .1 .1 .0 .1) (conjunction (v .before)) (c .before .loop .j) (omega (arith, counted v)) in
     (omega (arith, room, placed (c .before)), child b .1)
 
-tested : (c : tie.After-is-literal Inv-loop μ-loop) → let n = c .before .before .before .before in let a = start n .args in c .is-literal .result ≡ is-some (rewrite (a .rule) (a .i) (n .loop .j) (forest-in (a .part .now)))
+tested :
+    (c : tie.After-is-literal Inv-loop μ-loop) →
+    let n = c .before .before .before .before in
+    let a = start n .args in
+    c .is-literal .result ≡ is-some (rewrite (a .rule) (a .i) (n .loop .j) (forest-in (a .part .now)))
 tested c =
     let n = c .before .before .before .before in
     let v = n .before in

@@ -8,7 +8,10 @@ use Rattle.search_place.proofs.FirstChildren.{single-first, single-none
 use Rattle.search_place.proofs.only_child.Statement.{statement}
 use Rattle.search_place.proofs.only_child.Tie as tie
 
-counted : (c : tie.After-children-of) → let a = c .before .before .before .before .args in c .children-of .result ≡ children (getD (a .part .now) 0 0)
+counted :
+    (c : tie.After-children-of) →
+    let a = c .before .before .before .before .args in
+    c .children-of .result ≡ children (getD (a .part .now) 0 0)
 counted c = c .children-of .ensures ∙ ap children (c .before .wide16 .ensures .0)
 
 shared-slice-read-wide16 : tie.Need-shared-slice-read-wide16

@@ -18,7 +18,11 @@ abbrev μ-loop : tie.MeasureT-loop
 μ-loop part end tally₀ q₀ tally q = q
 
 -- The number that is read, its option, and what becomes of the tally.
-number : (c : tie.After-wide16 Inv-loop μ-loop) → let n = c .before .before .before in let a = n .before .before .before .args in c .wide16 .result ≡ getD (a .part .now) (n .loop .q - 1) 0
+number :
+    (c : tie.After-wide16 Inv-loop μ-loop) →
+    let n = c .before .before .before in
+    let a = n .before .before .before .args in
+    c .wide16 .result ≡ getD (a .part .now) (n .loop .q - 1) 0
 number c = c .wide16 .ensures .0
 
 literal : (c : tie.Then1 Inv-loop μ-loop) → is-literal (c .before .before .wide16 .result) ≡ true

@@ -23,11 +23,18 @@ abbrev μ-loop : tie.MeasureT-loop
 abbrev start : tie.In-loop Inv-loop μ-loop → tie.Start Inv-loop μ-loop
 start c = let d = c .before .before .before .before in d .before .before .before .before
 
-counted : (c : tie.After-children-of Inv-loop μ-loop) → let a = c .before .before .before .before .before .before .args in c .children-of .result ≡ children (getD (a .part .now) 0 0)
+counted :
+    (c : tie.After-children-of Inv-loop μ-loop) →
+    let a = c .before .before .before .before .before .before .args in
+    c .children-of .result ≡ children (getD (a .part .now) 0 0)
 counted c = c .children-of .ensures ∙ ap children (c .before .wide16 .ensures .0)
 
 -- Child i begins before the end.
-inside : (c : tie.In-loop Inv-loop μ-loop) → let n = c .before in let a = start c .args in (1 ≤ n .loop .at) × (n .loop .at < a .end) × (a .end ≤ length (a .part .now))
+inside :
+    (c : tie.In-loop Inv-loop μ-loop) →
+    let n = c .before in
+    let a = start c .args in
+    (1 ≤ n .loop .at) × (n .loop .at < a .end) × (a .end ≤ length (a .part .now))
 inside c =
     let n = c .before in
     let e = start c .pre .0 in
@@ -35,7 +42,11 @@ inside c =
     (omega (arith, here), omega (arith, here, e .children (n .loop .i) (omega (arith, counted (n .before)))), e .within)
 
 -- Whether it is a literal whose option occurs again.
-told : (c : tie.After-recurs Inv-loop μ-loop) → let n = c .before .before in let a = start (c .before) .args in spreads-from (child-at (n .loop .i) (a .part .now)) (a .end) (a .part .now) ≡ c .recurs .result
+told :
+    (c : tie.After-recurs Inv-loop μ-loop) →
+    let n = c .before .before in
+    let a = start (c .before) .args in
+    spreads-from (child-at (n .loop .i) (a .part .now)) (a .end) (a .part .now) ≡ c .recurs .result
 told c =
     let n = c .before .before in
     let a = start (c .before) .args in

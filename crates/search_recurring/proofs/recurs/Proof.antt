@@ -18,7 +18,11 @@ use Rattle.search_recurring.proofs.recurs.Tie as tie
 tallied : (c : tie.Else1) → let a = c .before .before .before .args in Tallied 1 (a .end) (a .part .now) (a .tally .now)
 tallied c = c .before .before .before .pre .1 (omega arith)
 
-told : (c : tie.After-wide16) → let a = c .before .before .before .before .before .args in let x = c .wide16 .result in (is-literal x && eqb (getD (a .tally .now) (value x) 0) 2) ≡ spreads-from (a .at) (a .end) (a .part .now)
+told :
+    (c : tie.After-wide16) →
+    let a = c .before .before .before .before .before .args in
+    let x = c .wide16 .result in
+    (is-literal x && eqb (getD (a .tally .now) (value x) 0) 2) ≡ spreads-from (a .at) (a .end) (a .part .now)
 told c =
     let e = c .before .before in
     let p = e .before .before .before .pre .0 in

@@ -27,7 +27,11 @@ loop-holds c =
     (omega arith, omega arith, rw announced (span-tree (a .place) (a .s .now) (omega arith)))
 
 -- The entry that a hop reads.
-hop : (c : tie.After-wide162 Inv-loop μ-loop) → let n = c .before .before .before .before in let a = n .before .before .before .before .before .before .args in c .wide162 .result ≡ span 1 (drop (n .loop .next) (a .s .now))
+hop :
+    (c : tie.After-wide162 Inv-loop μ-loop) →
+    let n = c .before .before .before .before in
+    let a = n .before .before .before .before .before .before .args in
+    c .wide162 .result ≡ span 1 (drop (n .loop .next) (a .s .now))
 hop c =
     let n = c .before .before .before .before in
     let b = n .before .before .before .before .before .before in
