@@ -96,7 +96,7 @@ int main(int count, char **arguments)
     key_lines();
     ran = nd_run(sheet, ND_SHEET_LENGTH, BUDGET);
     accept(ran);
-    reported = nd_report(sheet, ND_SHEET_LENGTH, states, sheet[0]);
+    reported = nd_report(sheet, ND_SHEET_LENGTH, states, sizeof states);
     accept(reported);
     if (nd_value(reported) == 1) {
         printf("contradiction %llu\n", (unsigned long long)nd_run_steps(ran));

@@ -29,7 +29,7 @@
  *   10       the step does not apply
  *   11       not a sheet; in writing also a book whose N is not the sheet's; in loading only a
  *            length that is not 4,098
- *   12       output shorter than needed; for a report, not exactly N bytes long
+ *   12       output shorter than needed: for a report, than N bytes
  *
  * What each function can be refused stands beside it, in the order of the tests: the first that
  * holds is the answer.
@@ -67,7 +67,7 @@ extern "C" {
 /* The length of a sheet, in numbers of 16 bits. */
 #define ND_SHEET_LENGTH 4098
 
-/* The most options of a book: 512 bytes are enough for every report. */
+/* The most options of a book: an output of so many bytes is enough for every report. */
 #define ND_OPTIONS_MOST 512
 
 /* The length of the longest book, in bytes: an output of so many is enough for every write. */
@@ -113,11 +113,11 @@ uint64_t nd_write(const uint16_t *sheet, size_t sheet_len, const uint8_t *book, 
  * Reports which options are forced by the rules and choices on a sheet, whether or not it was
  * run before.
  *
- * out_len must be N.  Accepted, out holds a byte for each option: ND_OPEN, ND_IN or ND_OUT; all
- * are ND_CONTRADICTORY where the sheet is contradictory.  The value is 1 where it is
- * contradictory, which the bytes cannot say where N is 0, else 0.
+ * Accepted, the first N bytes of out hold a byte for each option: ND_OPEN, ND_IN or ND_OUT; all
+ * are ND_CONTRADICTORY where the sheet is contradictory.  The bytes beyond stay.  The value is 1
+ * where it is contradictory, which the bytes cannot say where N is 0, else 0.
  *
- * Refused 11 (not a sheet), then 12 (out_len is not N).
+ * Refused 11 (not a sheet), then 12 (out_len is under N).
  */
 uint64_t nd_report(const uint16_t *sheet, size_t sheet_len, uint8_t *out, size_t out_len);
 

@@ -42,7 +42,7 @@ MEANINGS = {
     9: "the rule is not 1 to 14",
     10: "the step does not apply",
     11: "not a sheet, or a book whose number of options is not the sheet's",
-    12: "the output is too short, or, for a report, not a byte an option",
+    12: "the output is too short",
 }
 
 LIBRARY = Path(__file__).resolve().parent.parent / "target/library/libnibdrumlin_sheets.so"
@@ -176,8 +176,8 @@ def nd_write(sheet: Lent, book: Lent, out: Lent) -> int:
 
 
 def nd_report(sheet: Lent, out: Lent) -> bool:
-    """A byte for each option, as State numbers them; whether the sheet is contradictory. Refused
-    11, 12."""
+    """A byte for each option, as State numbers them, at the start of `out`, whose rest stays;
+    whether the sheet is contradictory. Refused 11, 12."""
     return bool(_call("nd_report", sheet, out))
 
 

@@ -1,6 +1,8 @@
 """The desk program: what it prints for a book and its standard input."""
 from . import Refused, books, meaning, rules, sheets
 
+SCREEN = 512  # document 02: "The desk's screen has one fixed buffer of 512 bytes"
+
 
 def output(book, stdin):
     """The bytes printed; `book` is None where book.bin cannot be opened ("counts as empty")."""
@@ -21,7 +23,7 @@ def whole_order(book, stdin):
         sheet = sheets.choose(sheet, books.lookup(book, line[1:]), line[:1] == b"-")
     # "It keys them in order, then makes one run with a budget of 100,000."
     count, settled, sheet = rules.run(sheet, 100_000)
-    contradiction, marks = meaning.report(sheet, [0] * sheet[0])
+    contradiction, marks = meaning.report(sheet, [0] * SCREEN)
     # "Line 1: contradiction if reported, else settled or stopped; a space; the steps. Then, unless
     # contradictory, a line for each option: code, space, in, out or open."
     if contradiction:

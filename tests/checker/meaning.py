@@ -66,13 +66,15 @@ def marks(options, tree):
 
 
 def report(sheet, output):
-    """(contradictory, output after). "All 3 when contradictory, which its result says too". "12
-    ... for a report, not exactly N long" """
+    """(contradictory, output after). "All 3 when contradictory, which its result says too".
+    Document 02: it "shall accept any output of at least N bytes, fill the first N and keep the
+    rest"; 12 is "for a shorter output only"."""
     options, root = read(sheet)
-    if len(output) != options:
+    if len(output) < options:
         raise Refused(12)
     found = marks(options, root)
-    return (True, [3] * options) if found is None else (False, found)
+    filled = [3] * options if found is None else found
+    return found is None, filled + list(output[options:])
 
 
 def complete(sheet):

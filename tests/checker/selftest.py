@@ -157,6 +157,9 @@ def refusals():
             expect(given == (11, 0, left), bad[:9])
     expect(calls.choose(sheet, 2, True) == (7, 0, (sheet,)), "no such option")
     expect(calls.report(sheet, [0]) == (12, 0, ([0],)), "a report a byte short")
+    for spare in ([], [8], [8] * 598):
+        expect(done(calls.report(sheet, [9, 9] + spare)) == (0, [1, 0] + spare),
+               "a report with room to spare")
     expect(calls.write(sheet, bytes(8), []) == (11, 0, ([],)), "a book of another N")
     expect(calls.write(sheet, b"", []) == (1, 0, ([],)), "no book")
     short = [9] * (len(good) - 1)

@@ -94,6 +94,7 @@ def due_counts(desk):
     """What must have been seen, and how often at least."""
     least = {"lists": LISTS, "orders": ORDERS, "theories": THEORIES,
              "theories whose clauses fit": THEORIES // 2, "complete sheets with options": 1}
+    least.update({"roomier reports, " + said: LISTS // 10 for said in SAYS["report"]})
     least.update({"rule %d" % rule: 1 for rule in range(1, 15)})
     # Every answer of every call. (A code that is found is a lookup accepted, one that is not is 7.)
     least.update({(call, number): 1 for call in CAN_REFUSE for number in [0] + CAN_REFUSE[call]})

@@ -1,11 +1,13 @@
 """Document 01's own cases: the steps written beside them done one by one, then by runs with budgets
-0, 1, 2, ...; single steps of every rule; the cases that are executed only; and faults side by side
-on inputs of the largest size, each with the number that document 01 gives it."""
+0, 1, 2, ...; single steps of every rule; the cases that are executed only; faults side by side on
+inputs of the largest size, each with the number that document 01 gives it; and reports into outputs
+about N bytes long, each with what document 02 gives it."""
 from checker import rules
 from checker.books import build
 from checker.cases import BAD, CASES, CODES, STEPS
 from checker.sheets import LENGTH
-from checker.trees import ROOT, TRUE, Tree, conjunction as all_of, disjunction as any_of, positive
+from checker.trees import (FALSE, ROOT, TRUE, Tree, conjunction as all_of, disjunction as any_of,
+                           negative, positive)
 
 from . import expect
 from .library import Lent, sheet as lent_sheet
@@ -130,7 +132,27 @@ def faults_of_books(comparing):
                "written with a book of another N")
 
 
+def outputs_of_reports(comparing):
+    """Document 02: "A report shall accept any output of at least N bytes, fill the first N and keep
+    the rest. ... Refusal 12 is now for a shorter output only." The first option is in, the second
+    out, and the others are open; or the sheet is contradictory."""
+    codes = [b"C%d" % number for number in range(512)]
+    for options in (0, 1, 2, 3, 511, 512):
+        marks = [1, 2][:options] + [0] * (options - 2)
+        for trees, contradictory, due in (([positive(0), negative(1)][:options], 0, marks),
+                                          ([FALSE], 1, [3] * options)):
+            sheet = loaded(comparing, options, trees, codes)
+            for length in {max(0, options - 1), options, options + 1, 512, 600}:
+                before, short = [at % 251 + 4 for at in range(length)], length < options
+                output = Lent(before)
+                expect(comparing.call("report", sheet, output)
+                       == ((12, 0) if short else (0, contradictory)), "a report's answer")
+                expect(output.held() == (before if short else due + before[options:]),
+                       "a report's bytes, or those past N")
+
+
 def all_of_them(comparing):
+    outputs_of_reports(comparing)
     books_to_try(comparing)
     single_steps(comparing)
     executed_only(comparing)

@@ -47,6 +47,8 @@ class Comparing:
             self.seen[name, said] += 1
             if said == "complete" and arguments[0].values[0] > 0:  # not for want of options
                 self.seen["complete sheets with options"] += 1
+            if name == "report" and len(arguments[1].values) > arguments[0].values[0]:
+                self.seen["roomier reports, " + said] += 1
         return refusal, value
 
     def done(self, name, *arguments):

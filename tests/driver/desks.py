@@ -87,7 +87,7 @@ def comb(weight):
 
 def known_cases(comparing, program):
     """Document 01's own order; every odd line alone, first and last; books of every refusal; a sheet
-    that gets full."""
+    that gets full; as many options as the screen has bytes."""
     first = bytes.fromhex("02 00 01 00 05 00 00 00 50" + "00" * 12 + "51" + "00" * 12
                           + "00 00 05 00 02 40 00 10 02 30 00 10 01 10")
     expect(printed(program, first, b"") == b"settled 5\nP in\nQ open\n", "document 01's own order")
@@ -103,6 +103,11 @@ def known_cases(comparing, program):
     full = build(CODES, [disjunction(conjunction(), *[positive(0)] * 2040)])
     for count in (6, 7, 8, 30000):
         compare(comparing, program, full, b"+-\n" * count)
+    codes = [b"C%03d" % number for number in range(512)]
+    for options in (511, 512):
+        wide = build(codes[:options], [positive(options - 1)])
+        for stdin in (b"", b"-C000\n+C255\n", b"-" + codes[options - 1]):
+            compare(comparing, program, wide, stdin)
     for stdin in (b"+" + b"A" * 70000, b"+P\n-" + b"A" * 70000 + b"\n"):
         compare(comparing, program, book, stdin)
     # The checker would need an hour for this run; the book's meaning is seen by eye.

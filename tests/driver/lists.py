@@ -11,6 +11,7 @@ from .making import random_book
 
 WIDE = (65536, 2 ** 32, 2 ** 63)  # what a call that narrowed its arguments would not see
 BUDGETS = (0, 0, 1, 1, 2, 3, 4, 6, 9, 1000, 2 ** 32, 2 ** 64 - 1)
+ROOMS = (0, 0, 1, 512, 600)  # outputs of a report: N bytes, or so many if they are more
 
 
 def random_step(rng, sheet):
@@ -34,7 +35,7 @@ class Order:
     def __init__(self, comparing, data, options, trees):
         self.comparing, self.trees, self.made = comparing, list(trees), []
         self.book, self.sheet = Lent(data), lent_sheet([7] * LENGTH)
-        self.output = Lent([9] * options)
+        self.options = options
         comparing.done("load", self.book, self.sheet)
         self.begin_stretch()
 
@@ -70,13 +71,15 @@ class Order:
         if settled:
             expect(is_settled(self.sheet.values, self.due), "settled, but not as demand 3 says")
 
-    def report(self):
-        """ "the sheet reports what the loaded rules with all accepted choices mean" """
-        self.output.hold([9] * len(self.output.values))
-        contradictory = self.comparing.done("report", self.sheet, self.output)
+    def report(self, room):
+        """ "the sheet reports what the loaded rules with all accepted choices mean", into an output
+        of at least N bytes, whose rest stays"""
+        output = Lent([9] * max(room, self.options))
+        contradictory = self.comparing.done("report", self.sheet, output)
         expect(contradictory == (self.due is None), "contradictory, or not, unlike the rules")
-        for option, mark in enumerate(self.output.values):
-            due = (3 if self.due is None else 1 if Literal(option, True) in self.due else
+        for option, mark in enumerate(output.values):
+            due = (9 if option >= self.options else 3 if self.due is None else
+                   1 if Literal(option, True) in self.due else
                    2 if Literal(option, False) in self.due else 0)
             expect(mark == due, "the report differs from what the rules mean")
 
@@ -94,8 +97,8 @@ class Order:
 def random_call(rng, order):
     way = rng.random()
     if way < 0.2:
-        options = len(order.output.values)
-        order.choose(rng.choice((*range(options + 1), *range(options), 65535)), rng.random() < 0.5)
+        known = range(order.options)
+        order.choose(rng.choice((*known, *known, order.options, 65535)), rng.random() < 0.5)
     elif way < 0.8:
         order.step(*random_step(rng, order.sheet.values))
     else:
@@ -106,21 +109,21 @@ def one_list(comparing, rng):
     data, options, trees = random_book(rng)
     order = Order(comparing, data, options, trees)
     try:
-        order.report()
+        order.report(rng.choice(ROOMS))
         if rng.random() < 0.2:
             order.round_trip(data)
         for _ in range(rng.choice((1, 2, 3, 4, 5, 6, 12))):
             random_call(rng, order)
-            order.report()
+            order.report(rng.choice(ROOMS))
         if rng.random() < 0.2:
             order.round_trip()
             comparing.done("complete", order.sheet)
         if options and rng.random() < 0.2:  # "those keyed after a settled run too"
             order.run(2 ** 64 - 1)
             order.choose(rng.randrange(options), rng.random() < 0.5)
-            order.report()
+            order.report(rng.choice(ROOMS))
             order.run(2 ** 64 - 1)
-            order.report()
+            order.report(rng.choice(ROOMS))
     except Difference as difference:
         raise Difference("%s\n  book %s\n  calls %s" % (difference, data.hex(" "), order.made))
     comparing.seen["lists"] += 1

@@ -34,7 +34,7 @@ def on_sheet(comparing, values):
         comparing.call("step", lent_sheet(values), *step)
     for budget in (0, 1, 2 ** 64 - 1):
         comparing.call("run", lent_sheet(values), budget)
-    for length in (options, options + 1):
+    for length in {max(0, options - 1), options, options + 1, 512, 600}:
         comparing.call("report", lent_sheet(values), Lent([9] * length))
     comparing.call("complete", lent_sheet(values))
     for book in (BOOK, OTHER_BOOK, BOOK[:-1]):
@@ -80,7 +80,7 @@ def outputs(comparing):
     for length in (0, len(BOOK) - 1, len(BOOK), len(BOOK) + 1, len(BOOK) + 1000):
         for book in (BOOK, OTHER_BOOK, BOOK[:7]):
             comparing.call("write", lent_sheet(SHEET), Lent(book), Lent([9] * length))
-    for length in (0, 1, 2, 3, 512, LENGTH):
+    for length in (0, 1, 2, 3, 512, 600, LENGTH):
         comparing.call("report", lent_sheet(SHEET), Lent([9] * length))
 
 

@@ -113,7 +113,7 @@ def sheet_refusals():
         yield "load", 11, (BOOK, [7] * length)
     yield "write", 11, (SHEET, OTHER_BOOK, b"")
     yield "write", 12, (SHEET, BOOK, bytes(len(BOOK) - 1))
-    for length in (0, 1, 3):
+    for length in (0, 1):
         yield "report", 12, (SHEET, bytes(length))
     for option in (2, 65_535, 65_536, 2 ** 64, -1):  # not narrowed: 65,536 is not option 0
         yield "choose", 7, (SHEET, option, False)
@@ -146,13 +146,13 @@ def check_refusals():
 
 def check_accepted():
     """An accepted call writes what it is due to write and nothing beside it."""
-    sheet, out, states = Lent(BLANK), Lent(b"\x09" * (len(BOOK) + 3)), Lent(b"\x09" * 2)
+    sheet, out, states = Lent(BLANK), Lent(b"\x09" * (len(BOOK) + 3)), Lent(b"\x09" * 5)
     nibdrumlin.nd_load(BOOK, sheet.part)
     expect(sheet.part.tolist() == SHEET, "nd_load: the sheet differs")
     expect(nibdrumlin.nd_write(sheet.part, BOOK, out.part) == len(BOOK), "nd_write: its length")
     expect(out.part.tobytes() == BOOK + b"\x09" * 3, "nd_write: the bytes, or those beyond")
     contradictory = nibdrumlin.nd_report(sheet.part, states.part)
-    _, bad, (due,) = calls.report(SHEET, [9, 9])
+    _, bad, (due,) = calls.report(SHEET, [9] * 5)
     expect((contradictory, states.part.tolist()) == (bool(bad), due), "nd_report differs")
     nibdrumlin.nd_choose(sheet.part, 1, True)
     nibdrumlin.nd_run(sheet.part, MOST)

@@ -77,7 +77,7 @@ static void make_call(void)
         answer = nd_step(sheet, ND_SHEET_LENGTH, step[0], step[1], step[2], step[3]);
         break;
     case RUN: answer = nd_run(sheet, ND_SHEET_LENGTH, 20000); break;
-    case REPORT: answer = nd_report(sheet, ND_SHEET_LENGTH, states, sheet[0]); break;
+    case REPORT: answer = nd_report(sheet, ND_SHEET_LENGTH, states, sizeof states); break;
     case COMPLETE: answer = nd_complete(sheet, ND_SHEET_LENGTH); break;
     default: answer = 0; break;
     }

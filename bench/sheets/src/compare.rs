@@ -38,11 +38,14 @@ pub fn loaded(bytes: &[u8]) -> Sheet {
     sheets[0]
 }
 
-/// The report, from all methods; the slowest where it is asked for.
+/// The report, from all methods; the slowest where it is asked for. The output is longer than
+/// any report, and its rest must stay.
 pub fn reported(sheet: &[u16], by_sweep: bool) -> Vec<u8> {
     let by = |report: fn(&[u16], &mut [u8]) -> bool| {
-        let mut out = vec![9; usize::from(sheet[0])];
+        let mut out = vec![9; 600];
         let contradictory = report(sheet, &mut out);
+        let rest = out.split_off(usize::from(sheet[0]));
+        assert!(rest.iter().all(|byte| *byte == 9), "a report wrote past N");
         out.push(u8::from(contradictory));
         out
     };

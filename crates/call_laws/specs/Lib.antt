@@ -18,5 +18,7 @@ pub mod Effects
 pub mod SettledLists
 -- Loading and writing, in terms of the calls.
 pub mod LoadingAndWriting
+-- Outputs whose first numbers were written.
+pub mod PlacedOutputs
 -- The desk's lines, in terms of the calls.
 pub mod Keyed

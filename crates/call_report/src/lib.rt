@@ -19,17 +19,19 @@ pub enum Completed {
     Refused(Refusal),
 }
 
-// The report: a byte for each option.
+// The report: a byte for each option at the start of the output, whose rest stays.
 pub fn report(sheet: &[u16], out: &mut [u8]) -> Reported
     ensures { λ r. ⌜ afterCall (reportedOf r) (now (out .exit)) ≡ reportOf (now (sheet .entry)) (now (out .entry)) ⌝ }
 {
     if !sheet_check::is_sheet(sheet) {
         return Reported::Refused(Refusal::Sheet);
     }
-    if out.len() != common_nodes::wide16(sheet[0]) {
+    let n = common_nodes::wide16(sheet[0]);
+    let room = out.len();
+    if room < n {
         return Reported::Refused(Refusal::Output);
     }
-    if report_marks::put_report(sheet, out) {
+    if report_marks::put_report(sheet, &mut out[..n]) {
         Reported::Contradictory
     } else {
         Reported::Consistent

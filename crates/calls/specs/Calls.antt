@@ -32,9 +32,11 @@ unfoldable pub writeOf : List ℕ → List ℕ → List ℕ → Outcome (List �
 writeOf s book out =
     outcome (write-refusal s book out) (length (written s book)) out (placed (written s book) out)
 
--- "A report writes N bytes", and "contradictory, which its result says too".
+-- "A report writes N bytes", and "contradictory, which its result says too". Document 02, U1: it "shall accept any output of at
+-- least N bytes, fill the first N and keep the rest".
 unfoldable pub reportOf : List ℕ → List ℕ → Outcome (List ℕ) Bool
-reportOf s out = outcome (report-refusal s out) (report-in s .contradictory) out (report-in s .marks)
+reportOf s out =
+    outcome (report-refusal s out) (report-in s .contradictory) out (placed (report-in s .marks) out)
 
 -- The "complete" question.
 unfoldable pub completeOf : List ℕ → Answer Bool

@@ -12,7 +12,7 @@ use Rattle.calls.specs.Refusals.{Refusal, due, _or-else_}
 use Rattle.calls.specs.Refusals.{length-refused, head-refused, code-refused, contents-refused, body-refused, weight-refused}
 use Rattle.calls.specs.Refusals.{option-refused, full-refused, rule-refused, step-refused, sheet-refused, output-refused}
 use Rattle.calls.specs.Conditions.{lacks-head, is-length-due, has-good-codes, has-good-contents, has-good-bodies, is-light}
-use Rattle.calls.specs.Conditions.{has-option, has-code, is-full, applies, is-book-of, is-long-enough, is-shorter, is-exactly}
+use Rattle.calls.specs.Conditions.{has-option, has-code, is-full, applies, is-book-of, is-long-enough, is-shorter}
 
 -- What is tested of a book once its head and its length are right.
 unfoldable pub part-refusal : List ℕ → Option Refusal
@@ -44,7 +44,7 @@ write-refusal s b out =
 
 unfoldable pub report-refusal : List ℕ → List ℕ → Option Refusal
 report-refusal s out =
-    due (not (is-sheet s)) sheet-refused or-else due (not (is-exactly out (options-in s))) output-refused
+    due (not (is-sheet s)) sheet-refused or-else due (is-shorter out (options-in s)) output-refused
 
 unfoldable pub complete-refusal : List ℕ → Option Refusal
 complete-refusal s = due (not (is-sheet s)) sheet-refused

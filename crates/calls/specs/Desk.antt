@@ -6,7 +6,7 @@ use lib.Dec.{eqb, ltb}
 use lib.ListN.{replicate}
 use Rattle.model.specs.Base.{pick}
 use Rattle.model.specs.Limits.{sheet-length}
-use Rattle.model.specs.Book.{options-of, codes-of, characters}
+use Rattle.model.specs.Book.{codes-of, characters}
 use Rattle.calls.specs.Refusals.{refusal-number, option-refused}
 use Rattle.calls.specs.Outcomes.{Answer, refused, accepted, Outcome}
 use Rattle.calls.specs.Calls.{Ran, lookupOf, loadOf, chooseOf, runOf, reportOf}
@@ -91,13 +91,17 @@ option-lines (c ∷ cs) (m ∷ ms) = line (characters c) (mark-word m) ++ option
 unfoldable pub desk-budget : ℕ
 desk-budget = 100000
 
+-- Document 02, U1: "The desk's screen has one fixed buffer of 512 bytes."
+unfoldable pub screen-length : ℕ
+screen-length = 512
+
 -- What the program writes.
 unfoldable pub deskOf : List ℕ → List ℕ → List ℕ
 deskOf book input =
     let loaded = loadOf book (replicate sheet-length 0) in
     let chosen = all-keyed book (lines input) (loaded .lent) in
     let done = runOf (chosen .lent) desk-budget in
-    let told = reportOf (done .lent) (replicate (options-of book) 0) in
+    let told = reportOf (done .lent) (replicate screen-length 0) in
     printed (loaded .answer) (λ u.
     printed (chosen .answer) (λ v.
     printed (done .answer) (λ ran.

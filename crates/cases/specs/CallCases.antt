@@ -1,12 +1,14 @@
 -- Document 01's starred cases by the calls: each is loaded from its book's bytes, chosen on, run and reported. (What is said of its
--- sheet before the run is computed in `Cases`.) Then budgets, the "complete" question, and the last choice that fits.
+-- sheet before the run is computed in `Cases`.) Then the "complete" question, outputs of a report, budgets, and the last choice that
+-- fits.
 use mathlib.Core.Bool.{Bool, true, false}
 use mathlib.Core.List.{List, [], _∷_, _++_, map}
 use mathlib.Core.Path.{_≡_, refl}
 use Prim.Native.Nat.{ℕ}
 use Prim.Native.String.{String}
 use lib.ListN.{length, replicate}
-use Rattle.calls.specs.Outcomes.{Answer, accepted, Outcome}
+use Rattle.calls.specs.Refusals.{output-refused}
+use Rattle.calls.specs.Outcomes.{Answer, refused, accepted, Outcome}
 use Rattle.calls.specs.Calls.{Ran, loadOf, chooseOf, runOf, reportOf, completeOf}
 use Rattle.cases.specs.Opened.{definitions}
 use Rattle.cases.specs.Samples.{P, Q, R, not-P, not-Q, not-R, True, False, all-of, any-of, root, book, sheet, said, samples}
@@ -139,6 +141,34 @@ questions =
 pub questions-answered : questions ≡ accepted true ∷ accepted false ∷ accepted false ∷ accepted true ∷ []
 unfolding definitions samples questions
 questions-answered = refl
+
+-- Document 02, U1: "A report shall accept any output of at least N bytes, fill the first N and keep the rest. Calls with exactly N
+-- bytes answer as before. Refusal 12 is now for a shorter output only." P in, Q out, into outputs about the two bytes due; a
+-- contradiction of one option; no option, consistent and not.
+unfoldable pub outputs : List (Outcome (List ℕ) Bool)
+outputs =
+    map
+    (reportOf (sheet 2 (root 2 ∷ any-of 2 ∷ P ∷ Q ∷ not-Q ∷ [])))
+    ([] ∷ (7 ∷ []) ∷ (7 ∷ 8 ∷ []) ∷ (7 ∷ 8 ∷ 9 ∷ []) ∷ (7 ∷ 8 ∷ 9 ∷ 0 ∷ 3 ∷ []) ∷ [])
+    ++ (reportOf (sheet 1 (root 2 ∷ P ∷ not-P ∷ [])) (7 ∷ 8 ∷ 9 ∷ [])
+    ∷ map (λ s. reportOf s (7 ∷ [])) (sheet 0 (root 0 ∷ []) ∷ sheet 0 (root 1 ∷ False ∷ []) ∷ []))
+
+abbrev pub too-short : List ℕ → Outcome (List ℕ) Bool
+too-short out = record { answer = refused output-refused; lent = out }
+
+pub outputs-filled :
+    outputs
+    ≡ too-short []
+    ∷ too-short (7 ∷ [])
+    ∷ tells false (1 ∷ 2 ∷ [])
+    ∷ tells false (1 ∷ 2 ∷ 9 ∷ [])
+    ∷ tells false (1 ∷ 2 ∷ 9 ∷ 0 ∷ 3 ∷ [])
+    ∷ tells true (3 ∷ 8 ∷ 9 ∷ [])
+    ∷ tells false (7 ∷ [])
+    ∷ tells true (7 ∷ [])
+    ∷ []
+unfolding definitions samples outputs
+outputs-filled = refl
 
 -- The first case with budgets about its 5 steps, and what is left with a budget for 0. "It says settled when no rule applies; it
 -- says stopped when the budget's steps are done and a rule still applies."

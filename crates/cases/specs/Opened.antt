@@ -83,7 +83,7 @@ of-lists = tt
 of-desk : Unit {0}
 unfolding Desk.before-line Desk.lines Desk.choose-found Desk.keyed Desk.go-on Desk.all-keyed Desk.digits Desk.decimal
     Desk.refused-word Desk.contradiction-word Desk.settled-word Desk.stopped-word Desk.mark-word Desk.line Desk.printed
-    Desk.first-line Desk.option-lines Desk.desk-budget Desk.deskOf
+    Desk.first-line Desk.option-lines Desk.desk-budget Desk.screen-length Desk.deskOf
 of-desk = tt
 
 unfoldable pub definitions : Unit {0}

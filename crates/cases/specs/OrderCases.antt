@@ -65,7 +65,7 @@ pub writing-in-order : writing ≡ (11, 1) ∷ (6, 11) ∷ (11, 12) ∷ []
 unfolding definitions samples heavy writes writing
 writing-in-order = refl
 
--- Reporting: 11 before 12, for an output that is too long as for one too short. Choosing: 11 before 7, 7 before 8. A single step: 11
+-- Reporting: 11 before 12, which is for an output too short and for no longer one. Choosing: 11 before 7, 7 before 8. A single step: 11
 -- before 9, 9 before 10. Of the "complete" question and of a run there is 11 alone.
 unfoldable pub on-sheets : List (ℕ × ℕ)
 on-sheets =
@@ -82,6 +82,6 @@ on-sheets =
     ∷ []
 
 pub on-sheets-in-order :
-    on-sheets ≡ (11, 12) ∷ (11, 12) ∷ (11, 7) ∷ (7, 8) ∷ (11, 9) ∷ (9, 10) ∷ (11, 0) ∷ (11, 0) ∷ []
+    on-sheets ≡ (11, 12) ∷ (11, 0) ∷ (11, 7) ∷ (7, 8) ∷ (11, 9) ∷ (9, 10) ∷ (11, 0) ∷ (11, 0) ∷ []
 unfolding definitions samples on-sheets
 on-sheets-in-order = refl

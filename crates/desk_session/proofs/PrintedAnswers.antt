@@ -1,9 +1,9 @@
 -- What is printed, by the answers of the calls, and the room that it takes.
 use mathlib.Core.Bool.{Bool, true, false}
-use mathlib.Core.List.{List, [], _∷_, _++_, append-nil}
+use mathlib.Core.List.{List, [], _++_, append-nil}
 use mathlib.Core.Option.{Option, none, some}
 use mathlib.Core.Path.{_≡_, refl, sym, ap}
-use Prim.Native.Nat.{ℕ, zero, suc, _+_, _-_, _*_, _≤_, _<_}
+use Prim.Native.Nat.{ℕ, _+_, _-_, _*_, _≤_, _<_}
 use native.Mathlib.Omega.{arith}
 use borrow.Author.Tests.{eq-eqb, lt-ltb, le-ltb}
 use borrow.Rule.Slice.PartAt.{part-to-end}
@@ -18,8 +18,9 @@ use Rattle.calls.specs.Outcomes.{Answer, refused, accepted, Outcome, outcome}
 use Rattle.calls.specs.Chains.{book-refusal, load-refusal}
 use Rattle.calls.specs.Calls.{Ran, loadOf, runOf, reportOf}
 use Rattle.calls.specs.Desk.{lines, all-keyed, decimal, line, printed, refused-word, contradiction-word, settled-word}
-use Rattle.calls.specs.Desk.{stopped-word, first-line, option-lines, desk-budget, deskOf}
+use Rattle.calls.specs.Desk.{stopped-word, first-line, option-lines, desk-budget, screen-length, deskOf}
 use Rattle.call_laws.specs.Books.{accepted-book}
+use Rattle.call_laws.specs.PlacedOutputs.{lines-first}
 use Rattle.call_answers.specs.AnswerMeaning.{afterCall}
 use Rattle.call_books.proofs.BookTests.{codes-room}
 use Rattle.desk_printing.specs.Placed.{after, filled}
@@ -36,10 +37,14 @@ module _ (book : List ℕ) (good : book-refusal book ≡ none) where
   unfolding options-of
   codes-fit = codes-room book (options-of book) good refl
 
--- Its codes, as they are lent.
-pub codes-lent : (book : List ℕ) (n : ℕ) → n ≡ options-of book → pieces 13 n (take (length book - 8) (drop 8 book)) ≡ codes-of book
+-- The lines of its options, by its codes and the first marks, as they are lent.
+pub lines-lent :
+    (book marks : List ℕ) {n m : ℕ} →
+    n ≡ options-of book →
+    m ≡ n →
+    option-lines (pieces 13 m (take (length book - 8) (drop 8 book))) (take n marks) ≡ option-lines (codes-of book) marks
 unfolding codes-of
-codes-lent book n e = rw (part-to-end book 8, e)
+lines-lent book marks e f = rw (part-to-end book 8, f, e) (lines-first 13 (options-of book) (drop 8 book) marks)
 
 -- A first line has a word of at most 13 letters, a space, at most 20 digits and its end.
 short-word : (c s : Bool) → length (pick c contradiction-word (pick s settled-word stopped-word)) ≤ 13
@@ -57,12 +62,6 @@ short-first c ran h =
       short-word c (ran .settled),
       twenty-digits (ran .count) h,
     )
-
--- The first zeros of zeros.
-pub take-zeros : (n m : ℕ) → n ≤ m → take {A = ℕ} n (replicate m 0) ≡ replicate n 0
-take-zeros zero m h = refl
-take-zeros (suc n) zero h = absurd (omega arith)
-take-zeros (suc n) (suc m) h = ap (λ l. 0 ∷ l) (take-zeros n m (omega arith))
 
 -- What is printed of a report, by its answer.
 module _ (book : List ℕ) (ran : Ran) (marks : List ℕ) (told : Outcome (List ℕ) Bool) where
@@ -86,13 +85,11 @@ module _ (book : List ℕ) (ran : Ran) (marks : List ℕ) (told : Outcome (List 
 -- What is printed of a run, by its answer.
 module _ (book s : List ℕ) (done : Outcome (List ℕ) Ran) where
   pub ran-accepted :
-      (ran : Ran) (n m : ℕ) →
-      n ≡ options-of book →
-      n ≤ m →
+      (ran : Ran) →
       afterCall (accepted ran) s ≡ done →
-      told-lines book ran (reportOf s (take n (replicate m 0))) ≡ ran-lines book done
+      told-lines book ran (reportOf s (replicate screen-length 0)) ≡ ran-lines book done
   unfolding ran-lines printed
-  ran-accepted ran n m e h f = rw (take-zeros n m h, e, ← f)
+  ran-accepted ran e = rw (← e)
 
   pub ran-refused : (r : Refusal) → afterCall (refused r) s ≡ done → line refused-word (decimal (refusal-number r)) ≡ ran-lines book done
   unfolding ran-lines printed

@@ -5,10 +5,10 @@ use Prim.Native.Nat.{ℕ}
 use lib.Dec.{ltb}
 use lib.ListN.{length, replicate}
 use Rattle.model.specs.Base.{pick}
-use Rattle.model.specs.Book.{options-of, codes-of}
+use Rattle.model.specs.Book.{codes-of}
 use Rattle.calls.specs.Outcomes.{Outcome}
 use Rattle.calls.specs.Calls.{Ran, reportOf}
-use Rattle.calls.specs.Desk.{printed, first-line, option-lines, deskOf}
+use Rattle.calls.specs.Desk.{printed, first-line, option-lines, screen-length, deskOf}
 use Rattle.desk_printing.specs.Placed.{Written, after, filled}
 
 -- What is printed of a report, after a run.
@@ -20,7 +20,7 @@ told-lines book ran told =
 -- What is printed of a run.
 unfoldable pub ran-lines : List ℕ → Outcome (List ℕ) Ran → List ℕ
 ran-lines book done =
-    printed (done .answer) (λ ran. told-lines book ran (reportOf (done .lent) (replicate (options-of book) 0)))
+    printed (done .answer) (λ ran. told-lines book ran (reportOf (done .lent) (replicate screen-length 0)))
 
 -- The room that every output fits in: 512 lines of 19 bytes, and a first line.
 abbrev pub room : ℕ

@@ -4,19 +4,21 @@ ghost use mathlib.Core.Bool.{false};
 ghost use mathlib.Core.List.{_++_, []};
 ghost use mathlib.Core.Option.{none};
 ghost use Prim.Native.Nat.{_≤_};
-ghost use lib.ListN.{length};
+ghost use lib.ListN.{length, replicate};
 ghost use Rattle.model.specs.Book.{«options-of», «codes-of»};
 ghost use Rattle.calls.specs.Chains.{«book-refusal»};
 ghost use Rattle.calls.specs.Calls.{runOf, reportOf};
-ghost use Rattle.calls.specs.Desk.{printed, «first-line», «option-lines», «desk-budget»};
+ghost use Rattle.calls.specs.Desk.{printed, «first-line», «option-lines», «desk-budget», «screen-length»};
 ghost use Rattle.call_answers.specs.AnswerMeaning.{doneOf};
 ghost use Rattle.desk_printing.specs.Placed.{after, filled};
 ghost use Rattle.desk_session.specs.Session.{«told-lines», «ran-lines», sessionOf};
 use call_answers::Done;
 use call_report::Reported;
 use call_run::Ran;
-use common_limits::MOST_OPTIONS;
 use common_limits::SHEET_LENGTH;
+
+// The bytes of the desk's screen, which a report is written to, whatever the number of options.
+const SCREEN_LENGTH: usize = 512;
 
 // The line of a refusal, of an answer that is one.
 fn put_refused(answer: Done, out: &mut [u8]) -> usize
@@ -29,11 +31,11 @@ fn put_refused(answer: Done, out: &mut [u8]) -> usize
     desk_printing::put_refusal(r, out)
 }
 
-// The first line, and a line for each option, where there is no contradiction.
+// The first line, and a line for each option by its mark, the first of those lent, where there is no contradiction.
 fn put_lines(book: &[u8], marks: &[u8], settled: bool, count: u64, out: &mut [u8]) -> usize
     requires { ⌜
         («book-refusal» (now book) ≡ none)
-        × (length (now marks) ≡ «options-of» (now book))
+        × («options-of» (now book) ≤ length (now marks))
         × (16384 ≤ length (now out)) ⌝ }
     ensures { λ r. ⌜
         after r (now (out .exit))
@@ -42,22 +44,15 @@ fn put_lines(book: &[u8], marks: &[u8], settled: bool, count: u64, out: &mut [u8
         ++ «option-lines» («codes-of» (now (book .entry))) (now (marks .entry)))
         (now (out .entry)) ⌝ }
 {
+    let n = common_nodes::word_at(book, 0);
     let at = desk_printing::put_first(false, settled, count, out);
-    at + desk_printing::put_options(&book[8..], marks, &mut out[at..])
+    at + desk_printing::put_options(&book[8..], &marks[..n], &mut out[at..])
 }
 
-// What a report says, after a run.
-fn put_told(
-    book: &[u8],
-    sheet: &[u16],
-    settled: bool,
-    count: u64,
-    marks: &mut [u8],
-    out: &mut [u8],
-) -> usize
+// What a report to the screen says, after a run.
+fn put_told(book: &[u8], sheet: &[u16], settled: bool, count: u64, out: &mut [u8]) -> usize
     requires { ⌜
         («book-refusal» (now book) ≡ none)
-        × (length (now marks) ≡ «options-of» (now book))
         × (16384 ≤ length (now out)) ⌝ }
     ensures { λ r. ⌜
         after r (now (out .exit))
@@ -65,12 +60,13 @@ fn put_told(
         («told-lines»
         (now (book .entry))
         (record { settled = settled; count = count })
-        (reportOf (now (sheet .entry)) (now (marks .entry))))
+        (reportOf (now (sheet .entry)) (replicate «screen-length» 0)))
         (now (out .entry)) ⌝ }
 {
-    let told = call_report::report(sheet, marks);
+    let mut screen = [0u8; SCREEN_LENGTH];
+    let told = call_report::report(sheet, &mut screen);
     match told {
-        Reported::Consistent => put_lines(book, marks, settled, count, out),
+        Reported::Consistent => put_lines(book, &screen, settled, count, out),
         Reported::Contradictory => desk_printing::put_first(true, settled, count, out),
         Reported::Refused(r) => desk_printing::put_refusal(r, out),
     }
@@ -85,13 +81,10 @@ fn put_ran(book: &[u8], sheet: &mut [u16], out: &mut [u8]) -> usize
         after r (now (out .exit))
         ≡ filled («ran-lines» (now (book .entry)) (runOf (now (sheet .entry)) «desk-budget»)) (now (out .entry)) ⌝ }
 {
-    let n = common_nodes::word_at(book, 0);
-    let mut room = [0u8; MOST_OPTIONS];
-    let marks = &mut room[..n];
     let ran = call_run::run(sheet, 100000);
     match ran {
-        Ran::Settled(count) => put_told(book, sheet, true, count, marks, out),
-        Ran::Stopped(count) => put_told(book, sheet, false, count, marks, out),
+        Ran::Settled(count) => put_told(book, sheet, true, count, out),
+        Ran::Stopped(count) => put_told(book, sheet, false, count, out),
         Ran::Refused(r) => desk_printing::put_refusal(r, out),
     }
 }

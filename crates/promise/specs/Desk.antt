@@ -2,8 +2,9 @@
 use mathlib.Core.Bool.{true}
 use mathlib.Core.List.{List, [], _∷_, _++_}
 use mathlib.Core.Path.{_≡_, sym, ap, _∙_}
-use Prim.Native.Nat.{ℕ}
-use lib.ListN.{replicate, length-replicate}
+use Prim.Native.Nat.{ℕ, _≤_}
+use native.Mathlib.Omega.{arith}
+use lib.ListN.{length, replicate, length-replicate}
 use Rattle.model.specs.Base.{pick}
 use Rattle.model.specs.Limits.{sheet-length}
 use Rattle.model.specs.Propagation.{Report, report}
@@ -15,12 +16,14 @@ use Rattle.calls.specs.Chains.{load-refusal}
 use Rattle.calls.specs.Calls.{Ran, checkOf, loadOf, runOf, reportOf}
 use Rattle.calls.specs.History.{Call, run, State, after-call, after-calls, loaded, account-calls}
 use Rattle.calls.specs.Desk.{lines, keyed, go-on, all-keyed, decimal, line, printed, refused-word}
-use Rattle.calls.specs.Desk.{first-line, option-lines, desk-budget, deskOf}
+use Rattle.calls.specs.Desk.{first-line, option-lines, desk-budget, screen-length, deskOf}
 use Rattle.theory_forms.specs.Logic.{none-due}
+use Rattle.theory_meaning.specs.ExactReports.{report-tells}
 use Rattle.call_laws.specs.Accepted.{accepted-due}
 use Rattle.call_laws.specs.Effects.{run-outcome, after-append, kept-book}
+use Rattle.call_laws.specs.PlacedOutputs.{lines-placed}
 use Rattle.call_laws.specs.Keyed.{keyed-calls, keyed-append}
-use Rattle.promise.specs.Refusals.{check-none}
+use Rattle.promise.specs.Refusals.{check-none, accepted-exactly}
 use Rattle.promise.specs.Reports.{reported}
 use Rattle.promise.specs.Lists.{Means, demand-3}
 
@@ -35,7 +38,8 @@ pub record Printed (book sheet written : List ℕ) : Type 0 where
   pub told : Report
   pub run-says : runOf sheet desk-budget .answer ≡ accepted ran
   pub report-says :
-      reportOf (runOf sheet desk-budget .lent) (replicate (options-of book) 0) ≡ reported told
+      reportOf (runOf sheet desk-budget .lent) (replicate screen-length 0) ≡ reported told (replicate screen-length 0)
+  pub one-an-option : length (told .marks) ≡ options-of book
   pub prints :
       written
       ≡ first-line (told .contradictory) ran
@@ -91,18 +95,22 @@ module _ (book input : List ℕ) where
       keyed-sheet : is-sheet s ≡ true
       keyed-sheet = rw e (means cs .is-a-sheet)
 
+      -- The report fits the screen, since a book has no more options than the screen has bytes.
       report-told :
           (told : Report)
-          × (reportOf (runOf s desk-budget .lent) (replicate (options-of book) 0) ≡ reported told)
-      unfolding after-calls after-call
+          × (reportOf (runOf s desk-budget .lent) (replicate screen-length 0) ≡ reported told (replicate screen-length 0))
+          × (length (told .marks) ≡ options-of book)
+      unfolding after-calls after-call screen-length
       report-told =
           let calls = cs ++ (run desk-budget ∷ []) in
           let after = after-append cs (run desk-budget ∷ []) (fresh load) in
           let left : after-calls calls (fresh load) .sheet ≡ runOf s desk-budget .lent = rw (after, e) in
-          let room : List ℕ = replicate (options-of book) 0 in
+          let few = accepted-exactly book .0 (loaded-book good) .options in
           let same = kept-book calls (fresh load) (loaded book) in
-          let wide = length-replicate {A = ℕ} (options-of book) 0 ∙ ap options-of (sym same) in
-          (report _ _, rw left at (means calls .report-is room wide))
+          let screen : List ℕ = replicate screen-length 0 in
+          let room : options-of (account-calls calls (fresh load) (loaded book) .book) ≤ length screen =
+          rw same (omega (arith, few, length-replicate {A = ℕ} screen-length 0)) in
+          (report _ _, (rw left at (means calls .report-is screen room)), report-tells _ _ .width ∙ ap options-of same)
 
   pub desk-writes : Desk-writes
   unfolding deskOf printed all-keyed go-on
@@ -116,5 +124,12 @@ module _ (book input : List ℕ) where
             let calls = keyed-calls book (lines input) (load .lent) in
             let ran = ap (λ o. o .answer) (run-outcome s desk-budget (keyed-sheet good (calls .0) s (calls .1))) in
             let told = report-told good (calls .0) s (calls .1) in
-            record { ran = _; told = told .0; run-says = ran; report-says = told .1; prints = rw (good, fine, ran, told .1) };
+            record {
+              ran = _;
+              told = told .0;
+              run-says = ran;
+              report-says = told .1;
+              one-an-option = told .2;
+              prints = rw (good, fine, ran, told .1, lines-placed book (told .0 .marks) (replicate screen-length 0) (told .2));
+            };
       }

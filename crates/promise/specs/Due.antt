@@ -13,7 +13,7 @@ use Rattle.model.specs.Book.{head-in-limits, written}
 use Rattle.calls.specs.Refusals.{length-refused, head-refused, code-refused, contents-refused, body-refused, weight-refused}
 use Rattle.calls.specs.Refusals.{option-refused, full-refused, rule-refused, step-refused, sheet-refused, output-refused}
 use Rattle.calls.specs.Conditions.{lacks-head, is-length-due, has-good-codes, has-good-contents, has-good-bodies, is-light}
-use Rattle.calls.specs.Conditions.{has-option, has-code, is-full, applies, is-book-of, is-long-enough, is-shorter, is-exactly}
+use Rattle.calls.specs.Conditions.{has-option, has-code, is-full, applies, is-book-of, is-long-enough, is-shorter}
 use Rattle.calls.specs.Chains.{part-refusal, book-refusal, lookup-refusal, load-refusal, write-refusal, report-refusal}
 use Rattle.calls.specs.Chains.{complete-refusal, choose-refusal, step-refusal, run-refusal}
 use Rattle.calls.specs.Calls.{checkOf, lookupOf, loadOf, writeOf, reportOf, completeOf, chooseOf, stepOf, runOf}
@@ -64,7 +64,7 @@ pub record First-due : Type 0 where
       By-chain
       (reportOf s out .answer)
       (of-sheet s
-      ∷ output-refused on not (is-exactly out (options-in s))
+      ∷ output-refused on is-shorter out (options-in s)
       ∷ [])
   pub complete : (s : List ℕ) → By-chain (completeOf s) (of-sheet s ∷ [])
   pub choose :

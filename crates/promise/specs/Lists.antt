@@ -29,19 +29,19 @@ use Rattle.promise.specs.Refusals.{check-none}
 use Rattle.promise.specs.Reports.{reported, Reported, report-given, propagation-exact}
 
 -- "After the list the sheet reports what the loaded rules with all accepted choices mean, those keyed after a settled run too."
--- It is a sheet of the book's N, and a report on it is, byte for byte and in its result, the propagation on the clauses of every
--- body together with one clause for each accepted choice: the account that the list gives.
+-- It is a sheet of the book's N, and a report on it, into any output of at least N bytes, is, byte for byte and in its result, the
+-- propagation on the clauses of every body together with one clause for each accepted choice: the account that the list gives.
 pub record Means (account : Account) (sheet : List ℕ) : Type 0 where
   pub is-a-sheet : is-sheet sheet ≡ true
   pub options : options-in sheet ≡ options-of (account .book)
   pub report-is :
       (out : List ℕ) →
-      (out-is-n-long : length out ≡ options-of (account .book)) →
-      reportOf sheet out ≡ reported (report (options-of (account .book)) (meaning account))
+      (out-has-room : options-of (account .book) ≤ length out) →
+      reportOf sheet out ≡ reported (report (options-of (account .book)) (meaning account)) out
   pub report-says :
       (out : List ℕ) →
-      (out-is-n-long : length out ≡ options-of (account .book)) →
-      Reported (options-of (account .book)) (meaning account) (reportOf sheet out)
+      (out-has-room : options-of (account .book) ≤ length out) →
+      Reported (options-of (account .book)) (meaning account) out (reportOf sheet out)
 
 -- "No rule applies to the sheet; it holds the lone contradiction exactly when those rules and choices are contradictory, and
 -- otherwise its bare marks are exactly the forced ones."
@@ -83,7 +83,8 @@ from-rules book start h calls =
             is-a-sheet = k .sheet;
             options = k .options;
             report-is = given;
-            report-says = λ out long. rw (given out long) (propagation-exact (options-of (account .book)) (meaning account));
+            report-says = λ out room.
+                rw (given out room) (propagation-exact (options-of (account .book)) (meaning account) out room);
           };
       settled = λ q.
           let calm = ends-no-rule calls start (loaded book) h q in
@@ -113,11 +114,11 @@ from-rules book start h calls =
 
     given :
         (out : List ℕ) →
-        length out ≡ options-of (account .book) →
-        reportOf left out ≡ reported (report (options-of (account .book)) (meaning account))
-    given out long =
-        report-given left out (k .sheet) (long ∙ sym (k .options))
-        ∙ ap reported (rw (k .options) (same-report (k .models) (options-of (account .book))))
+        options-of (account .book) ≤ length out →
+        reportOf left out ≡ reported (report (options-of (account .book)) (meaning account)) out
+    given out room =
+        report-given left out (k .sheet) (rw (k .options) room)
+        ∙ ap (λ r. reported r out) (rw (k .options) (same-report (k .models) (options-of (account .book))))
 
 -- What a book loads keeps its rules.
 loaded-keeps :

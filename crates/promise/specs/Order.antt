@@ -3,7 +3,7 @@
 -- Here the order of the rules does not matter.
 use mathlib.Core.List.{List, List·Permᴰ}
 use mathlib.Core.Path.{_≡_, sym, ap, _∙_}
-use Prim.Native.Nat.{ℕ}
+use Prim.Native.Nat.{ℕ, _≤_}
 use lib.ListN.{length}
 use Rattle.model.specs.Limits.{sheet-length}
 use Rattle.model.specs.Book.{options-of, bodies-of, clauses-of-body, clauses-of-book}
@@ -34,16 +34,16 @@ module _ (book other target target′ : List ℕ) (calls calls′ : List Call) w
       (same-bodies : List·Permᴰ (bodies-of book) (bodies-of other)) →
       (same-choices : account-calls calls start (loaded book) .choices ≡ account-calls calls′ start′ (loaded other) .choices) →
       (out : List ℕ) →
-      (out-is-n-long : length out ≡ options-of book) →
+      (out-has-room : options-of book ≤ length out) →
       reportOf (after-calls calls start .sheet) out ≡ reportOf (after-calls calls′ start′ .sheet) out
   unfolding meaning clauses-of-book
-  order-does-not-matter ok ok′ long long′ n p same out wide =
+  order-does-not-matter ok ok′ long long′ n p same out room =
       let d = demand-3 book target ok long calls .means in
       let d′ = demand-3 other target′ ok′ long′ calls′ .means in
       let b = kept-book calls start (loaded book) in
       let b′ = kept-book calls′ start′ (loaded other) in
       let choices = account-calls calls start (loaded book) .choices in
       let models = same-append (choice-clauses choices) (reordered-models clauses-of-body p) in
-      let here = d .report-is out (wide ∙ ap options-of (sym b)) in
-      let there = d′ .report-is out (wide ∙ n ∙ ap options-of (sym b′)) in
-      (rw b at here) ∙ ap reported (same-report models (options-of book)) ∙ sym (rw (b′, ← same, ← n) at there)
+      let here = d .report-is out (rw b room) in
+      let there = d′ .report-is out (rw (b′, ← n) room) in
+      (rw b at here) ∙ ap (λ r. reported r out) (same-report models (options-of book)) ∙ sym (rw (b′, ← same, ← n) at there)

@@ -221,9 +221,10 @@ fn facts(nodes: &[u16]) -> Option<[bool; LITERALS]> {
     Some(passes.facts)
 }
 
-/// The report: whether the sheet is contradictory.
+/// The report, at the start of an output whose rest stays: whether the sheet is contradictory.
 pub fn report(sheet: &[u16], out: &mut [u8]) -> bool {
-    assert!(is_sheet(sheet) && out.len() == usize::from(sheet[0]));
+    assert!(is_sheet(sheet) && out.len() >= usize::from(sheet[0]));
+    let out = &mut out[..usize::from(sheet[0])];
     let Some(facts) = facts(used(sheet)) else {
         out.fill(3);
         return true;

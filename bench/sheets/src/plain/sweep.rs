@@ -68,9 +68,10 @@ impl Sweep<'_> {
     }
 }
 
-/// The report: whether the sheet is contradictory.
+/// The report, at the start of an output whose rest stays: whether the sheet is contradictory.
 pub fn report(sheet: &[u16], out: &mut [u8]) -> bool {
-    assert!(is_sheet(sheet) && out.len() == usize::from(sheet[0]));
+    assert!(is_sheet(sheet) && out.len() >= usize::from(sheet[0]));
+    let out = &mut out[..usize::from(sheet[0])];
     let mut sweep = Sweep {
         nodes: used(sheet),
         facts: [[false; 512]; 2],
