@@ -42,6 +42,7 @@ write-refusal s b out =
     or-else due (not (is-book-of s b)) sheet-refused
     or-else due (is-shorter out (length (written s b))) output-refused
 
+-- Document 02, U1: "Refusal 12 is now for a shorter output only."
 unfoldable pub report-refusal : List ℕ → List ℕ → Option Refusal
 report-refusal s out =
     due (not (is-sheet s)) sheet-refused or-else due (is-shorter out (options-in s)) output-refused

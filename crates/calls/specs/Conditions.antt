@@ -57,6 +57,6 @@ is-book-of s b = eqb (options-of b) (options-in s)
 abbrev pub is-long-enough : List ℕ → Bool
 is-long-enough target = eqb (length target) sheet-length
 
--- "12 output shorter than needed." Document 02, U1, of the report: "Refusal 12 is now for a shorter output only."
+-- "12 output shorter than needed."
 abbrev pub is-shorter : List ℕ → ℕ → Bool
 is-shorter out needed = ltb (length out) needed
