@@ -31,7 +31,7 @@ fn put_refused(answer: Done, out: &mut [u8]) -> usize
     desk_printing::put_refusal(r, out)
 }
 
-// The first line, and a line for each option by its mark, the first of those lent, where there is no contradiction.
+// The first line, and a line for each option, where there is no contradiction. There may be more marks than options.
 fn put_lines(book: &[u8], marks: &[u8], settled: bool, count: u64, out: &mut [u8]) -> usize
     requires { ⌜
         («book-refusal» (now book) ≡ none)
