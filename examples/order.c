@@ -6,7 +6,7 @@
  *   gcc -O2 -Wall -Wextra -Iinclude examples/order.c target/library/libnibdrumlin_sheets.a -o target/order
  *   cd examples && ../target/order book.bin < choices.txt
  *
- * Choices are lines: + or - and a code.  The last may lack its line end.
+ * Choices are lines: + or - and a code, 64 of them at most.  The last may lack its line end.
  */
 #include <nibdrumlin_sheets.h>
 
@@ -15,6 +15,7 @@
 
 #define BUDGET 100000
 #define NO_SUCH_CODE 7
+#define LIST_FULL 14
 #define CODE_LENGTH 13
 #define CODES_START 8
 
@@ -25,6 +26,10 @@
 static uint8_t book[ND_BOOK_LONGEST + 1];
 static size_t book_len;
 static uint16_t sheet[ND_SHEET_LENGTH];
+
+/* The choices of the order, and how many there are: none yet. */
+static struct nd_line lines[ND_LINES_MOST];
+static uint16_t count = 0;
 
 /* A refusal prints only itself, and ends the program. */
 static void accept(uint64_t answer)
@@ -46,16 +51,22 @@ static void read_book(const char *path)
     fclose(file);
 }
 
-/* Keys the choice of one line.  A line of another form is refused as an unknown code is. */
+/*
+ * Keys the choice of one line.  A line of another form is refused as an unknown code is; one for
+ * which the list has no slot left is refused whatever it holds.
+ */
 static void key(const uint8_t *line, size_t length)
 {
     uint64_t found;
 
+    if (count == ND_LINES_MOST)
+        accept(LIST_FULL);
     if (length == 0 || (line[0] != '+' && line[0] != '-'))
         accept(NO_SUCH_CODE);
     found = nd_code_lookup(book, book_len, line + 1, length - 1);
     accept(found);
-    accept(nd_choose(sheet, ND_SHEET_LENGTH, (uint16_t)nd_value(found), line[0] == '-'));
+    accept(nd_key(sheet, ND_SHEET_LENGTH, lines, ND_LINES_MOST, &count, nd_value(found),
+                  line[0] == '-'));
 }
 
 /* Keys the choices of standard input in order. */
@@ -86,12 +97,12 @@ static void print_states(const uint8_t *states)
                words[states[option]]);
 }
 
-int main(int count, char **arguments)
+int main(int argc, char **arguments)
 {
     uint8_t states[ND_OPTIONS_MOST];
     uint64_t ran, reported;
 
-    read_book(count > 1 ? arguments[1] : "book.bin");
+    read_book(argc > 1 ? arguments[1] : "book.bin");
     accept(nd_load(book, book_len, sheet, ND_SHEET_LENGTH));
     key_lines();
     ran = nd_run(sheet, ND_SHEET_LENGTH, BUDGET);

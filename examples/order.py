@@ -3,38 +3,37 @@
 
     cd examples && python3 order.py book.bin < choices.txt
 
-Choices are lines: + or - and a code. The last may lack its line end.
+Choices are lines: + or - and a code, 64 of them at most. The last may lack its line end.
 """
 import sys
 from pathlib import Path
 
 sys.path.insert(0, str(Path(__file__).resolve().parent.parent / "python"))
-from nibdrumlin import Book, LibraryMissing, Refused, Sheet  # noqa: E402
+from nibdrumlin import LINES_MOST, Book, LibraryMissing, Order, Refused  # noqa: E402
 
 BUDGET = 100_000
-NO_SUCH_CODE = 7
+NO_SUCH_CODE, LIST_FULL = 7, 14
 
 
-def key(sheet: Sheet, line: bytes) -> None:
-    """Keys the choice of one line. A line of another form is refused as an unknown code is."""
-    sign, code = line[:1], line[1:]
-    if sign == b"+":
-        sheet.choose(code)
-    elif sign == b"-":
-        sheet.bar(code)
-    else:
+def key(order: Order, line: bytes) -> None:
+    """Keys the choice of one line. A line of another form is refused as an unknown code is; one for
+    which the list has no slot left is refused whatever it holds."""
+    if len(order.lines) == LINES_MOST:
+        raise Refused("key", LIST_FULL)
+    if line[:1] not in (b"+", b"-"):
         raise Refused("key", NO_SUCH_CODE)
+    order.key(line[1:], barred=line[:1] == b"-")
 
 
-def order(book: bytes, choices: bytes) -> str:
+def answer(book: bytes, choices: bytes) -> str:
     """The lines to print, for an order that is not refused."""
-    sheet = Sheet(Book(book))
+    order = Order(Book(book))
     lines = choices.split(b"\n")
     if not lines[-1]:  # nothing after the last line end is no line
         lines.pop()
     for line in lines:
-        key(sheet, line)
-    ran, report = sheet.run(BUDGET), sheet.report()
+        key(order, line)
+    ran, report = order.run(BUDGET), order.report()
     if report.contradictory:
         return "contradiction %d\n" % ran.steps
     text = "%s %d\n" % ("settled" if ran.settled else "stopped", ran.steps)
@@ -54,7 +53,7 @@ def contents(path: str) -> bytes:
 def main() -> None:
     book = contents(sys.argv[1] if len(sys.argv) > 1 else "book.bin")
     try:
-        print(order(book, sys.stdin.buffer.read()), end="")
+        print(answer(book, sys.stdin.buffer.read()), end="")
     except Refused as refusal:
         print("refused %d" % refusal.number)
     except LibraryMissing as missing:

@@ -1,7 +1,7 @@
 /*
- * Order sheets: a book loaded onto a sheet, choices, steps, runs, reports, and the sheet
- * written back as a book.  The book check and the code lookup stand in nibdrumlin.h, which
- * this header includes, with what a book is and how an answer is packed.
+ * Order sheets: a book loaded onto a sheet, choices keyed and taken back, steps, runs, reports,
+ * and the sheet written back as a book.  The book check and the code lookup stand in
+ * nibdrumlin.h, which this header includes, with what a book is and how an answer is packed.
  *
  * A sheet is exactly 4,098 numbers of 16 bits, in the machine's own byte order:
  *
@@ -17,6 +17,17 @@
  * Anything else is no sheet.  Nothing outside the 4,098 numbers belongs to a sheet: it may be
  * copied, kept and lent again at will.
  *
+ * An order keeps its choices as lines, so that one can be taken back: 64 slots of struct nd_line
+ * and a count, of which the first count slots are the lines.  Whoever begins an order sets the
+ * count to 0.  A slot past the count may hold any option number: it is not looked at, and what it
+ * held stays until a line is keyed into it.  negative must be true or false, 1 or 0, in every
+ * slot, past the count too, as C's bool demands: set the slots to zeros once.  The byte that
+ * fills a line up to four is nobody's: it may hold anything, and may change with its line.
+ *
+ * A list is in order where there are exactly 64 slots, the count is at most 64, and the option of
+ * every line below the count is below the sheet's N.  The lines are what a withdrawal keys again:
+ * whoever lends lines that were never keyed finds them on the sheet after the next withdrawal.
+ *
  * Every function answers one number.  Its low 8 bits are the refusal, 0 where the call is
  * accepted; the rest is the value (nd_refusal and nd_value of nibdrumlin.h take it apart).  A
  * refused call has the value 0.  The refusals:
@@ -24,12 +35,16 @@
  *    1 to 6  of the book, as in nibdrumlin.h and in the same order:
  *            1 (fewer than 8 bytes), 2, 1 (not the length due), 3, 4, 5, 6
  *    7       no such option number
- *    8       sheet full: its weight + 2 is over 4,096
+ *    8       sheet full: its weight + 2 is over 4,096; in a withdrawal, the book's weight + twice
+ *            the remaining lines is
  *    9       rule not 1 to 14
  *   10       the step does not apply
- *   11       not a sheet; in writing also a book whose N is not the sheet's; in loading only a
+ *   11       not a sheet; in writing and in a withdrawal also a book whose N is not the sheet's;
+ *            in a keying and in a withdrawal also lines that are not in order; in loading only a
  *            length that is not 4,098
  *   12       output shorter than needed: for a report, than N bytes
+ *   13       no such line
+ *   14       list full: there are 64 lines
  *
  * What each function can be refused stands beside it, in the order of the tests: the first that
  * holds is the answer.
@@ -41,13 +56,14 @@
  * is lent.
  *
  * Every input has an answer: there is nothing that the caller must have tested before.  Lengths
- * count elements: bytes of a book or an output, 16-bit numbers of a sheet.  A pointer may be null
- * where its length is 0; that is an empty run.  Otherwise it must point to as many elements as
- * its length says, and a sheet must be aligned as uint16_t is.
+ * count elements: bytes of a book or an output, 16-bit numbers of a sheet, slots of lines.  A
+ * pointer may be null where its length is 0; that is an empty run.  Otherwise it must point to as
+ * many elements as its length says, and a sheet, lines and a count must be aligned as uint16_t
+ * is.  A count is one number and has no length: its pointer is never null.
  *
  * Stack: the ND_STACK_ numbers, here and in nibdrumlin.h, are bytes that suffice for one call,
- * with a margin of at least 4,096 over what was measured: 3,384 for nd_write, 8,636 for nd_step,
- * 33,228 for nd_run, 56,744 for nd_report.  tests/library/stack.c measures it again.  It counts
+ * with a margin of at least 4,096 over what was measured: 3,832 for nd_withdraw, 8,636 for nd_step,
+ * 33,244 for nd_run, 56,744 for nd_report.  tests/library/stack.c measures it again.  It counts
  * what the calls and their memset, memcpy and memmove use.  A program that binds these three
  * only when they are first called needs, that once, the dynamic linker's stack besides.
  */
@@ -73,14 +89,23 @@ extern "C" {
 /* The length of the longest book, in bytes: an output of so many is enough for every write. */
 #define ND_BOOK_LONGEST 31234
 
+/* The slots of an order's lines. */
+#define ND_LINES_MOST 64
+
+/* A line of an order: an option, taken or (negative) barred. */
+struct nd_line {
+    uint16_t option;
+    bool negative;
+};
+
 /* The bytes of a report. */
 #define ND_OPEN 0
 #define ND_IN 1
 #define ND_OUT 2
 #define ND_CONTRADICTORY 3
 
-/* Bytes of stack that suffice for nd_load, nd_write and nd_choose; nd_step; nd_run; nd_report
- * and nd_complete. */
+/* Bytes of stack that suffice for nd_load, nd_write, nd_key and nd_withdraw; nd_step; nd_run;
+ * nd_report and nd_complete. */
 #define ND_STACK_SHEET 8192
 #define ND_STACK_STEP 16384
 #define ND_STACK_RUN 40960
@@ -131,13 +156,35 @@ uint64_t nd_report(const uint16_t *sheet, size_t sheet_len, uint8_t *out, size_t
 uint64_t nd_complete(const uint16_t *sheet, size_t sheet_len);
 
 /*
- * Keys a choice: the option, taken or (negative) barred, becomes the root's last child.
+ * Keys a choice: the option, taken or (negative) barred, becomes the root's last child and the
+ * order's last line.
  *
- * The value is always 0.
+ * Accepted, the slot at the count holds the line, all other slots stay, and the count is one
+ * more.  The option is compared with all its 64 bits.  The value is always 0.
  *
- * Refused 11 (not a sheet), 7 (option is N or more), then 8.
+ * Refused 11 (not a sheet; lines not in order), 14 (the count is 64), 7 (option is N or more),
+ * then 8.  After a refusal the sheet, every slot and the count are as they were.
  */
-uint64_t nd_choose(uint16_t *sheet, size_t sheet_len, uint16_t option, bool negative);
+uint64_t nd_key(uint16_t *sheet, size_t sheet_len, struct nd_line *lines, size_t slots,
+                uint16_t *count, uint64_t option, bool negative);
+
+/*
+ * Takes line k back, counted from 0: the sheet becomes that of the book lent, with the remaining
+ * lines keyed in their order.  What steps and runs had done to the sheet is dropped, whether or
+ * not a run had settled it, and the next run counts its steps from zero.
+ *
+ * Accepted, the lines before k stay, the later ones move up by one, and the count is one less.
+ * The slot that is free now keeps what it held, and so do those past it.  The book is usually
+ * the one that was loaded; where it is another of as many options, its rules are the order's
+ * from then on, and the lines name its options by their numbers.  The value is always 0.
+ *
+ * Refused 11 (not a sheet), 1 to 6, 11 (a book whose N is not the sheet's; lines not in order),
+ * 13 (k is the count or more, with all its 64 bits), then 8 (the book's weight + twice the
+ * remaining lines is over 4,096: a choice keyed into room that steps had made cannot always be
+ * taken back).  After a refusal the sheet, every slot and the count are as they were.
+ */
+uint64_t nd_withdraw(uint16_t *sheet, size_t sheet_len, const uint8_t *book, size_t book_len,
+                     struct nd_line *lines, size_t slots, uint16_t *count, uint64_t k);
 
 /*
  * Does one step of the fourteen rules: rule 1 to 14, at a place (nodes counted from the root, 0),

@@ -1,19 +1,22 @@
-"""Option books and order sheets: every call of the library, from Python.
+"""Option books and orders: every call of the library, from Python.
 
     book = Book.from_file("book.bin")
-    sheet = Sheet(book)
-    sheet.choose("LID-STEEL")
-    sheet.bar("BODY-C")
-    print(sheet.run(100_000), sheet.report())
+    order = Order(book)
+    order.key("LID-STEEL")
+    order.key("BODY-C", barred=True)
+    print(order.run(100_000), order.report())
+    order.withdraw(1)  # line 1 is taken back; counted from 0, that is BODY-C
+    print(order.lines, order.run(100_000), order.report())
 
 A call that is refused raises Refused, which has the number of the refusal and its meaning, and
 leaves everything as it was. The library is target/library/libnibdrumlin_sheets.so of this
 repository, which tools/build-library makes; the environment variable NIBDRUMLIN_LIBRARY names
 another file.
 
-Book and Sheet stand on the functions nd_load, nd_run and so on, which are the C functions of
+Book and Order stand on the functions nd_load, nd_run and so on, which are the C functions of
 include/nibdrumlin.h and include/nibdrumlin_sheets.h on memory that the caller lends: a book or an
-output is any run of bytes, a sheet any run of 16-bit numbers (array("H"), say).
+output is any run of bytes, a sheet any run of 16-bit numbers (array("H"), say), the lines of an
+order a ctypes array of Slot, their count one 16-bit number (ctypes.c_uint16, say).
 """
 import ctypes
 import functools
@@ -21,14 +24,16 @@ import os
 from array import array
 from enum import IntEnum
 from pathlib import Path
-from typing import Any, Dict, Iterable, List, NamedTuple, Tuple, Union
+from typing import Any, Dict, Iterable, List, NamedTuple, Optional, Tuple, Union
 
 SHEET_LENGTH = 4098
 OPTIONS_MOST = 512
+LINES_MOST = 64
 BOOK_LONGEST = 31_234
 CODE_LENGTH = 13
 HEAD_LENGTH = 8
 BUDGET_MOST = 2 ** 64 - 1
+NO_NUMBER = 2 ** 64 - 1  # of no option and of no line
 
 MEANINGS = {
     1: "the book's length: fewer than 8 bytes, or not the length due",
@@ -38,24 +43,34 @@ MEANINGS = {
     5: "a malformed body in the book",
     6: "the book's weight is over 4,096",
     7: "no such option number or code",
-    8: "the sheet is full",
+    8: "the sheet is full, or would be with the remaining lines",
     9: "the rule is not 1 to 14",
     10: "the step does not apply",
-    11: "not a sheet, or a book whose number of options is not the sheet's",
+    11: "not a sheet, a book whose number of options is not the sheet's, or lines not in order",
     12: "the output is too short",
+    13: "no such line",
+    14: "the list is full: it has 64 lines",
 }
 
 LIBRARY = Path(__file__).resolve().parent.parent / "target/library/libnibdrumlin_sheets.so"
 
-# Each C function by its arguments: b a run of bytes, s a run of 16-bit numbers (capitals: it may be
-# written), 2 and 8 numbers of so many bytes, ? a truth value.
+# Each C function by its arguments: b a run of bytes, s a run of 16-bit numbers, L lines, C their
+# count (capitals: it may be written), 8 a number of so many bytes, ? a truth value.
 SIGNATURES = {
     "nd_book_check": "b", "nd_code_lookup": "bb", "nd_load": "bS", "nd_write": "sbB",
-    "nd_report": "sB", "nd_complete": "s", "nd_choose": "S2?", "nd_step": "S8888", "nd_run": "S8"}
-NUMBERS = {"2": ctypes.c_uint16, "8": ctypes.c_uint64, "?": ctypes.c_bool}
+    "nd_report": "sB", "nd_complete": "s", "nd_key": "SLC8?", "nd_withdraw": "SbLC8",
+    "nd_step": "S8888", "nd_run": "S8"}
+NUMBERS = {"8": ctypes.c_uint64, "?": ctypes.c_bool}
+SIZES = {"b": 1, "B": 1, "s": 2, "S": 2, "C": 2}
 
 Lent = Union[bytes, bytearray, memoryview, "array[int]"]
 Option = Union[int, str, bytes]
+
+
+class Slot(ctypes.Structure):
+    """A line of an order as C has it."""
+
+    _fields_ = [("option", ctypes.c_uint16), ("negative", ctypes.c_bool)]
 
 
 class Refused(Exception):
@@ -88,6 +103,13 @@ class Ran(NamedTuple):
     steps: int
 
 
+class Line(NamedTuple):
+    """A line of an order: an option's number, taken or barred."""
+
+    option: int
+    barred: bool
+
+
 class Report(NamedTuple):
     """Whether the sheet is contradictory, and the state of each option, by its code."""
 
@@ -109,19 +131,40 @@ def _functions() -> Dict[str, Any]:
     for name, letters in SIGNATURES.items():
         function = library[name]
         function.restype = ctypes.c_uint64
-        function.argtypes = [kind for letter in letters for kind in (
-            (NUMBERS[letter],) if letter in NUMBERS else (ctypes.c_void_p, ctypes.c_size_t))]
+        function.argtypes = [kind for letter in letters for kind in _types(letter)]
         functions[name] = function
     return functions
+
+
+def _types(letter: str) -> Tuple[Any, ...]:
+    """A number goes to C as it is, a count as a pointer, a run as a pointer and a length."""
+    if letter in NUMBERS:
+        return (NUMBERS[letter],)
+    return (ctypes.c_void_p,) if letter == "C" else (ctypes.c_void_p, ctypes.c_size_t)
+
+
+def _lend_lines(lines: Any) -> Tuple[Any, int]:
+    """A pointer and the number of slots. A Slot is never anything but true or false in its second
+    part, as C demands; other memory might be."""
+    if not isinstance(lines, ctypes.Array) or lines._type_ is not Slot:
+        raise TypeError("want a ctypes array of Slot")
+    return (lines, len(lines)) if len(lines) else (None, 0)
+
+
+def _lend_count(count: Any) -> Tuple[Any]:
+    """A pointer to one number."""
+    view = memoryview(count)
+    if view.itemsize != SIZES["C"] or view.nbytes != SIZES["C"] or view.readonly:
+        raise TypeError("want one 16-bit number that can be written")
+    return ((ctypes.c_char * view.nbytes).from_buffer(view),)
 
 
 def _lend(memory: Lent, letter: str) -> Tuple[Any, int]:
     """A pointer and a length in elements. What a call may write is lent itself; what it only reads
     is copied where Python does not let go of its address."""
-    size = 2 if letter in "sS" else 1
     view = memoryview(memory)
-    if view.itemsize != size or view.ndim != 1 or not view.c_contiguous:
-        raise TypeError("want a run of %s" % ("16-bit numbers" if size == 2 else "bytes"))
+    if view.itemsize != SIZES[letter] or view.ndim != 1 or not view.c_contiguous:
+        raise TypeError("want a run of %s" % ("bytes" if letter in "bB" else "16-bit numbers"))
     if letter.isupper() and view.readonly:
         raise TypeError("the call writes to this memory, and it is read-only")
     if view.nbytes == 0:
@@ -131,23 +174,29 @@ def _lend(memory: Lent, letter: str) -> Tuple[Any, int]:
     return (ctypes.c_char * view.nbytes).from_buffer(view), len(view)
 
 
-def _number(value: int, letter: str) -> int:
-    """A number for C. One that does not fit its width is given as the largest that does: no book
-    has so many options and no sheet so many places, so the answer is the one due."""
-    if letter == "?":
-        return bool(value)
-    most = 2 ** (8 * int(letter)) - 1
+def _number(value: int, size: int) -> int:
+    """A number for C, of so many bytes. One that does not fit is given as the largest that does: no
+    book has so many options, no sheet so many places and no order so many lines, so the answer is
+    the one due."""
+    most = 2 ** (8 * size) - 1
     return value if 0 <= value <= most else most
+
+
+def _plain(argument: Any, letter: str) -> Tuple[Any, ...]:
+    """An argument as C takes it."""
+    if letter == "?":
+        return (bool(argument),)
+    if letter in NUMBERS:
+        return (_number(argument, int(letter)),)
+    lend = {"L": _lend_lines, "C": _lend_count}.get(letter)
+    return lend(argument) if lend else _lend(argument, letter)
 
 
 def _call(name: str, *arguments: Any) -> int:
     """The value of an accepted call."""
     plain: List[Any] = []
     for letter, argument in zip(SIGNATURES[name], arguments):
-        if letter in NUMBERS:
-            plain.append(_number(argument, letter))
-        else:
-            plain.extend(_lend(argument, letter))
+        plain.extend(_plain(argument, letter))
     answer = _functions()[name](*plain)
     if answer % 256 != 0:
         raise Refused(name, answer % 256)
@@ -186,9 +235,16 @@ def nd_complete(sheet: Lent) -> bool:
     return bool(_call("nd_complete", sheet))
 
 
-def nd_choose(sheet: Lent, option: int, negative: bool) -> None:
-    """Takes the option, or bars it. Refused 11, 7, 8."""
-    _call("nd_choose", sheet, option, negative)
+def nd_key(sheet: Lent, lines: Any, count: Any, option: int, negative: bool) -> None:
+    """Takes the option, or bars it: a mark on the sheet, and a line in the slot at the count, which
+    rises by one. Refused 11, 14, 7, 8."""
+    _call("nd_key", sheet, lines, count, option, negative)
+
+
+def nd_withdraw(sheet: Lent, book: Lent, lines: Any, count: Any, k: int) -> None:
+    """Takes line k back: the sheet is that of the book with the remaining lines keyed in order, the
+    later lines move up, the count falls by one. Refused 11, 1 to 6, 11, 13, 8."""
+    _call("nd_withdraw", sheet, book, lines, count, k)
 
 
 def nd_step(sheet: Lent, rule: int, place: int, i: int, j: int) -> None:
@@ -204,7 +260,7 @@ def nd_run(sheet: Lent, budget: int) -> Ran:
     return Ran(value % 2 == 1, value // 2)
 
 
-# Books and sheets as Python would have them.
+# Books and orders as Python would have them.
 
 class Book:
     """An option book. One is made only of bytes that the book check accepts."""
@@ -243,30 +299,46 @@ class Book:
                      for at in range(HEAD_LENGTH, end, CODE_LENGTH))
 
 
-class Sheet:
-    """An order sheet: the book's rules, then the choices. It owns its 4,098 numbers."""
+class Order:
+    """An order: the sheet of a book, and the lines keyed on it. `numbers` are the sheet's 4,098."""
 
     def __init__(self, book: Book) -> None:
-        """The sheet of a book, with no choices."""
+        """An order of a book, with no lines."""
         self.book = book
         self.numbers = array("H", bytes(2 * SHEET_LENGTH))
+        self._slots = (Slot * LINES_MOST)()
+        self._count = ctypes.c_uint16(0)
         nd_load(book.data, self.numbers)
 
     @classmethod
-    def from_numbers(cls, book: Book, numbers: Iterable[int]) -> "Sheet":
-        """A sheet that was kept elsewhere, with its book; refused 11."""
-        sheet = cls(book)
-        sheet.numbers = array("H", numbers)
-        nd_write(sheet.numbers, book.data, bytearray(BOOK_LONGEST))  # which tests both
-        return sheet
+    def from_numbers(cls, book: Book, numbers: Iterable[int],
+                     lines: Iterable[Tuple[int, bool]] = ()) -> "Order":
+        """An order that was kept elsewhere, by its book, the numbers of its sheet and its lines;
+        refused 11. Lines that were never keyed are on the sheet after the next withdrawal."""
+        order, kept = cls(book), [Slot(_number(option, 2), barred) for option, barred in lines]
+        order.numbers = array("H", numbers)
+        order._slots = (Slot * max(LINES_MOST, len(kept)))(*kept)
+        order._count = ctypes.c_uint16(_number(len(kept), 2))
+        order._check()
+        return order
 
-    def choose(self, option: Option) -> None:
-        """Takes an option, by its code or number; refused 7, 8."""
-        nd_choose(self.numbers, self._option(option), False)
+    @property
+    def lines(self) -> Tuple[Line, ...]:
+        """The lines that stand, in the order in which they were keyed."""
+        return tuple(Line(slot.option, slot.negative) for slot in self._slots[:self._count.value])
 
-    def bar(self, option: Option) -> None:
-        """Bars an option, by its code or number; refused 7, 8."""
-        nd_choose(self.numbers, self._option(option), True)
+    def key(self, option: Option, barred: bool = False) -> None:
+        """Takes an option, by its code or number, or bars it, as the order's last line; refused 14,
+        7, 8."""
+        nd_key(self.numbers, self._slots, self._count, self._option(option), barred)
+
+    def withdraw(self, k: int, book: Optional[Book] = None) -> None:
+        """Takes line k back, counted from 0. What steps and runs had done is dropped. With another
+        book of as many options, its rules are the order's from then on; lines name options by
+        number. Refused 11, 13, 8."""
+        book = self.book if book is None else book
+        nd_withdraw(self.numbers, book.data, self._slots, self._count, k)
+        self.book = book
 
     def step(self, rule: int, place: int, i: int = 0, j: int = 0) -> None:
         """One step of the fourteen rules; refused 9, 10."""
@@ -292,4 +364,20 @@ class Sheet:
         return bytes(out[:nd_write(self.numbers, self.book.data, out)])
 
     def _option(self, option: Option) -> int:
-        return option if isinstance(option, int) else self.book.lookup(option)
+        """The number of an option. A code that the book does not have becomes a number that it does
+        not have, so that it is refused when its turn comes: after a full list, as 7."""
+        if isinstance(option, int):
+            return option
+        try:
+            return self.book.lookup(option)
+        except Refused:  # 7: the book was checked when it was made
+            return NO_NUMBER
+
+    def _check(self) -> None:
+        """Refused 11 unless there are a sheet, as many options as the book's, and lines in order:
+        all of that is tested before it is found that there is no such line."""
+        try:
+            nd_withdraw(self.numbers, self.book.data, self._slots, self._count, NO_NUMBER)
+        except Refused as refusal:
+            if refusal.number != 13:
+                raise

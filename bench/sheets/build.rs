@@ -1,11 +1,24 @@
-//! Links the static library that holds every call on sheets.
+//! Links the static libraries that hold every call on sheets and on the lines of orders.
 //!
-//! `tools/build-library`, run at the repository's top, writes it to
-//! `target/staticlib/libc_sheet_calls.a`.  The environment variable `ND_STATICLIB_DIR`
-//! names another folder to take `libc_sheet_calls.a` from.
+//! `tools/build-library`, run at the repository's top, writes them to
+//! `target/staticlib/libc_sheet_calls.a` and `target/staticlib/libc_line_calls.a`.  The
+//! environment variable `ND_STATICLIB_DIR` names another folder to take both from.
 
 use std::env;
-use std::path::PathBuf;
+use std::path::{Path, PathBuf};
+
+/// Links one of them.
+fn link(folder: &Path, name: &str) {
+    let archive = folder.join(format!("lib{name}.a"));
+    println!("cargo:rerun-if-changed={}", archive.display());
+    if !archive.is_file() {
+        panic!(
+            "no {}: run `tools/build-library` at the repository's top",
+            archive.display()
+        );
+    }
+    println!("cargo:rustc-link-lib=static={name}");
+}
 
 fn main() {
     let folder = match env::var_os("ND_STATICLIB_DIR") {
@@ -14,15 +27,8 @@ fn main() {
         None => PathBuf::from(env::var_os("CARGO_MANIFEST_DIR").expect("set by cargo"))
             .join("../../target/staticlib"),
     };
-    let archive = folder.join("libc_sheet_calls.a");
     println!("cargo:rerun-if-env-changed=ND_STATICLIB_DIR");
-    println!("cargo:rerun-if-changed={}", archive.display());
-    if !archive.is_file() {
-        panic!(
-            "no {}: run `tools/build-library` at the repository's top",
-            archive.display()
-        );
-    }
     println!("cargo:rustc-link-search=native={}", folder.display());
-    println!("cargo:rustc-link-lib=static=c_sheet_calls");
+    link(&folder, "c_sheet_calls");
+    link(&folder, "c_line_calls");
 }

@@ -1,19 +1,20 @@
 """A clause-building reference checker for the option book and the order sheet.
 
-Written from document 01 alone, a second and independent rendering of its definitions. It keeps to
-the wording and not to speed: clauses are really multiplied out, so it is for toy books. The paper's
-words and the field's terms: mark = literal (barred = negative), all-of = conjunction, any-of =
-disjunction; where a rule applies is a redex, what it leaves there the contractum.
+Written from document 01, and document 02 where its requests have landed, alone: a second and
+independent rendering of their definitions. It keeps to the wording and not to speed: clauses are
+really multiplied out, so it is for toy books. The papers' words and the field's terms: mark =
+literal (barred = negative), all-of = conjunction, any-of = disjunction; where a rule applies is a
+redex, what it leaves there the contractum.
 
-trees: node numbers to trees and back. books: the book file. sheets: the order sheet. meaning:
-clauses and facts. rules: the fourteen rules. calls: every call in one form. desk: the desk program.
-cases: the paper's cases as tables. demands: the parts of demand 3. selftest: all of it against the
-paper.
+trees: node numbers to trees and back. books: the book file. sheets: the order sheet. keying: the
+lines of an order, keyed and taken back. meaning: clauses and facts. rules: the fourteen rules.
+calls: every call in one form. desk: the desk program. cases: the papers' cases as tables. demands:
+the parts of demand 3. selftest and its two parts: all of it against the papers.
 """
 
 
 class Refused(Exception):
-    """One refusal, `number` as in document 01."""
+    """One refusal, `number` as in documents 01 and 02."""
 
     def __init__(self, number):
         super().__init__(number)

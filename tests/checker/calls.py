@@ -2,10 +2,11 @@
 
 Buffers are lists of numbers and are not changed in place; `buffers after` is the tuple of those
 that the call may write, as it leaves them. Arguments are unsigned and of any size: none is narrowed
-before it is compared. Values: lookup, the option; write, the length; run, 2 x count and 1 more if
-settled; report, 1 if contradictory; complete, 1 if so; the others, 0.
+before it is compared. The lines of an order are a buffer of (option, barred), their count a buffer
+of one number. Values: lookup, the option; write, the length; run, 2 x count and 1 more if settled;
+report, 1 if contradictory; complete, 1 if so; the others, 0.
 """
-from . import Refused, books, meaning, rules, sheets
+from . import Refused, books, keying, meaning, rules, sheets
 
 
 def answer(work, *lent):
@@ -36,8 +37,19 @@ def write(sheet, book, output):
     return answer(lambda: sheets.write(sheet, book, output), output)
 
 
-def choose(sheet, option, barred):
-    return answer(lambda: (0, sheets.choose(sheet, option, barred)), sheet)
+def order(sheet, lines, count):
+    """What a keying or a withdrawal gives, and leaves."""
+    return 0, sheet, lines, [count]
+
+
+def key(sheet, lines, count, option, barred):
+    return answer(lambda: order(*keying.key(sheet, lines, *count, option, barred)),
+                  sheet, lines, count)
+
+
+def withdraw(sheet, book, lines, count, k):
+    return answer(lambda: order(*keying.withdraw(sheet, book, lines, *count, k)),
+                  sheet, lines, count)
 
 
 def step(sheet, rule, place, i, j):

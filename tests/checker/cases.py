@@ -1,4 +1,5 @@
-"""Document 01's books to try, as tables, and single steps that show what each rule does."""
+"""Document 01's books to try, as tables; single steps that show what each rule does; and orders
+whose lines are keyed and taken back, as document 02 says."""
 from .trees import (FALSE, TRUE, conjunction as all_of, disjunction as any_of, negative, positive)
 
 P, Q, R = positive(0), positive(1), positive(2)
@@ -52,4 +53,74 @@ STEPS = [
     ([any_of(all_of(P), all_of(NOT_P))], (14, 1, 0, 0), None),
     ([any_of(all_of(P), all_of(P), all_of(Q))], (14, 1, 0, 0), None),
     ([any_of(all_of(P), all_of(P), FALSE)], (14, 1, 0, 0), None),
+]
+
+# Document 02's orders, each on a book with the options P, Q and R. Rules; first lines, which nobody
+# keyed; calls, each with its (refusal, value); the lines left; the report. A call is a keying, by
+# option and barred; the taking back of line k, with the book itself or with other rules; or a run,
+# by its budget, whose value is 2 x count and 1 more if settled.
+ACCEPTED, MOST = (0, 0), 2 ** 64 - 1
+FULL = [TRUE, any_of(TRUE, *[P] * 2046)]  # weight 4,096; a run of 4 steps leaves nothing of it
+FIVE_STEPS = [any_of(P, all_of(P, Q))]
+ORDERS = [
+    ([any_of(P, Q)], [], [("key", (1, True), ACCEPTED)], [(1, True)], [1, 2, 0]),
+    ([any_of(P, Q)], [], [("key", (1, True), ACCEPTED), ("withdraw", (0,), ACCEPTED)],
+     [], [0, 0, 0]),
+    # "moves later lines up"
+    ([], [(0, False), (1, True), (2, False)], [("withdraw", (0,), ACCEPTED)],
+     [(1, True), (2, False)], [0, 2, 1]),
+    ([], [(0, False), (1, True), (2, False)], [("withdraw", (1,), ACCEPTED)],
+     [(0, False), (2, False)], [1, 0, 1]),
+    ([], [(0, False), (1, True), (2, False)], [("withdraw", (2,), ACCEPTED)],
+     [(0, False), (1, True)], [1, 2, 0]),
+    # a contradiction is taken back, also after a run has left nothing but it
+    ([any_of(NOT_P, NOT_Q)], [],
+     [("key", (0, False), ACCEPTED), ("key", (1, False), ACCEPTED), ("run", (MOST,), (0, 11)),
+      ("withdraw", (1,), ACCEPTED)], [(0, False)], [1, 2, 0]),
+    # "while a run stands stopped: the run's work is dropped and the next run counts from zero"
+    (FIVE_STEPS, [],
+     [("key", (2, True), ACCEPTED), ("run", (2,), (0, 4)), ("withdraw", (0,), ACCEPTED),
+      ("run", (MOST,), (0, 11))], [], [1, 0, 0]),
+    (FIVE_STEPS, [],
+     [("key", (2, True), ACCEPTED), ("run", (2,), (0, 4)), ("withdraw", (1,), (13, 0)),
+      ("run", (MOST,), (0, 7))], [(2, True)], [1, 0, 2]),
+    # "starts with any lent lines": no choices before the first accepted withdrawal, then they are
+    ([any_of(P, Q)], [(0, True)], [], [(0, True)], [0, 0, 0]),
+    ([any_of(P, Q)], [(0, True)], [("key", (2, False), ACCEPTED)], [(0, True), (2, False)],
+     [0, 0, 1]),
+    ([any_of(P, Q)], [(0, True)],
+     [("key", (2, False), ACCEPTED), ("withdraw", (2,), (13, 0))], [(0, True), (2, False)],
+     [0, 0, 1]),
+    ([any_of(P, Q)], [(0, True)],
+     [("key", (2, False), ACCEPTED), ("withdraw", (1,), ACCEPTED)], [(0, True)], [2, 1, 0]),
+    # "the loaded rules are those of the book lent to it", and no others from then on
+    ([any_of(P, Q)], [],
+     [("key", (1, True), ACCEPTED), ("key", (0, True), ACCEPTED),
+      ("withdraw", (1, [any_of(Q, R)]), ACCEPTED)], [(1, True)], [0, 2, 1]),
+    ([P], [(1, True)], [("withdraw", (0, []), ACCEPTED)], [], [0, 0, 0]),
+    # 13: "no such line"
+    ([P], [(1, False)],
+     [("withdraw", (k,), (13, 0)) for k in (1, 2, 63, 64, 65_536, 2 ** 32, 2 ** 63, MOST)],
+     [(1, False)], [1, 0, 0]),
+    ([], [], [("withdraw", (0,), (13, 0))], [], [0, 0, 0]),
+    # 14: "list full", before 7
+    ([], [(0, False)] * 63,
+     [("key", (3, False), (7, 0)), ("key", (1, True), ACCEPTED), ("key", (1, True), (14, 0)),
+      ("key", (3, False), (14, 0)), ("key", (65_536, False), (14, 0))],
+     [(0, False)] * 63 + [(1, True)], [0, 2, 0]),
+    ([], [(0, False)] * 64,
+     [("withdraw", (64,), (13, 0)), ("withdraw", (63,), ACCEPTED), ("key", (2, True), ACCEPTED),
+      ("key", (1, True), (14, 0))], [(0, False)] * 63 + [(2, True)], [1, 0, 2]),
+    # 7 is for what is not below N, however many bits it has
+    ([], [], [("key", (option, False), (7, 0)) for option in (3, 65_536, 2 ** 32, 2 ** 63, MOST)],
+     [], [0, 0, 0]),
+    # "Refusal 8 applies if book weight plus twice the remaining lines is over 4,096": what was
+    # keyed into room that steps had made cannot always be taken back
+    (FULL, [], [("key", (0, False), (8, 0)), ("run", (MOST,), (0, 9)),
+                ("key", (0, False), ACCEPTED), ("key", (1, True), ACCEPTED),
+                ("withdraw", (0,), (8, 0)), ("withdraw", (1,), (8, 0)),
+                ("withdraw", (2,), (13, 0)), ("withdraw", (1, []), ACCEPTED)],
+     [(0, False)], [1, 0, 0]),
+    (FULL, [], [("run", (MOST,), (0, 9)), ("key", (1, True), ACCEPTED),
+                ("withdraw", (0,), ACCEPTED), ("run", (MOST,), (0, 9))], [], [0, 0, 0]),
 ]

@@ -1,42 +1,27 @@
-"""The checker against document 01: its books to try, its refusals, and demands 2 and 3 on small
-random books. From the folder above: python3 -m checker.selftest"""
+"""The checker against documents 01 and 02: their books and orders to try, their refusals, and
+demands 2 and 3 on small random books. From the folder above: python3 -m checker.selftest"""
 import random
 import sys
 import time
+from collections import Counter
 from pathlib import Path
 
 if not __package__:
     sys.path.insert(0, str(Path(__file__).resolve().parent.parent))
-from checker import calls, desk, meaning, rules, sheets
+from checker import calls, desk, keying, meaning, rules, selftest_keying, selftest_lists, sheets
 from checker.books import build
-from checker.cases import BAD, CASES, CODES, P, Q, STEPS
-from checker.demands import cube, is_settled
-from checker.trees import (CONJUNCTION, DISJUNCTION, NEGATIVE, POSITIVE, ROOT, TRUE, Tree,
-                           conjunction as all_of, disjunction as any_of, negative, positive, weight)
+from checker.cases import BAD, CASES, CODES, ORDERS, P, Q, STEPS
+from checker.expecting import BLANK, MOST, done, expect, loaded
+from checker.trees import (ROOT, TRUE, Tree, conjunction as all_of, disjunction as any_of, negative,
+                           positive, weight)
 
-BLANK = [7] * sheets.LENGTH  # a target: no sheet, and "wholly filled"
-MOST = 2 ** 64 - 1  # "a 64-bit budget"
-
-
-class Wrong(Exception):
-    """Something that document 01 says does not hold of the checker."""
+NO_LINES = [(0, False)] * keying.SLOTS
 
 
-def expect(holds, what):
-    """No `assert`: python3 -O would leave that out."""
-    if not holds:
-        raise Wrong(what)
-
-
-def done(answer):
-    """(value, buffer) of an answer that must not be a refusal."""
-    refusal, value, after = answer
-    expect(refusal == 0, "refused %d" % refusal)
-    return (value, *after)
-
-
-def loaded(options, trees):
-    return done(calls.load(BLANK, build(CODES[:options], trees)))[1]
+def keyed(sheet, option, barred):
+    """A choice on an order that has no lines yet: (refusal, the sheet after)."""
+    refusal, _, (sheet, _, _) = calls.key(sheet, NO_LINES, [0], option, barred)
+    return refusal, sheet
 
 
 def books_to_try():
@@ -44,7 +29,9 @@ def books_to_try():
         options = len(Tree(ROOT, trees).options)
         sheet = last = loaded(options, trees)
         if choice:
-            sheet = last = done(calls.choose(sheet, *choice))[1]
+            refusal, sheet = keyed(sheet, *choice)
+            expect(refusal == 0, "a book to try: its choice")
+            last = sheet
         taken = []
         while rules.applicable(last):
             taken.append(min(rules.applicable(last)))
@@ -64,13 +51,13 @@ def books_to_try():
     codes = [b"C%d" % number for number in range(512)]
     marks = [positive(at % 512) for at in range(2048)]
     full = done(calls.load(BLANK, build(codes, [any_of(*marks[1:])])))[1]
-    expect(calls.choose(full, 511, False) == (8, 0, (full,)), "2,047 marks: a choice")
-    expect(calls.choose(full, 512, False) == (7, 0, (full,)), "2,047 marks: no such option")
+    expect(keyed(full, 511, False) == (8, full), "2,047 marks: a choice")
+    expect(keyed(full, 512, False) == (7, full), "2,047 marks: no such option")
     expect(calls.check(build(codes, [any_of(*marks)])) == (6, 0, ()), "2,048 marks")
     expect(calls.check(build([], [all_of(*[TRUE] * 4094)])) == (0, 0, ()), "4,094 trues")
-    expect(calls.choose(loaded(1, [TRUE] * 4094), 0, True)[0] == 8, "a choice at weight 4,095")
-    chosen = done(calls.choose(loaded(1, [TRUE] * 4093), 0, True))[1]
-    expect(weight(sheets.root_of(chosen)) == 4096, "a choice at weight 4,094")
+    expect(keyed(loaded(1, [TRUE] * 4094), 0, True)[0] == 8, "a choice at weight 4,095")
+    refusal, chosen = keyed(loaded(1, [TRUE] * 4093), 0, True)
+    expect(refusal == 0 and weight(sheets.root_of(chosen)) == 4096, "a choice at weight 4,094")
     expect(calls.check(build(codes, [positive(512)])) == (5, 0, ()), "option 512")
     # "Two codes that differ in character 13 are two options."
     near = build([b"ABCDEFGHIJKLM", b"ABCDEFGHIJKLN"], [])
@@ -117,7 +104,15 @@ def desk_program():
             (book, b"-P\n-Q\n", b"contradiction 7\n"), (book, b"+P\r\n", b"refused 7\n"),
             (book, b"+Q\n\n", b"refused 7\n"), (book, b"Q\n", b"refused 7\n"),
             (hyphen, b"--\n", b"settled 3\nP in\n- out\n"), (book, b"+", b"refused 7\n"),
-            (bytes(8), b"", b"settled 0\n"), (bytes(7), b"+", b"refused 1\n")]:
+            (bytes(8), b"", b"settled 0\n"), (bytes(7), b"+", b"refused 1\n"),
+            # document 02: "its 65th line is 14 whatever it holds" (64 lines: the 5 steps, one by
+            # which 63 of them become true, and 63 by which these go)
+            (book, b"+Q\n" * 64, b"settled 69\nP in\nQ in\n"),
+            (book, b"+Q\n" * 65, b"refused 14\n"), (book, b"+Q\n" * 64 + b"\n", b"refused 14\n"),
+            (book, b"+Q\n" * 64 + b"*", b"refused 14\n"),
+            (book, b"+Q\n" * 64 + b"+Z\n", b"refused 14\n"),
+            (book, b"+Q\n" * 63 + b"\n+Q\n", b"refused 7\n"),
+            (book, b"+Q\n+Q\n+Z\n" + b"+Q\n" * 80, b"refused 7\n")]:
         expect(desk.output(case, stdin) == printed, (stdin, desk.output(case, stdin)))
 
 
@@ -151,11 +146,13 @@ def refusals():
     for bad in [[], sheet[:-1], sheet + [0]] + [
             sheet[:at] + [value] + sheet[at + 1:] for at, value in changes]:
         for given, left in (
-                (calls.step(bad, 0, 0, 0, 0), (bad,)), (calls.choose(bad, 99, True), (bad,)),
+                (calls.step(bad, 0, 0, 0, 0), (bad,)),
+                (calls.key(bad, NO_LINES, [64], 99, True), (bad, NO_LINES, [64])),
+                (calls.withdraw(bad, b"", NO_LINES, [0], 99), (bad, NO_LINES, [0])),
                 (calls.run(bad, 0), (bad,)), (calls.report(bad, []), ([],)),
                 (calls.complete(bad), ()), (calls.write(bad, b"", []), ([],))):
             expect(given == (11, 0, left), bad[:9])
-    expect(calls.choose(sheet, 2, True) == (7, 0, (sheet,)), "no such option")
+    expect(keyed(sheet, 2, True) == (7, sheet), "no such option")
     expect(calls.report(sheet, [0]) == (12, 0, ([0],)), "a report a byte short")
     for spare in ([], [8], [8] * 598):
         expect(done(calls.report(sheet, [9, 9] + spare)) == (0, [1, 0] + spare),
@@ -168,99 +165,23 @@ def refusals():
            "an output with room to spare")
 
 
-def random_tree(rng, options, depth):
-    if depth == 0 or rng.random() < 0.4:
-        return Tree(rng.choice((POSITIVE, NEGATIVE)), option=rng.randrange(options))
-    children = rng.choice((0, 1, 1, 2, 2, 2, 2, 3, 3))
-    return Tree(rng.choice((CONJUNCTION, DISJUNCTION)),
-                [random_tree(rng, options, depth - 1) for _ in range(children)])
-
-
-def check_step(sheet, step, due):
-    """A step keeps the meaning and "every node before the place"; "No step raises the weight." """
-    after = done(calls.step(sheet, *step))[1]
-    root = sheets.root_of(after)
-    expect(meaning.meaning(root) == due, "a step changed the meaning")
-    expect(weight(root) <= weight(sheets.root_of(sheet)), "a step raised the weight")
-    expect(after[2:2 + step[1]] == sheet[2:2 + step[1]], "a step changed nodes before its place")
-    return after
-
-
-def check_list(rng, sheet, trees, met):
-    """Demand 3: a random list of choices, single steps and runs. `room` is the least, over all
-    stretches that end here, of the steps that each may still do."""
-    room, due = cube(sheet), meaning.meaning(Tree(ROOT, trees))
-    for _ in range(rng.randint(1, 12)):
-        call, settled = rng.choice(("choose", "step", "step", "step", "step", "run")), False
-        listed = rules.applicable(sheet)
-        if call == "choose":
-            option, barred = rng.randrange(sheet[0]), rng.random() < 0.5
-            sheet = done(calls.choose(sheet, option, barred))[1]
-            trees = trees + [negative(option) if barred else positive(option)]
-            room, due = cube(sheet), meaning.meaning(Tree(ROOT, trees))
-        elif call == "run":
-            budget = rng.choice((0, 1, 2, 5, MOST))
-            value, sheet = done(calls.run(sheet, budget))
-            count, settled = divmod(value, 2)
-            expect(count == budget or settled and count < budget, "stopped with budget left")
-            expect(meaning.meaning(sheets.root_of(sheet)) == due, "a run changed the meaning")
-            room -= count
-        elif listed:
-            step = rng.choice(listed)
-            sheet = check_step(sheet, step, due)
-            met[step[0]] += 1
-            room -= 1
-        expect(room >= 0, "more steps than the cube")
-        room = min(room, cube(sheet))
-        expect(not settled or is_settled(sheet, due), "settled, but not as demand 3 says")
-    expect(meaning.meaning(sheets.root_of(sheet)) == due, "a list changed the meaning")
-    return sheet
-
-
-def check_book(rng, met):
-    options = rng.randint(1, 4)
-    trees = [random_tree(rng, options, rng.randint(1, 4)) for _ in range(rng.randint(0, 4))]
-    data, sheet = build(CODES[:options], trees), loaded(options, trees)
-    due = meaning.meaning(Tree(ROOT, trees))
-    value, last = done(calls.run(sheet, MOST))
-    expect(value % 2 == 1 and value // 2 <= cube(sheet), "a run to the end: its count")
-    expect(is_settled(last, due), "a run to the end: not settled as demand 3 says")
-    listed = rules.applicable(sheet)
-    for step in rng.sample(listed, min(5, len(listed))):
-        check_step(sheet, step, due)
-    # "A book loaded and written is the same bytes; a sheet written and loaded is the same sheet."
-    expect(done(calls.write(sheet, data, [9] * len(data))) == (len(data), list(data)),
-           "loaded and written: other bytes")
-    last = check_list(rng, sheet, trees, met)
-    length, written = done(calls.write(last, data, [9] * 9999))
-    expect(done(calls.load(BLANK, written[:length]))[1] == last,
-           "written and loaded: another sheet")
-    return sheet
-
-
-def check_listing(sheet):
-    """The steps listed as applicable are those that are accepted, of all tried."""
-    tried = [(rule, place, i, j) for rule in range(16) for place in range(sheet[1] + 1)
-             for i in range(5) for j in range(5)]
-    expect([step for step in tried if calls.step(sheet, *step)[0] == 0] == rules.applicable(sheet),
-           "other steps are accepted than are listed")
-
-
 def main(books=3000, seed=1):
-    start, rng, met = time.time(), random.Random(seed), dict.fromkeys(rules.TABLE, 0)
+    start, rng, met = time.time(), random.Random(seed), Counter()
     books_to_try()
     single_steps()
     desk_program()
     refusals()
+    selftest_keying.all_of_them()
     for number in range(books):
-        sheet = check_book(rng, met)
+        sheet = selftest_lists.check_book(rng, met)
         if number % 100 == 0 and sheet[1] < 12:
-            check_listing(sheet)
-    expect(all(met.values()), met)
-    print("selftest: %d books to try, %d steps, the refusals, and %d random books with %d steps "
-          "(each rule %d times or more) all held, %.0f s" % (
-              len(CASES) + 5, len(STEPS), books, sum(met.values()), min(met.values()),
-              time.time() - start))
+            selftest_lists.check_listing(sheet)
+    expect(all(met[what] for what in selftest_lists.TO_MEET), met)
+    steps = [met[rule] for rule in rules.TABLE]
+    print("selftest: %d books and %d orders to try, %d steps, the refusals, and %d random books "
+          "with %d steps (each rule %d times or more), %d keyings and %d withdrawals all held, "
+          "%.0f s" % (len(CASES) + 5, len(ORDERS), len(STEPS), books, sum(steps), min(steps),
+                      met["key", 0], met["withdraw", 0], time.time() - start))
 
 
 if __name__ == "__main__":

@@ -1,6 +1,6 @@
-"""The order sheet: what is one, and loading, writing and choosing."""
+"""The order sheet: what is one, loading and writing. (Keying stands in keying.)"""
 from . import Refused, books
-from .trees import ROOT, Tree, forest, negative, numbers, positive, weight
+from .trees import ROOT, Tree, forest, numbers, weight
 
 LENGTH = 4098
 
@@ -63,15 +63,3 @@ def write(sheet, data, output):
     if len(output) < len(written):  # "12 output shorter than needed"
         raise Refused(12)
     return len(written), written + list(output[len(written):])
-
-
-def choose(sheet, option, barred):
-    """The sheet after. "A choice appends one mark, plain or barred, as the root's last child."
-    "7 no such option number", "8 sheet full: weight + 2 is over 4,096." """
-    options, root = read(sheet)
-    if not 0 <= option < options:
-        raise Refused(7)
-    if weight(root) + 2 > 4096:
-        raise Refused(8)
-    literal = negative(option) if barred else positive(option)
-    return fill(options, numbers(Tree(ROOT, root.children + (literal,))))

@@ -1,5 +1,5 @@
-"""Named cases for the desk program: the sample book, odd lines, books that cannot be read, input past its buffers. What is due
-comes from the checker alone."""
+"""Named cases for the desk program: the sample book, odd lines, as many lines as an order holds, books that cannot be read, input past
+its buffers. What is due comes from the checker alone."""
 import subprocess
 import sys
 import tempfile
@@ -19,6 +19,7 @@ LONG_CODE = b"ABCDEFGHIJKLM"
 SMALL = build([b"P", b"Q", b"-"], [disjunction(positive(0), conjunction(positive(0), positive(1)))])
 WIDE = build([LONG_CODE, b"P"], [])
 FULL = build([b"P"], [disjunction(conjunction(), *[positive(0)] * 2045)])  # weight 4,093: one choice fits, not two
+HEAVY, LESS_HEAVY = (build([b"P"], [disjunction(conjunction(), *[positive(0)] * marks)]) for marks in (1983, 1982))  # 63 and 64 choices fit
 CLASH = build([b"P"], [positive(0), negative(0)])
 
 
@@ -68,13 +69,27 @@ def book_cases():
         yield "book: %s, with a choice" % name, book, b"+P\n"
 
 
+def list_cases():
+    """An order has 64 lines: the 65th is refused 14 whatever it holds, and a line refused before it comes first."""
+    lines = b"+Q\n-P\n" * 32
+    for name, text in [
+            ("63", lines[3:]), ("64", lines), ("64, no last line end", lines[:-1]), ("65", lines + b"+P\n"),
+            ("65, no last line end", lines + b"+P"), ("an empty 65th", lines + b"\n"), ("a 65th without a sign", lines + b"P\n"),
+            ("a 65th that is no code", lines + b"+X"), ("a 65th that is one byte", lines + b"\0"), ("200", lines * 3 + b"+P\n" * 8),
+            ("a bad third of 80", b"+Q\n-P\n+X\n" + lines + lines[:48]), ("a bad 64th of 80", lines[3:] + b"*P\n" + lines[:48])]:
+        yield "lines: " + name, SMALL, text
+    yield "lines: a 64th that finds the sheet full", HEAVY, b"+P\n" * 66
+    yield "lines: 64 that fill the sheet, and a 65th", LESS_HEAVY, b"+P\n" * 65
+
+
 def long_cases():
-    """The longest lists that can be accepted, and input that goes on past the buffer."""
+    """A sheet that gets full, and input that goes on past the buffer."""
     choice = b"+" + LONG_CODE + b"\n"
     for count in (1, 2, 3):
         yield "full sheet: %d choices" % count, FULL, b"+P\n" * count
     yield "full sheet: an unknown code before fullness", FULL, b"+P\n+X\n"
-    yield "2,047 long choices, then a line past the buffer", WIDE, choice * 2047 + b"+" + b"P" * BUFFER
+    yield "64 long choices, then a line past the buffer", WIDE, choice * 64 + b"+" + b"P" * BUFFER
+    yield "63 long choices, then a line past the buffer", WIDE, choice * 63 + b"+" + b"P" * BUFFER
     yield "choices past the buffer", WIDE, choice * 5000
     yield "a line that fills the buffer", WIDE, b"+" + b"P" * (BUFFER - 1) + b"\n"
     yield "a line that ends just past the buffer", WIDE, b"+P" + b" " * (BUFFER - 2) + b"\n+P\n"
@@ -83,7 +98,7 @@ def long_cases():
 
 def main():
     count = 0
-    for cases in (crate_cases(), sample_cases(), line_cases(), book_cases(), long_cases()):
+    for cases in (crate_cases(), sample_cases(), line_cases(), list_cases(), book_cases(), long_cases()):
         for name, book, stdin in cases:
             due, given = desk.output(None if book is FOLDER else book, stdin), printed(DESK, book, stdin)
             if given != due:

@@ -9,7 +9,7 @@ import time
 from collections import Counter
 from pathlib import Path
 
-from . import Difference, cases, desks, lists, orders, refusals, theories
+from . import Difference, cases, desks, lists, orders, refusals, refused_orders, theories
 from .comparing import CAN_REFUSE, SAYS, Comparing
 from .library import Library
 
@@ -29,13 +29,22 @@ def numbered(seed, what, count, work, share=(0, 1)):
             raise Difference("seed %s, %s %d: %s" % (seed, what, number, difference))
 
 
+def once(comparing, desk):
+    """What is compared once, each part as a function of nothing."""
+    for part in (*cases.ALL, *refusals.ALL, *refused_orders.ALL):
+        yield lambda part=part: part(comparing)
+    for part in (*refusals.RANDOM, *refused_orders.RANDOM):
+        yield lambda part=part: part(comparing, random.Random(1))
+    if desk:
+        yield lambda: desks.long_orders(comparing, desk)
+        yield lambda: desks.known_cases(comparing, desk)
+
+
 def fixed(comparing, desk, share):
     """A share of what .ci/run compares."""
-    if share[0] == 0:
-        cases.all_of_them(comparing)
-        refusals.all_of_them(comparing, random.Random(1))
-        if desk:
-            desks.known_cases(comparing, desk)
+    remainder, shares = share
+    for part in list(once(comparing, desk))[remainder::shares]:
+        part()
     numbered(1, "list", LISTS, lambda rng: lists.one_list(comparing, rng), share)
     numbered(1, "order", ORDERS, lambda rng: orders.one_order(comparing, rng), share)
     numbered(1, "theory", THEORIES, lambda rng: theories.one_theory(comparing, rng), share)
@@ -79,8 +88,8 @@ def soak(comparing, desk, seconds):
     print("soak: seed %d" % seed, flush=True)
     while time.time() < end:
         part = "%d.%d" % (seed, rounds)
-        refusals.damaged_books(comparing, random.Random(part))
-        refusals.damaged_sheets(comparing, random.Random(part))
+        for work in (*refusals.RANDOM, *refused_orders.RANDOM):
+            work(comparing, random.Random(part))
         numbered(part, "list", 2000, lambda rng: lists.one_list(comparing, rng))
         numbered(part, "order", 50, lambda rng: orders.one_order(comparing, rng))
         numbered(part, "theory", 50, lambda rng: theories.one_theory(comparing, rng))
@@ -96,13 +105,14 @@ def due_counts(desk):
              "theories whose clauses fit": THEORIES // 2, "complete sheets with options": 1}
     least.update({"roomier reports, " + said: LISTS // 10 for said in SAYS["report"]})
     least.update({"rule %d" % rule: 1 for rule in range(1, 15)})
+    least.update({kind: LISTS // 1000 for kind in lists.WITHDRAWALS})
     # Every answer of every call. (A code that is found is a lookup accepted, one that is not is 7.)
     least.update({(call, number): 1 for call in CAN_REFUSE for number in [0] + CAN_REFUSE[call]})
     least.update({(call, said): 1 for call in SAYS for said in SAYS[call]})
     if desk:
         least["desk runs"] = DESKS
         least.update({"desk " + word: 1 for word in ("settled", "stopped", "contradiction")})
-        least.update({"desk refused %d" % number: 1 for number in range(1, 9)})
+        least.update({"desk refused %d" % number: 1 for number in (*range(1, 9), 14)})
     return least
 
 

@@ -1,16 +1,17 @@
 """Document 01's own cases: the steps written beside them done one by one, then by runs with budgets
 0, 1, 2, ...; single steps of every rule; the cases that are executed only; faults side by side on
-inputs of the largest size, each with the number that document 01 gives it; and reports into outputs
-about N bytes long, each with what document 02 gives it."""
+inputs of the largest size, each with the number that document 01 gives it; and what document 02
+gives: orders whose lines are keyed and taken back, and reports into outputs about N bytes long."""
 from checker import rules
 from checker.books import build
-from checker.cases import BAD, CASES, CODES, STEPS
+from checker.cases import BAD, CASES, CODES, ORDERS, STEPS
 from checker.sheets import LENGTH
 from checker.trees import (FALSE, ROOT, TRUE, Tree, conjunction as all_of, disjunction as any_of,
                            negative, positive)
 
 from . import expect
 from .library import Lent, sheet as lent_sheet
+from .lines import lent_lines
 
 MOST = 2 ** 64 - 1
 
@@ -32,7 +33,7 @@ def books_to_try(comparing):
         options = len(Tree(ROOT, trees).options)
         sheet = loaded(comparing, options, trees)
         if choice:
-            comparing.done("choose", sheet, *choice)
+            comparing.done("key", sheet, *lent_lines(), *choice)
         start, taken, after = list(sheet.values), [], [list(sheet.values)]
         due = (1, [3] * options) if expected is BAD else (0, expected)
         expect(report(comparing, sheet) == due, "a book to try: its report")
@@ -71,7 +72,7 @@ def executed_only(comparing):
     codes = [b"C%d" % number for number in range(512)]
     marks = [positive(at % 512) for at in range(2048)]
     full = loaded(comparing, 512, [any_of(*marks[1:])], codes)
-    expect(comparing.call("choose", full, 511, False) == (8, 0), "2,047 marks: a choice")
+    expect(keyed(comparing, full, 511, False) == (8, 0), "2,047 marks: a choice")
     for trees, refusal in (([any_of(*marks)], 6), ([positive(512)], 5)):
         book = Lent(build(codes, trees))
         expect(comparing.call("check", book) == (refusal, 0), "refused %d" % refusal)
@@ -93,25 +94,89 @@ def of_weight(weight, options=2, wrong=None):
     return build(CODES[:options], [any_of(*marks, *[TRUE] * (weight % 2))])
 
 
-def faults_of_choices(comparing):
+def keyed(comparing, sheet, option, barred, lines=()):
+    """(refusal, value) of a keying on an order with these lines."""
+    return comparing.call("key", sheet, *lent_lines(lines), option, barred)
+
+
+def orders_to_try(comparing):
+    """Document 02's orders: each answer as written beside it, then the lines and the report."""
+    for trees, first, made, left, report_due in ORDERS:
+        book, sheet = Lent(build(CODES[:3], trees)), loaded(comparing, 3, trees)
+        lines, count = lent_lines(first)
+        for name, arguments, due in made:
+            if name == "run":
+                given = comparing.call("run", sheet, *arguments)
+            elif name == "key":
+                given = comparing.call("key", sheet, lines, count, *arguments)
+            else:
+                k, *other = arguments
+                lent = Lent(build(CODES[:3], *other)) if other else book
+                given = comparing.call("withdraw", sheet, lent, lines, count, k)
+            expect(given == due, "an order to try: %s %s gives %s" % (name, arguments, given))
+        expect((lines.held()[:len(left)], count.held()) == (left, [len(left)]),
+               "an order to try: its lines")
+        expect(report(comparing, sheet)[1] == report_due, "an order to try: its report")
+
+
+def freed_slots(comparing):
+    """ "The list is lent as 64 slots and a count; a slot past the count is never read, and one
+    freed by a withdrawal keeps what it held": every slot, written out, after each of 64 of them."""
+    lines, count = lent_lines((at, at % 3 == 0) for at in range(64))  # no two alike
+    codes = [b"C%d" % number for number in range(64)]
+    book, sheet = Lent(build(codes, [])), loaded(comparing, 64, [], codes)
+    due = lines.held()
+    for number in range(64):
+        k, standing = (0, 31, 63)[number % 3] % (64 - number), 64 - number
+        due[k:standing - 1] = due[k + 1:standing]  # and due[standing - 1] stays
+        comparing.done("withdraw", sheet, book, lines, count, k)
+        expect((lines.held(), count.held()) == (due, [standing - 1]), "a slot after a withdrawal")
+    for number in range(64):
+        comparing.done("key", sheet, lines, count, 1, True)
+        due[number] = (1, True)
+        expect((lines.held(), count.held()) == (due, [number + 1]), "a slot after a keying")
+
+
+def weights_of_withdrawals(comparing):
+    """ "Refusal 8 applies if book weight plus twice the remaining lines is over 4,096", whatever
+    the weight of the sheet; after 13."""
+    light = loaded(comparing, 2, []).values
+    for weight, most in ((4093, 2), (4094, 2), (4095, 1), (4096, 1), (3970, 64), (3971, 63)):
+        book = Lent(of_weight(weight))
+        for count in {1, 2, 3, 62, 63, 64}:  # at most `most` lines stand before it
+            lines = [(at % 2, at % 2 == 1) for at in range(count)]
+            due = 0 if count <= most else 8
+            for k, number in ((0, due), (count - 1, due), (count, 13)):
+                sheet, (slots, standing) = lent_sheet(light), lent_lines(lines)
+                given = comparing.call("withdraw", sheet, book, slots, standing, k)
+                expect(given == (number, 0), "book weight %d, %d lines: taking back %d" % (
+                    weight, count, k))
+
+
+def faults_of_keyings(comparing):
     """ "8 sheet full: weight + 2 is over 4,096", alone, after 7, and after 11."""
     for weight, refusal in ((4093, 0), (4094, 0), (4095, 8), (4096, 8)):
         for option, barred, due in ((0, False, refusal), (1, True, refusal), (2, False, 7),
                                     (65535, True, 7)):
             sheet = lent_sheet([7] * LENGTH)
             comparing.done("load", Lent(of_weight(weight)), sheet)
-            expect(comparing.call("choose", sheet, option, barred) == (due, 0),
+            expect(keyed(comparing, sheet, option, barred) == (due, 0),
                    "weight %d: the choice of option %d" % (weight, option))
             if due == 0:  # now it is full
                 for again, full in ((option, 8), (2, 7)):
-                    expect(comparing.call("choose", sheet, again, barred) == (full, 0),
+                    expect(keyed(comparing, sheet, again, barred) == (full, 0),
                            "weight %d: a second choice" % weight)
+            if due == 8:  # "14 list full ... before 7", and so before 8
+                for again in (option, 2):
+                    expect(keyed(comparing, sheet, again, barred, [(0, False)] * 64) == (14, 0),
+                           "weight %d: a choice for a full list" % weight)
     # "The weight ... is at most 4,096. Anything else is no sheet." A mark more: 11 comes before 7.
     nodes = [20481, 16384 + 2048] + [4096] * 2048
     heavy = [2, len(nodes)] + nodes + [0] * (LENGTH - 2 - len(nodes))
     for option in (0, 2):
-        expect(comparing.call("choose", lent_sheet(heavy), option, False) == (11, 0),
-               "weight 4,098: a choice")
+        for lines in ([], [(0, False)] * 64):
+            expect(keyed(comparing, lent_sheet(heavy), option, False, lines) == (11, 0),
+                   "weight 4,098: a choice")
 
 
 def faults_of_books(comparing):
@@ -151,10 +216,5 @@ def outputs_of_reports(comparing):
                        "a report's bytes, or those past N")
 
 
-def all_of_them(comparing):
-    outputs_of_reports(comparing)
-    books_to_try(comparing)
-    single_steps(comparing)
-    executed_only(comparing)
-    faults_of_choices(comparing)
-    faults_of_books(comparing)
+ALL = (outputs_of_reports, books_to_try, single_steps, executed_only, orders_to_try, freed_slots,
+       weights_of_withdrawals, faults_of_keyings, faults_of_books)

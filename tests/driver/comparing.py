@@ -6,11 +6,12 @@ from checker import calls
 from . import Difference, expect
 from .library import CALLS, Lent
 
-# Document 01, "who can cause which refusal" and their order, for each call.
+# Documents 01 and 02, who can cause which refusal and their order, for each call.
 CAN_REFUSE = {
     "check": [1, 2, 3, 4, 5, 6], "lookup": [1, 2, 3, 4, 5, 6, 7], "load": [11, 1, 2, 3, 4, 5, 6],
     "write": [11, 1, 2, 3, 4, 5, 6, 12], "report": [11, 12], "complete": [11],
-    "choose": [11, 7, 8], "step": [11, 9, 10], "run": [11]}
+    "key": [11, 14, 7, 8], "withdraw": [11, 1, 2, 3, 4, 5, 6, 13, 8], "step": [11, 9, 10],
+    "run": [11]}
 
 # What the value of an accepted call says, where it says one of two things: by its lowest bit.
 SAYS = {"run": ("stopped", "settled"), "report": ("consistent", "contradictory"),
@@ -26,7 +27,6 @@ class Comparing:
 
     def call(self, name, *arguments):
         """(refusal, value), the same of both."""
-        letters = CALLS[name][1]
         values = [argument.values if isinstance(argument, Lent) else argument
                   for argument in arguments]
         if name == "load":  # the checker takes the target first
@@ -35,21 +35,30 @@ class Comparing:
         given = self.library.call(name, arguments)
         if given != (refusal, value):
             raise Difference("%s: (refusal, value) is %s, due %s" % (name, given, (refusal, value)))
-        for letter, argument in zip(letters, arguments):
-            if isinstance(argument, Lent):
-                try:
-                    argument.must_hold(after[0] if letter.isupper() else argument.values)
-                except Difference as difference:
-                    raise Difference("%s, refusal %d: %s" % (name, refusal, difference))
+        self.compare_memory(name, refusal, arguments, after)
         self.seen[name, refusal] += 1
         if refusal == 0 and name in SAYS:
-            said = SAYS[name][value % 2]
-            self.seen[name, said] += 1
-            if said == "complete" and arguments[0].values[0] > 0:  # not for want of options
-                self.seen["complete sheets with options"] += 1
-            if name == "report" and len(arguments[1].values) > arguments[0].values[0]:
-                self.seen["roomier reports, " + said] += 1
+            self.tally(name, SAYS[name][value % 2], arguments)
         return refusal, value
+
+    @staticmethod
+    def compare_memory(name, refusal, arguments, after):
+        """What the call may write holds what the checker leaves; all else what it held."""
+        written = iter(after)
+        for letter, argument in zip(CALLS[name][1], arguments):
+            if isinstance(argument, Lent):
+                try:
+                    argument.must_hold(next(written) if letter.isupper() else argument.values)
+                except Difference as difference:
+                    raise Difference("%s, refusal %d, argument %s: %s" % (
+                        name, refusal, letter, difference))
+
+    def tally(self, name, said, arguments):
+        self.seen[name, said] += 1
+        if said == "complete" and arguments[0].values[0] > 0:  # not for want of options
+            self.seen["complete sheets with options"] += 1
+        if name == "report" and len(arguments[1].values) > arguments[0].values[0]:
+            self.seen["roomier reports, " + said] += 1
 
     def done(self, name, *arguments):
         """The value of a call that must not be refused."""

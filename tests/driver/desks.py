@@ -1,4 +1,5 @@
-"""The desk program beside the checker's: random books and choices, odd lines, missing books."""
+"""The desk program beside the checker's: random books and choices, odd lines, as many lines as an
+order holds and more, missing books."""
 import shutil
 import subprocess
 import tempfile
@@ -53,8 +54,8 @@ def random_desk_book(rng, options):
 def random_input(rng, options):
     """Choices, an odd line among them now and then; the last may lack its line end."""
     codes = CODES[:options] if options and rng.random() < 0.9 else CODES
-    lines = [rng.choice((b"+", b"-")) + rng.choice(codes)
-             for _ in range(rng.choice((0, 0, 0, 1, 1, 2, 4)))]
+    lines = [rng.choice((b"+", b"-")) + rng.choice(codes) for _ in range(
+        rng.randint(62, 67) if rng.random() < 0.02 else rng.choice((0, 0, 0, 1, 1, 2, 4)))]
     if rng.random() < 0.12:
         lines.insert(rng.randint(0, len(lines)), rng.choice(ODD_LINES))
     text = b"".join(line + b"\n" for line in lines)
@@ -83,6 +84,30 @@ def comb(weight):
     for _ in range(depth):
         tree = conjunction(tree, disjunction(positive(1), positive(3)))
     return build([b"P", b"Q", b"Z", b"R"], [disjunction(positive(2), tree)])
+
+
+def in_turn(count):
+    """So many choices that are accepted, a line end after each."""
+    choices = b"+P\n", b"--\n", b"+A7-z\n", b"-ABCDEFGHIJKLM\n"
+    return b"".join(choices[at % 4] for at in range(count))
+
+
+def long_orders(comparing, program):
+    """Document 02: "The desk program begins with an empty list; its 65th line is 14 whatever it
+    holds". A line that is refused before that ends the program first."""
+    book = build(CODES, [])
+    for count in (63, 64, 65, 66, 300, 6000):
+        for stdin in (in_turn(count), in_turn(count)[:-1], in_turn(count) + b"\n"):
+            compare(comparing, program, book, stdin)
+    for line in ODD_LINES:
+        for stdin in (in_turn(64) + line, in_turn(64) + line + b"\n", in_turn(63) + line + b"\n+P",
+                      in_turn(2) + line + b"\n" + in_turn(80)):
+            compare(comparing, program, book, stdin)
+    # 8 at the last line that the list holds, and 14 where 8 would be due too
+    for marks in (1982, 1983):  # weight 3,967 and 3,969
+        heavy = build(CODES, [disjunction(conjunction(), *[positive(0)] * marks)])
+        for count in (63, 64, 65):
+            compare(comparing, program, heavy, b"+-\n" * count)
 
 
 def known_cases(comparing, program):

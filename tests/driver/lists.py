@@ -1,17 +1,27 @@
-"""Random lists of choices, single steps and runs from a loaded sheet, a report after each call, and
-the three parts of demand 3 on each list."""
-from checker import meaning, rules
-from checker.demands import cube, is_settled
+"""Random lists of keyings, withdrawals, single steps and runs, from a loaded sheet and any lent
+lines, a report after each call, and the three parts of demand 3 on each list."""
+from checker import books, rules
+from checker.books import build
+from checker.demands import Account, cube, is_settled
 from checker.sheets import LENGTH
-from checker.trees import ROOT, Literal, Tree, negative, positive
+from checker.trees import Literal
 
 from . import Difference, expect
 from .library import Lent, sheet as lent_sheet
-from .making import random_book
+from .lines import random_line, random_lines
+from .making import CODES, random_book, random_rules
 
 WIDE = (65536, 2 ** 32, 2 ** 63)  # what a call that narrowed its arguments would not see
-BUDGETS = (0, 0, 1, 1, 2, 3, 4, 6, 9, 1000, 2 ** 32, 2 ** 64 - 1)
+MOST = 2 ** 64 - 1
+BUDGETS = (0, 0, 1, 1, 2, 3, 4, 6, 9, 1000, 2 ** 32, MOST)
 ROOMS = (0, 0, 1, 512, 600)  # outputs of a report: N bytes, or so many if they are more
+
+# Withdrawals that must have been seen.
+FROM_STOPPED = "withdrawals from a stopped run"
+OTHER_RULES = "withdrawals with other rules"
+NONE_LEFT = "withdrawals that leave no line"
+NOW_CHOICES = "withdrawals by which first lines become choices"
+WITHDRAWALS = (FROM_STOPPED, OTHER_RULES, NONE_LEFT, NOW_CHOICES)
 
 
 def random_step(rng, sheet):
@@ -30,19 +40,20 @@ def random_step(rng, sheet):
 
 
 class Order:
-    """A sheet from loading on, with what the loaded rules and the accepted choices mean."""
+    """A sheet from loading on and its lines, with the account of what they are due to mean."""
 
-    def __init__(self, comparing, data, options, trees):
-        self.comparing, self.trees, self.made = comparing, list(trees), []
+    def __init__(self, comparing, data, options, trees, lines, count):
+        self.comparing, self.made, self.stopped = comparing, [], False
         self.book, self.sheet = Lent(data), lent_sheet([7] * LENGTH)
-        self.options = options
+        self.options, self.lines, self.count = options, lines, count
+        self.account = Account(trees, lines.values[:count.values[0]])
         comparing.done("load", self.book, self.sheet)
         self.begin_stretch()
 
     def begin_stretch(self):
-        """After loading and each accepted choice. `room` is the least, over all stretches that end
-        here, of the steps that each may still do."""
-        self.due = meaning.meaning(Tree(ROOT, self.trees))
+        """After loading and each accepted keying and withdrawal. `room` is the least, over all
+        stretches that end here, of the steps that each may still do."""
+        self.due, self.stopped = self.account.meaning(), False
         self.room = cube(self.sheet.values)
 
     def count_steps(self, count):
@@ -51,11 +62,38 @@ class Order:
         expect(self.room >= 0, "more steps than the cube")
         self.room = min(self.room, cube(self.sheet.values))
 
-    def choose(self, option, barred):
-        self.made.append(("choose", option, barred))
-        if self.comparing.call("choose", self.sheet, option, barred)[0] == 0:
-            self.trees.append(negative(option) if barred else positive(option))
+    def expect_lines(self):
+        """Where a keying or a withdrawal was accepted, the lines below the count are those that
+        the account reckons."""
+        count, = self.count.held()
+        expect(self.lines.held()[:count] == self.account.standing, "other lines than reckoned")
+
+    def key(self, option, barred):
+        self.made.append(("key", option, barred))
+        if self.comparing.call("key", self.sheet, self.lines, self.count, option, barred)[0] == 0:
+            self.account.key((option, barred))
+            self.expect_lines()
             self.begin_stretch()
+
+    def withdraw(self, data, k):
+        self.made.append(("withdraw", data.hex(" "), k))
+        book = Lent(data)
+        refusal, _ = self.comparing.call("withdraw", self.sheet, book, self.lines, self.count, k)
+        if refusal == 0:
+            choices = self.account.choices
+            self.account.withdraw(k, books.parse(data).rules)
+            self.tally_withdrawal(book, choices)
+            self.book = book
+            self.expect_lines()
+            self.begin_stretch()
+
+    def tally_withdrawal(self, book, choices):
+        """Which kinds of it there were; `book` is the one lent to it, `choices` those before."""
+        seen, now = self.comparing.seen, self.account.choices
+        seen[FROM_STOPPED] += self.stopped
+        seen[OTHER_RULES] += book.values != self.book.values
+        seen[NONE_LEFT] += not now
+        seen[NOW_CHOICES] += len(now) > len(choices)
 
     def step(self, *step):
         self.made.append(("step", *step))
@@ -68,6 +106,7 @@ class Order:
         count, settled = divmod(self.comparing.done("run", self.sheet, budget), 2)
         expect(count <= budget if settled else count == budget, "stopped with budget left")
         self.count_steps(count)
+        self.stopped = not settled
         if settled:
             expect(is_settled(self.sheet.values, self.due), "settled, but not as demand 3 says")
 
@@ -77,16 +116,15 @@ class Order:
         output = Lent([9] * max(room, self.options))
         contradictory = self.comparing.done("report", self.sheet, output)
         expect(contradictory == (self.due is None), "contradictory, or not, unlike the rules")
-        for option, mark in enumerate(output.values):
-            due = (9 if option >= self.options else 3 if self.due is None else
-                   1 if Literal(option, True) in self.due else
-                   2 if Literal(option, False) in self.due else 0)
-            expect(mark == due, "the report differs from what the rules mean")
+        due = [3 if self.due is None else 1 if Literal(option, True) in self.due else
+               2 if Literal(option, False) in self.due else 0 for option in range(self.options)]
+        expect(output.held() == due + [9] * (len(output.values) - self.options),
+               "the report differs from what the rules mean")
 
     def round_trip(self, data=None):
         """ "a sheet written and loaded is the same sheet"; with `data`, "A book loaded and written
         is the same bytes"."""
-        output = Lent([9] * (len(self.book.values) + 4 * (len(self.made) + 40) + 400))
+        output = Lent([9] * (len(self.book.values) + 2000))
         length = self.comparing.done("write", self.sheet, self.book, output)
         written, again = output.values[:length], lent_sheet([5] * LENGTH)
         expect(data is None or written == list(data), "written unlike the book")
@@ -94,20 +132,68 @@ class Order:
         expect(again.values == self.sheet.values, "loaded unlike the sheet")
 
 
+def random_key(rng, order):
+    """Mostly an option of the book."""
+    known = range(order.options)
+    option = rng.choice((*known, *known, *known, order.options, 65_535, *WIDE))
+    order.key(option, rng.random() < 0.5)
+
+
+def random_k(rng, order):
+    """Mostly a line that there is; else one just past the last, or one that would be a line if it
+    were narrowed."""
+    count = order.count.values[0]
+    k = rng.randrange(count) if count else 0
+    narrowed = k + rng.choice(WIDE)
+    return k if rng.random() < 0.8 else rng.choice((count, count + 1, 64, MOST, narrowed, narrowed))
+
+
+def random_withdrawal(rng, order):
+    """With the book that is loaded; with other rules for the same options; with a book that has
+    more options or fewer; or with one that is damaged."""
+    data, way, options = bytes(order.book.values), rng.random(), order.options
+    if 0.6 < way < 0.85:
+        data = build(CODES[:options], random_rules(rng, options))
+    elif 0.85 < way < 0.92:
+        other = options + 1 if options < 4 else options - 1
+        data = build(CODES[:other], random_rules(rng, other))
+    elif way > 0.92:
+        at = rng.randrange(len(data))
+        data = rng.choice((data[:at], data[:at] + bytes([rng.randrange(256)]) + data[at + 1:]))
+    order.withdraw(data, random_k(rng, order))
+
+
 def random_call(rng, order):
     way = rng.random()
-    if way < 0.2:
-        known = range(order.options)
-        order.choose(rng.choice((*known, *known, order.options, 65535)), rng.random() < 0.5)
+    if way < 0.15:
+        random_key(rng, order)
+    elif way < 0.27:
+        random_withdrawal(rng, order)
     elif way < 0.8:
         order.step(*random_step(rng, order.sheet.values))
     else:
         order.run(rng.choice(BUDGETS))
 
 
+def changed_mind(rng, order):
+    """ "those keyed after a settled run too", and a line taken back after a run, whole or stopped.
+    (With lines that are out of order both are refused.)"""
+    order.run(MOST)
+    order.key(*random_line(rng, order.options))
+    order.report(rng.choice(ROOMS))
+    order.run(rng.choice((0, 1, 2, MOST)))
+    order.report(rng.choice(ROOMS))
+    order.withdraw(bytes(order.book.values), random_k(rng, order))
+    order.report(rng.choice(ROOMS))
+    order.run(MOST)
+    order.report(rng.choice(ROOMS))
+
+
 def one_list(comparing, rng):
     data, options, trees = random_book(rng)
-    order = Order(comparing, data, options, trees)
+    lines, count = random_lines(rng, options)
+    first = lines.values[:5], len(lines.values), count.values[0]
+    order = Order(comparing, data, options, trees, lines, count)
     try:
         order.report(rng.choice(ROOMS))
         if rng.random() < 0.2:
@@ -118,12 +204,9 @@ def one_list(comparing, rng):
         if rng.random() < 0.2:
             order.round_trip()
             comparing.done("complete", order.sheet)
-        if options and rng.random() < 0.2:  # "those keyed after a settled run too"
-            order.run(2 ** 64 - 1)
-            order.choose(rng.randrange(options), rng.random() < 0.5)
-            order.report(rng.choice(ROOMS))
-            order.run(2 ** 64 - 1)
-            order.report(rng.choice(ROOMS))
+        if options and rng.random() < 0.2:
+            changed_mind(rng, order)
     except Difference as difference:
-        raise Difference("%s\n  book %s\n  calls %s" % (difference, data.hex(" "), order.made))
+        raise Difference("%s\n  book %s\n  first lines %s .., %d slots, count %d\n  calls %s" % (
+            difference, data.hex(" "), *first, order.made))
     comparing.seen["lists"] += 1

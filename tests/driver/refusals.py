@@ -1,6 +1,7 @@
 """Every refusal of every call that can give it: damaged books, damaged sheets, outputs of every
 length near the one due, and several faults at once, which must be answered in document 01's order.
-What is due is the checker's answer; that nothing lent was written is compared with every call."""
+What is due is the checker's answer; that nothing lent was written is compared with every call.
+(The lines of keyings and withdrawals: refused_orders.)"""
 from checker.books import build
 from checker.calls import load
 from checker.cases import NOT_P, NOT_Q, P, Q
@@ -8,11 +9,13 @@ from checker.sheets import LENGTH
 from checker.trees import TRUE, conjunction as all_of, disjunction as any_of, positive
 
 from .library import Lent, sheet as lent_sheet
+from .lines import lent_lines
 
 BOOK = build([b"P", b"Q-7"], [P, any_of(P, all_of(NOT_P, Q)), all_of(Q, TRUE)])
 OTHER_BOOK = build([b"P"], [P])  # another number of options
 BLANK = [7] * LENGTH
 SHEET = load(BLANK, BOOK)[2][0]
+LINES = [(1, True), (0, False)]
 
 
 def on_book(comparing, data):
@@ -23,13 +26,15 @@ def on_book(comparing, data):
         comparing.call("lookup", book, Lent(code))
     comparing.call("load", book, lent_sheet(BLANK))
     comparing.call("write", lent_sheet(SHEET), book, output)
+    for lines, k in ((LINES, 1), (LINES, 2), ([(2, True)], 0)):  # in order; no such line; no option
+        comparing.call("withdraw", lent_sheet(SHEET), book, *lent_lines(lines), k)
 
 
 def on_sheet(comparing, values):
     """Every call that reads a sheet, with arguments that are right and with others."""
     options = min(values[0], 600) if values else 0
     for option, barred in ((0, False), (1, True), (options, False), (65535, True)):
-        comparing.call("choose", lent_sheet(values), option, barred)
+        comparing.call("key", lent_sheet(values), *lent_lines(LINES), option, barred)
     for step in ((10, 0, 0, 0), (4, 6, 1, 0), (0, 0, 0, 0), (15, 0, 0, 0), (9, 9, 9, 9)):
         comparing.call("step", lent_sheet(values), *step)
     for budget in (0, 1, 2 ** 64 - 1):
@@ -39,6 +44,7 @@ def on_sheet(comparing, values):
     comparing.call("complete", lent_sheet(values))
     for book in (BOOK, OTHER_BOOK, BOOK[:-1]):
         comparing.call("write", lent_sheet(values), Lent(book), Lent([9] * len(BOOK)))
+        comparing.call("withdraw", lent_sheet(values), Lent(book), *lent_lines(LINES), 0)
 
 
 def damaged_books(comparing, rng, pairs=150):
@@ -91,7 +97,7 @@ def full_sheets(comparing):
         sheet = lent_sheet(BLANK)
         comparing.done("load", Lent(build([b"P", b"Q"], [any_of(*children)])), sheet)
         for option in (2, 0, 1, 65535):
-            comparing.call("choose", sheet, option, True)
+            comparing.call("key", sheet, *lent_lines(), option, True)
         comparing.call("report", sheet, Lent([9] * 2))
     for marks in (2047, 2048):  # a sheet by all but its weight
         nodes = [20481, 16384 + marks] + [4096] * marks
@@ -115,9 +121,5 @@ def limits(comparing):
     on_book(comparing, two[:10] + bytes([255, 255, 255, 255, 3, 0]) + two[16:])
 
 
-def all_of_them(comparing, rng):
-    damaged_books(comparing, rng)
-    damaged_sheets(comparing, rng)
-    outputs(comparing)
-    full_sheets(comparing)
-    limits(comparing)
+ALL = (outputs, full_sheets, limits)
+RANDOM = (damaged_books, damaged_sheets)

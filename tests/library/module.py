@@ -1,5 +1,6 @@
 """The Python module: every refusal that each call can give, memory beside and under what is lent,
-reports and runs beside the checker's. From the folder above: python3 -m library.module"""
+orders, reports and runs beside the checker's. From the folder above: python3 -m library.module"""
+import ctypes
 import random
 import sys
 import time
@@ -8,17 +9,18 @@ from pathlib import Path
 
 from checker import calls
 from checker.books import build
-from checker.cases import CASES, CODES, NOT_P, P, Q
+from checker.cases import CASES, CODES, NOT_P, ORDERS, P, Q
+from checker.keying import SLOTS
 from checker.sheets import LENGTH
 from checker.trees import TRUE, conjunction as all_of, disjunction as any_of
 from driver.comparing import CAN_REFUSE
 from driver.making import random_book
+from library.lending import SPARE, Count, Lent, Lines, lend, slots
 
 sys.path.insert(0, str(Path(__file__).resolve().parent.parent.parent / "python"))
 import nibdrumlin  # noqa: E402
-from nibdrumlin import Book, LibraryMissing, Refused, Sheet, State  # noqa: E402
+from nibdrumlin import Book, LibraryMissing, Order, Refused, Slot, State  # noqa: E402
 
-GUARD = 16  # elements before and after lent memory
 MOST = 2 ** 64 - 1
 RANDOM_BOOKS = 150
 SECONDS = 2
@@ -31,6 +33,7 @@ SHEET = calls.load(BLANK, BOOK)[2][0]
 FULL_SHEET = calls.load(BLANK, FULL_BOOK)[2][0]
 NO_SHEETS = [SHEET[:-1], SHEET + [0], [], [513] + SHEET[1:], SHEET[:-1] + [1],
              SHEET[:2] + [SHEET[2] + 1] + SHEET[3:]]
+LINES = [(1, True), (0, False)]
 SYMBOLS = {"check": "nd_book_check", "lookup": "nd_code_lookup"}
 
 
@@ -58,22 +61,10 @@ BAD_BOOKS = [
     (6, build([b"P"], [any_of(*[P] * 2048)]))]
 
 
-class Lent:
-    """Memory with guards on both sides; `part` is what is lent of it."""
-
-    def __init__(self, values):
-        kind, guard = ("B", 0xA5) if isinstance(values, (bytes, bytearray)) else ("H", 0xA5A5)
-        self.memory = array(kind, [guard] * GUARD + list(values) + [guard] * GUARD)
-        self.before = self.memory.tobytes()
-        self.part = memoryview(self.memory)[GUARD:GUARD + len(values)]
-
-    def is_unchanged(self):
-        return self.memory.tobytes() == self.before
-
-    def has_guards(self):
-        size = GUARD * self.memory.itemsize
-        after = self.memory.tobytes()
-        return after[:size] == self.before[:size] and after[-size:] == self.before[-size:]
+# Lines that are not in order on a sheet of two options.
+BAD_LINES = [(Lines(LINES), Count(2)), (Lines(SPARE + SPARE[:1]), Count(0)), (Lines(), Count(0)),
+             (Lines([(0, True)] * 64), Count(65)), (Lines([(0, True)] * 64), Count(65_535)),
+             slots([(2, False)]), slots([(0, True), (65_535, False)])]
 
 
 def number_of(work, *arguments):
@@ -95,6 +86,7 @@ def book_refusals():
         yield "lookup", number, (data, b"")  # the book's comes before 7
         yield "load", number, (data, BLANK)
         yield "write", number, (SHEET, data, b"")  # and before 12
+        yield "withdraw", number, (SHEET, data, *BAD_LINES[0], 9)  # and before 11 for the lines
         yield "load", 11, (data, BLANK[:-1])  # and after 11 for the sheet
     for code in (b"", b"Q", b"Q-7\0", b"p", b"P" * 14):
         yield "lookup", 7, (BOOK, code)
@@ -106,7 +98,8 @@ def sheet_refusals():
         yield "write", 11, (sheet, b"", b"")
         yield "report", 11, (sheet, b"")
         yield "complete", 11, (sheet,)
-        yield "choose", 11, (sheet, 9, True)
+        yield "key", 11, (sheet, *slots([(0, True)] * 64), 9, True)
+        yield "withdraw", 11, (sheet, b"", *slots(), 9)
         yield "step", 11, (sheet, 0, 0, 0, 0)
         yield "run", 11, (sheet, 0)
     for length in (0, 1, LENGTH - 1, LENGTH + 1):
@@ -115,10 +108,6 @@ def sheet_refusals():
     yield "write", 12, (SHEET, BOOK, bytes(len(BOOK) - 1))
     for length in (0, 1):
         yield "report", 12, (SHEET, bytes(length))
-    for option in (2, 65_535, 65_536, 2 ** 64, -1):  # not narrowed: 65,536 is not option 0
-        yield "choose", 7, (SHEET, option, False)
-    yield "choose", 7, (FULL_SHEET, 1, False)
-    yield "choose", 8, (FULL_SHEET, 0, True)
     for rule in (0, 15, 2 ** 64 + 10, -1):
         yield "step", 9, (SHEET, rule, 99, 99, 99)
     for step in ((9, 0, 0, 0), (10, 0, 0, 1), (10, 2 ** 64, 0, 0), (10, 0, 2 ** 64, 0),
@@ -126,16 +115,36 @@ def sheet_refusals():
         yield "step", 10, (SHEET, *step)
 
 
+def order_refusals():
+    """The same for every fault of a keying or of a withdrawal."""
+    for lines, count in BAD_LINES:
+        yield "key", 11, (SHEET, lines, count, 9, True)
+        yield "withdraw", 11, (SHEET, BOOK, lines, count, 99)
+    yield "withdraw", 11, (SHEET, OTHER_BOOK, *slots(LINES), 99)
+    full = [(0, False)] * SLOTS
+    for sheet, option in ((SHEET, 0), (SHEET, 2), (FULL_SHEET, 0), (FULL_SHEET, 1)):
+        yield "key", 14, (sheet, *slots(full), option, True)
+    for option in (2, 65_535, 65_536, 2 ** 64, -1):  # not narrowed: 65,536 is not option 0
+        yield "key", 7, (SHEET, *slots(full[1:]), option, False)
+    yield "key", 7, (FULL_SHEET, *slots(), 1, False)
+    yield "key", 8, (FULL_SHEET, *slots(), 0, True)
+    for k in (2, 64, 65_536, 2 ** 32, 2 ** 64, -1):
+        yield "withdraw", 13, (SHEET, BOOK, *slots(LINES), k)
+        yield "withdraw", 13, (FULL_SHEET, FULL_BOOK, *slots(full[:2]), k)
+    yield "withdraw", 8, (FULL_SHEET, FULL_BOOK, *slots(full[:2]), 1)
+
+
 def check_refusals():
     """Each is the one due, and nothing lent nor beside it was written."""
     seen = {call: set() for call in CAN_REFUSE}
     count = 0
-    for call, due, arguments in [*book_refusals(), *sheet_refusals()]:
-        lent = [Lent(value) if isinstance(value, (bytes, list)) else value for value in arguments]
-        plain = [value.part if isinstance(value, Lent) else value for value in lent]
-        given = number_of(getattr(nibdrumlin, SYMBOLS.get(call, "nd_" + call)), *plain)
-        expect(given == due, "%s: refused %d, due %d" % (call, given, due))
-        expect(all(value.is_unchanged() for value in lent if isinstance(value, Lent)),
+    for call, due, arguments in [*book_refusals(), *sheet_refusals(), *order_refusals()]:
+        given = [lend(value) for value in arguments]
+        lent = [value for value in given if hasattr(value, "part")]
+        plain = [value.part if value in lent else value for value in given]
+        number = number_of(getattr(nibdrumlin, SYMBOLS.get(call, "nd_" + call)), *plain)
+        expect(number == due, "%s: refused %d, due %d" % (call, number, due))
+        expect(all(value.is_unchanged() for value in lent),
                "%s, refused %d: lent memory was written" % (call, due))
         seen[call].add(due)
         count += 1
@@ -154,9 +163,17 @@ def check_accepted():
     contradictory = nibdrumlin.nd_report(sheet.part, states.part)
     _, bad, (due,) = calls.report(SHEET, [9] * 5)
     expect((contradictory, states.part.tolist()) == (bool(bad), due), "nd_report differs")
-    nibdrumlin.nd_choose(sheet.part, 1, True)
+    lines, count = map(lend, slots(LINES))
+    nibdrumlin.nd_key(sheet.part, lines.part, count.part, 1, True)
+    expect(lines.held() == LINES + [(1, True)] + SPARE[3:] and count.part[0] == 3, "nd_key: lines")
+    nibdrumlin.nd_withdraw(sheet.part, BOOK, lines.part, count.part, 0)
+    expect(lines.held() == [(0, False), (1, True), (1, True)] + SPARE[3:] and count.part[0] == 2,
+           "nd_withdraw: lines")
+    due = calls.withdraw(SHEET, BOOK, LINES + [(1, True)] + SPARE[3:], [3], 0)[2][0]
+    expect(sheet.part.tolist() == due, "nd_withdraw: the sheet differs")
     nibdrumlin.nd_run(sheet.part, MOST)
-    expect(all(lent.has_guards() for lent in (sheet, out, states)), "a guard was written")
+    expect(all(lent.has_guards() for lent in (sheet, out, states, lines, count)),
+           "a guard was written")
 
 
 def check_books():
@@ -174,26 +191,61 @@ def check_books():
     expect((none.options, none.codes) == (0, ()), "Book: eight zero bytes")
 
 
-def check_sheets():
-    """Sheet: its refusals leave it as it was."""
-    sheet = Sheet(Book(BOOK))
-    expect(sheet.numbers.tolist() == SHEET, "Sheet: loaded")
-    full = Sheet(Book(FULL_BOOK))
+def check_refused_orders():
+    """Order: its refusals leave it as it was."""
+    order, full = Order(Book(BOOK)), Order(Book(FULL_BOOK))
+    expect(order.numbers.tolist() == SHEET and order.lines == (), "Order: loaded")
+    long = Order.from_numbers(Book(BOOK), SHEET, [(0, True)] * SLOTS)
+    order.key(1)
     for number, held, work, arguments in [
-            (7, sheet, sheet.choose, ("Q",)), (7, sheet, sheet.bar, (2,)),
-            (7, sheet, sheet.choose, (65_536,)), (7, full, full.choose, (1,)),
-            (8, full, full.choose, ("P",)), (8, full, full.bar, (0,)),
-            (9, sheet, sheet.step, (15, 0)), (10, sheet, sheet.step, (9, 0))]:
-        before = held.numbers.tobytes()
-        expect(number_of(work, *arguments) == number, "Sheet: refusal %d is due" % number)
-        expect(held.numbers.tobytes() == before, "Sheet: a refused call changed it")
+            (7, order, order.key, ("Q",)), (7, order, order.key, (2, True)),
+            (7, order, order.key, (65_536,)), (7, full, full.key, (1,)),
+            (8, full, full.key, ("P",)), (8, full, full.key, (0, True)),
+            (14, long, long.key, (0,)), (14, long, long.key, (2,)), (14, long, long.key, ("Q",)),
+            (13, order, order.withdraw, (1,)), (13, order, order.withdraw, (-1,)),
+            (13, order, order.withdraw, (2 ** 64,)), (13, full, full.withdraw, (0,)),
+            (11, order, order.withdraw, (0, Book(OTHER_BOOK))),
+            (8, long, long.withdraw, (0, Book(build([b"P", b"Q"], [any_of(*[P] * 2047)])))),
+            (9, order, order.step, (15, 0)), (10, order, order.step, (9, 0))]:
+        before = held.numbers.tobytes(), held.lines, held.book
+        expect(number_of(work, *arguments) == number, "Order: refusal %d is due" % number)
+        expect((held.numbers.tobytes(), held.lines, held.book) == before,
+               "Order: a refused call changed it")
+
+
+def check_kept_orders():
+    """Order: one that was kept elsewhere, and what it is refused."""
     for numbers in NO_SHEETS:
-        expect(number_of(Sheet.from_numbers, Book(BOOK), numbers) == 11, "Sheet: no sheet")
-    expect(number_of(Sheet.from_numbers, Book(OTHER_BOOK), SHEET) == 11, "Sheet: another N")
-    kept = Sheet.from_numbers(Book(BOOK), SHEET)
+        expect(number_of(Order.from_numbers, Book(BOOK), numbers) == 11, "Order: no sheet")
+    expect(number_of(Order.from_numbers, Book(OTHER_BOOK), SHEET) == 11, "Order: another N")
+    for lines in ([(2, True)], [(0, True)] * 65, [(65_536, False)], [(-1, False)], [(0, 1), (9, 0)],
+                  [(0, True)] * 65_536):
+        expect(number_of(Order.from_numbers, Book(BOOK), SHEET, lines) == 11, "Order: bad lines")
+    kept = Order.from_numbers(Book(BOOK), SHEET, LINES)
+    expect(kept.lines == tuple(LINES) and kept.numbers.tolist() == SHEET, "Order: kept elsewhere")
     kept.step(10, 0, 0)
     due = calls.step(SHEET, 10, 0, 0, 0)[2][0]
-    expect(kept.numbers.tolist() == due, "Sheet: a step")
+    expect(kept.numbers.tolist() == due, "Order: a step")
+
+
+def check_orders():
+    """Document 02's orders: answers, lines and reports as written beside them."""
+    for rules, first, made, left, report in ORDERS:
+        book = Book(build(CODES[:3], rules))
+        order = Order.from_numbers(book, Order(book).numbers, first)
+        for name, arguments, (refusal, value) in made:
+            if name == "run":
+                ran = order.run(*arguments)
+                expect((ran.steps, ran.settled) == (value // 2, value % 2 == 1), "an order's run")
+                continue
+            if name == "withdraw":
+                k, *other = arguments
+                arguments = (k, *[Book(build(CODES[:3], trees)) for trees in other])
+            given = number_of(getattr(order, name), *arguments)
+            expect(given == refusal, "an order: %s is refused %d, due %d" % (name, given, refusal))
+        expect(order.lines == tuple(left), "an order: its lines")
+        expect(list(order.report().states.values()) == report, "an order: its report")
+    return len(ORDERS)
 
 
 def raises(error, work, *arguments):
@@ -206,38 +258,62 @@ def raises(error, work, *arguments):
 
 def check_misuse():
     """What Python itself must refuse: other widths, memory that cannot be written."""
-    sheet = Sheet(Book(BOOK))
+    order, nd_key = Order(Book(BOOK)), nibdrumlin.nd_key
+    lines = (Slot * SLOTS)()
     for name, error, work, arguments in [
             ("a sheet of bytes", TypeError, nibdrumlin.nd_complete, (bytes(2 * LENGTH),)),
             ("a book of 16-bit numbers", TypeError, nibdrumlin.nd_book_check, (array("H", [0] * 4),)),
             ("an output that is read-only", TypeError, nibdrumlin.nd_report,
-             (sheet.numbers, bytes(2))),
+             (order.numbers, bytes(2))),
             ("every second byte", TypeError, nibdrumlin.nd_book_check, (memoryview(BOOK)[::2],)),
-            ("a negative budget", ValueError, sheet.run, (-1,))]:
+            ("lines that are no slots", TypeError, nd_key,
+             (order.numbers, array("I", [0] * SLOTS), ctypes.c_uint16(0), 0, False)),
+            ("a list for slots", TypeError, nd_key,
+             (order.numbers, [(0, True)] * SLOTS, ctypes.c_uint16(0), 0, False)),
+            ("a count of two numbers", TypeError, nd_key,
+             (order.numbers, lines, array("H", [0, 0]), 0, False)),
+            ("a count of 32 bits", TypeError, nd_key,
+             (order.numbers, lines, ctypes.c_uint32(0), 0, False)),
+            ("a count that is read-only", TypeError, nd_key,
+             (order.numbers, lines, bytes(2), 0, False)),
+            ("a negative budget", ValueError, order.run, (-1,))]:
         expect(raises(error, work, *arguments), "%s: %s is due" % (name, error.__name__))
     expect(issubclass(LibraryMissing, Exception) and not issubclass(LibraryMissing, Refused),
            "a missing library is no refusal")
 
 
 def compare(data, options, keyed, budget):
-    """Choices, report, complete, run and write of one book, beside the checker's."""
-    sheet, due = Sheet(Book(data)), calls.load(BLANK, data)[2][0]
+    """Keyings, report, complete, run and write of one book, as keyed and after each line is taken
+    back, beside the checker's."""
+    order, (due, lines, count) = Order(Book(data)), (calls.load(BLANK, data)[2][0], SPARE, [0])
     for option, barred in keyed:
-        (sheet.bar if barred else sheet.choose)(option)
-        due = calls.choose(due, option, barred)[2][0]
-    for _ in range(2):  # as keyed, and after a run
-        expect(sheet.numbers.tolist() == due, "the sheet differs")
+        order.key(option, barred)
+        due, lines, count = calls.key(due, lines, count, option, barred)[2]
+    due = compare_sheets(order, due, options, budget)
+    for left in range(len(keyed), 0, -1):
+        expect(order.lines == tuple(lines[:left]), "the lines differ")
+        order.withdraw((left - 1) // 2)
+        due, lines, count = calls.withdraw(due, data, lines, count, (left - 1) // 2)[2]
+        due = compare_sheets(order, due, options, budget)
+    expect(order.lines == (), "there are lines where none is due")
+
+
+def compare_sheets(order, due, options, budget):
+    """What can be asked of a sheet, before a run and after it; the checker's sheet after it."""
+    for _ in range(2):
+        expect(order.numbers.tolist() == due, "the sheet differs")
         _, bad, (states,) = calls.report(due, [9] * options)
-        given = sheet.report()
+        given = order.report()
         expect(given.contradictory == bool(bad), "contradictory differs")
-        expect(list(given.states) == list(sheet.book.codes), "the report's codes differ")
+        expect(list(given.states) == list(order.book.codes), "the report's codes differ")
         expect([int(state) for state in given.states.values()] == states, "the report differs")
         expect(all(isinstance(state, State) for state in given.states.values()), "no State")
-        expect(sheet.is_complete() == bool(calls.complete(due)[1]), "complete differs")
-        again = Sheet(Book(sheet.write()))
-        expect(again.numbers == sheet.numbers, "written and loaded is another sheet")
-        ran, (_, value, (due,)) = sheet.run(budget), calls.run(due, budget)
+        expect(order.is_complete() == bool(calls.complete(due)[1]), "complete differs")
+        again = Order(Book(order.write()))
+        expect(again.numbers == order.numbers, "written and loaded is another sheet")
+        ran, (_, value, (due,)) = order.run(budget), calls.run(due, budget)
         expect((ran.steps, ran.settled) == (value // 2, value % 2 == 1), "the run differs")
+    return due
 
 
 def check_reports(rng):
@@ -248,7 +324,7 @@ def check_reports(rng):
     for _ in range(RANDOM_BOOKS):
         data, options, _ = random_book(rng)
         keyed = [(rng.randrange(options), rng.random() < 0.5)
-                 for _ in range(rng.randint(0, 2) if options else 0)]
+                 for _ in range(rng.randint(0, 3) if options else 0)]
         compare(data, options, keyed, rng.choice((0, 1, 3, MOST)))
     return len(CASES) + RANDOM_BOOKS
 
@@ -259,15 +335,17 @@ def main():
         refusals = check_refusals()
         check_accepted()
         check_books()
-        check_sheets()
+        check_refused_orders()
+        check_kept_orders()
+        orders = check_orders()
         check_misuse()
         books = check_reports(random.Random(1))
         seconds = time.monotonic() - start
         expect(seconds < SECONDS, "the test took %.1f s, %d are allowed" % (seconds, SECONDS))
     except (Failed, Refused, LibraryMissing) as error:
         raise SystemExit("module: %s" % error)
-    print("module: %d refused calls, %d books beside the checker, %.1f s" % (
-        refusals, books, seconds))
+    print("module: %d refused calls, %d orders, %d books beside the checker, %.1f s" % (
+        refusals, orders, books, seconds))
 
 
 if __name__ == "__main__":

@@ -6,7 +6,7 @@ import sys
 import time
 
 from checker import desk
-from desk.cases import (DESK, FULL, LONG_CODE, TOP, WIDE, book_cases, line_cases,
+from desk.cases import (DESK, FULL, LONG_CODE, TOP, WIDE, book_cases, line_cases, list_cases,
                         sample_cases)
 from driver.comparing import Difference
 from driver.desks import FOLDER, comb, printed
@@ -21,7 +21,7 @@ def due_cases():
     more = [("full sheet: %d choices" % count, FULL, b"+P\n" * count) for count in (1, 2)]
     more += [("the longest code", WIDE, b"-" + LONG_CODE),
              ("the longest code and a character more", WIDE, b"-" + LONG_CODE + b"A\n")]
-    for name, book, stdin in [*sample_cases(), *line_cases(), *book_cases(), *more]:
+    for name, book, stdin in [*sample_cases(), *line_cases(), *list_cases(), *book_cases(), *more]:
         yield name, book, stdin, desk.output(None if book is FOLDER else book, stdin)
     # The checker would need an hour for this run; the book's meaning is seen by eye.
     yield "a run that stops", comb(2200), b"", b"stopped 100000\nP open\nQ open\nZ open\nR open\n"

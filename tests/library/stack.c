@@ -22,7 +22,13 @@
 #define MARGIN 4096
 #define RULES 14
 
-enum call { NOTHING, CHECK, LOOKUP, LOAD, WRITE, CHOOSE, STEP, RUN, REPORT, COMPLETE, CALLS };
+/* A line is four bytes, as the library lays it out. */
+typedef char line_is_four_bytes[sizeof(struct nd_line) == 4 ? 1 : -1];
+typedef char negative_is_the_third[offsetof(struct nd_line, negative) == 2 ? 1 : -1];
+
+enum call {
+    NOTHING, CHECK, LOOKUP, LOAD, WRITE, KEY, WITHDRAW, STEP, RUN, REPORT, COMPLETE, CALLS
+};
 
 static const struct {
     const char *name;
@@ -33,7 +39,8 @@ static const struct {
     {"nd_code_lookup", ND_STACK_BOOK},
     {"nd_load", ND_STACK_SHEET},
     {"nd_write", ND_STACK_SHEET},
-    {"nd_choose", ND_STACK_SHEET},
+    {"nd_key", ND_STACK_SHEET},
+    {"nd_withdraw", ND_STACK_SHEET},
     {"nd_step", ND_STACK_STEP},
     {"nd_run", ND_STACK_RUN},
     {"nd_report", ND_STACK_REPORT},
@@ -48,13 +55,15 @@ static struct {
 
 static uint8_t book[ND_BOOK_LONGEST], written[ND_BOOK_LONGEST], states[ND_OPTIONS_MOST];
 static size_t book_len;
-static uint16_t sheet[ND_SHEET_LENGTH];
+static uint16_t sheet[ND_SHEET_LENGTH], count;
+static struct nd_line lines[ND_LINES_MOST];
 static uint64_t step[4], answer;
 static enum call current;
 static unsigned char stack[STACK_SIZE] __attribute__((aligned(4096)));
 static unsigned char *caller_frame;
 static size_t needs[CALLS];
 static bool steps_seen[RULES + 1];
+static int whole_lists; /* lists of 64 lines of which one was taken back */
 
 static void fail(const char *what)
 {
@@ -72,7 +81,13 @@ static void make_call(void)
     case WRITE:
         answer = nd_write(sheet, ND_SHEET_LENGTH, book, book_len, written, sizeof written);
         break;
-    case CHOOSE: answer = nd_choose(sheet, ND_SHEET_LENGTH, 511, true); break;
+    case KEY:
+        answer = nd_key(sheet, ND_SHEET_LENGTH, lines, ND_LINES_MOST, &count, 511, true);
+        break;
+    case WITHDRAW:
+        answer = nd_withdraw(sheet, ND_SHEET_LENGTH, book, book_len, lines, ND_LINES_MOST, &count,
+                             0);
+        break;
     case STEP:
         answer = nd_step(sheet, ND_SHEET_LENGTH, step[0], step[1], step[2], step[3]);
         break;
@@ -298,6 +313,26 @@ static void measure_step(const uint64_t *which)
     steps_seen[step[0]] = true;
 }
 
+/* An order of so many lines. */
+static void set_lines(uint16_t standing)
+{
+    for (size_t at = 0; at < ND_LINES_MOST; at++) {
+        lines[at].option = (uint16_t)(511 - at);
+        lines[at].negative = at % 2 == 1;
+    }
+    count = standing;
+}
+
+/* A line taken back of a list of 64, and the only one.  Some books have no room for 63 lines. */
+static void measure_withdrawals(void)
+{
+    set_lines(64);
+    measure(WITHDRAW, 8);
+    whole_lists += nd_refusal(answer) == 0;
+    set_lines(1);
+    measure(WITHDRAW, 0);
+}
+
 /* Every call on one book of 512 options. */
 static void measure_shape(size_t shape)
 {
@@ -313,11 +348,13 @@ static void measure_shape(size_t shape)
     measure(COMPLETE, 0);
     for (size_t at = 0; at < 5 && shapes[shape].steps[at][0] != 0; at++)
         measure_step(shapes[shape].steps[at]);
-    measure(CHOOSE, 8); /* some of these sheets are full */
+    set_lines(63);
+    measure(KEY, 8); /* some of these sheets are full */
     measure(REPORT, 0);
     measure(RUN, 0);
     measure(REPORT, 0);
     measure(COMPLETE, 0);
+    measure_withdrawals();
 }
 
 int main(void)
@@ -326,6 +363,8 @@ int main(void)
 
     for (size_t at = 0; at < sizeof shapes / sizeof shapes[0]; at++)
         measure_shape(at);
+    if (whole_lists == 0)
+        fail("no line of a list of 64 was taken back");
     for (int rule = 1; rule <= RULES; rule++)
         if (!steps_seen[rule]) {
             printf("stack: no step of rule %d was measured\n", rule);

@@ -3,7 +3,8 @@
 use crate::rows::Row;
 use crate::tables::time;
 
-const FULL: usize = 4096;
+/// The most that a sheet may weigh.
+pub const FULL: usize = 4096;
 
 /// What is bounded: a ratio or a time, of the rows that have it.
 struct Bar {
@@ -31,7 +32,7 @@ const fn seconds(said: &'static str, limit: f64, of: fn(&Row) -> Option<f64>) ->
     }
 }
 
-const BARS: [Bar; 8] = [
+const BARS: [Bar; 9] = [
     ratio("run, times plain Rust by bounds: at most 3", 3.0, |row| {
         is_full(row).then_some(row.run[0] / row.run[1])
     }),
@@ -62,6 +63,14 @@ const BARS: [Bar; 8] = [
         "a step, growth from weight 2,048: at most 2.5",
         2.5,
         |row| row.growth.filter(|_| is_full(row))?.step,
+    ),
+    ratio(
+        "a line of 64 taken back, times a load and 63 keyings by plain Rust: at most 1.5",
+        1.5,
+        |row| {
+            let [ours, _, again] = row.order.filter(|_| is_full(row))?.withdraw;
+            Some(ours / again)
+        },
     ),
 ];
 

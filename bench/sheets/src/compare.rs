@@ -75,8 +75,8 @@ pub fn ran(methods: [fn(&mut [u16], u64) -> Ran; 2], sheet: &Sheet, budget: u64)
     one
 }
 
-/// A random sheet of a weight at most.
-pub fn random_sheet(random: &mut Random, weight: usize) -> Sheet {
+/// A random book of a weight at most.
+pub fn random_book(random: &mut Random, weight: usize) -> Vec<u8> {
     let few = random.below(5);
     let many = weight.min(512);
     let options = random.pick(&[few, many / 4, many]);
@@ -88,7 +88,12 @@ pub fn random_sheet(random: &mut Random, weight: usize) -> Sheet {
         let body = style.rule(random, largest);
         misses += usize::from(!filling.put(body) || random.one_in(4));
     }
-    loaded(&book(options, &filling.bodies))
+    book(options, &filling.bodies)
+}
+
+/// A random sheet of a weight at most.
+pub fn random_sheet(random: &mut Random, weight: usize) -> Sheet {
+    loaded(&random_book(random, weight))
 }
 
 /// Compares every answer on random sheets; the steps done in all.

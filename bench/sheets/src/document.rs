@@ -63,6 +63,8 @@ pub fn measured(rows: &[Row], agreed: &[String], noise: &Noise, patience: f64) -
         tables::reports(rows),
         "### Loads".to_string(),
         tables::loads(rows),
+        "### Keyings and withdrawals".to_string(),
+        tables::orders(rows),
         "### Multiplied out".to_string(),
         toys::table(TOYS),
     ]

@@ -2,11 +2,31 @@
 //! does not meet.
 
 use crate::answers::Ran;
+use crate::orders::{Line, Order};
 
 extern "C" {
     fn nd_load(book: *const u8, book_len: usize, sheet: *mut u16, sheet_len: usize) -> u64;
     fn nd_run(sheet: *mut u16, sheet_len: usize, budget: u64) -> u64;
     fn nd_report(sheet: *const u16, sheet_len: usize, out: *mut u8, out_len: usize) -> u64;
+    fn nd_key(
+        sheet: *mut u16,
+        sheet_len: usize,
+        lines: *mut Line,
+        slots: usize,
+        count: *mut u16,
+        option: u64,
+        negative: bool,
+    ) -> u64;
+    fn nd_withdraw(
+        sheet: *mut u16,
+        sheet_len: usize,
+        book: *const u8,
+        book_len: usize,
+        lines: *mut Line,
+        slots: usize,
+        count: *mut u16,
+        k: u64,
+    ) -> u64;
 }
 
 /// The loader: the refusal, 0 where the book is accepted.
@@ -33,4 +53,39 @@ pub fn report(sheet: &[u16], out: &mut [u8]) -> bool {
     let answer = unsafe { nd_report(sheet.as_ptr(), sheet.len(), out.as_mut_ptr(), out.len()) };
     assert_eq!(answer % 256, 0, "a report is refused");
     answer >> 8 == 1
+}
+
+/// Keys an option: the refusal, 0 where it is accepted.
+pub fn key(order: &mut Order, option: u64, negative: bool) -> u64 {
+    let (sheet, lines) = (&mut order.sheet, &mut order.lines);
+    // SAFETY: as above; the count is one number, and every line's truth value is one.
+    unsafe {
+        nd_key(
+            sheet.as_mut_ptr(),
+            sheet.len(),
+            lines.as_mut_ptr(),
+            lines.len(),
+            &mut order.count,
+            option,
+            negative,
+        )
+    }
+}
+
+/// Takes line k back: the refusal, 0 where it is accepted.
+pub fn withdraw(order: &mut Order, book: &[u8], k: u64) -> u64 {
+    let (sheet, lines) = (&mut order.sheet, &mut order.lines);
+    // SAFETY: as above.
+    unsafe {
+        nd_withdraw(
+            sheet.as_mut_ptr(),
+            sheet.len(),
+            book.as_ptr(),
+            book.len(),
+            lines.as_mut_ptr(),
+            lines.len(),
+            &mut order.count,
+            k,
+        )
+    }
 }

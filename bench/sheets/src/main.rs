@@ -1,6 +1,6 @@
-//! The time of loads, runs and reports on full-size books, through the library's C interface,
-//! next to plain Rust's in the same process.  Every answer is compared first; a difference
-//! stops the benchmark with the case printed.
+//! The time of loads, runs, reports, keyings and withdrawals on full-size books, through the
+//! library's C interface, next to plain Rust's in the same process.  Every answer is compared
+//! first; a difference stops the benchmark with the case printed.
 //!
 //!     tools/build-library                                         at the repository's top
 //!     cd bench/sheets && cargo run --release --offline --locked -- [FLAGS]
@@ -20,9 +20,11 @@ mod compare;
 mod document;
 mod families;
 mod ffi;
+mod keyings;
 mod measure;
 mod nests;
 mod nodes;
+mod orders;
 mod plain;
 mod plot;
 #[path = "../../../tests/rust/src/random.rs"]
@@ -35,6 +37,7 @@ mod toys;
 
 use random::Random;
 use rows::Row;
+use std::collections::BTreeMap;
 use std::fs;
 
 /// The desk's budget, and the comb that it stops at.
@@ -137,6 +140,33 @@ fn answers_agree(seed: u64) -> String {
     )
 }
 
+/// Keyings and withdrawals on random orders, as a sentence.
+fn orders_agree(seed: u64) -> String {
+    let random = &mut Random::new(seed);
+    let seen = &mut keyings::Seen::default();
+    for (weight, count) in [(12, 3000), (40, 2000), (150, 1000), (600, 100)] {
+        keyings::random_orders(random, count, weight, seen);
+    }
+    keyings::full_orders(random, 300, seen);
+    format!(
+        "Keyings agree on random orders ({}), and so do withdrawals ({}).",
+        by_answer(&seen.keyings, &[0, 11, 14, 7, 8]),
+        by_answer(&seen.withdrawals, &[0, 1, 2, 3, 4, 5, 6, 11, 13, 8])
+    )
+}
+
+/// How often each answer was given; each of those due must have been.
+fn by_answer(seen: &BTreeMap<u64, u64>, due: &[u64]) -> String {
+    let said = due.iter().map(|answer| {
+        let count = tables::count(*seen.get(answer).expect("an answer that is due"));
+        match answer {
+            0 => format!("accepted {count}"),
+            _ => format!("refused {answer} {count}"),
+        }
+    });
+    said.collect::<Vec<String>>().join(", ")
+}
+
 /// Every family at every weight, then the comb that the desk stops at.
 fn all_rows(flags: &Flags, noise: &mut measure::Noise) -> Vec<Row> {
     let mut rows = Vec::new();
@@ -150,6 +180,10 @@ fn all_rows(flags: &Flags, noise: &mut measure::Noise) -> Vec<Row> {
             let mut row = rows::measured(name, ordinary, weight, &rules, u64::MAX, flags.patience);
             if weight % 2 == 0 && flags.weights.contains(&(weight / 2)) {
                 row.growth = Some(rows::growth(&(family.make)(weight / 2), &rules));
+            }
+            if weight == bars::FULL {
+                let with_room = (family.make)(weight - 2 * orders::SLOTS);
+                row.order = Some(keyings::measured(&with_room));
             }
             eprintln!(
                 "{name}, {weight}: {} steps, run {}",
@@ -179,7 +213,11 @@ fn main() {
         println!("{}", searches(flags.seed, sheets));
         return;
     }
-    let agreed = [searches(flags.seed, 20_000), answers_agree(flags.seed)];
+    let agreed = [
+        searches(flags.seed, 20_000),
+        answers_agree(flags.seed),
+        orders_agree(flags.seed),
+    ];
     let noise = &mut measure::Noise::new();
     let rows = all_rows(&flags, noise);
     let text = document::measured(&rows, &agreed, noise, flags.patience);

@@ -4,6 +4,7 @@ use crate::answers::Ran;
 use crate::compare::{after, loaded, ran, reported};
 use crate::families::Rules;
 use crate::ffi;
+use crate::keyings::Times;
 use crate::measure::{grown, medians, seconds};
 use crate::nodes::{book, LENGTH};
 use crate::plain::{bounds, load, parts, simple, sweep};
@@ -30,6 +31,8 @@ pub struct Row {
     pub after: [f64; 3],
     /// From the family's book of half the weight, where that is measured too.
     pub growth: Option<Growth>,
+    /// Of the family's book that has this weight with 64 lines, where that is measured.
+    pub order: Option<Times>,
 }
 
 /// How many times longer the library takes than on the book of half the weight, the two timed
@@ -86,6 +89,7 @@ pub fn measured(
         before: report_times(&sheet),
         after: report_times(&settled),
         growth: None,
+        order: None,
     }
 }
 

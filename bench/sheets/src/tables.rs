@@ -111,6 +111,35 @@ pub fn reports(rows: &[Row]) -> String {
     text
 }
 
+/// The orders of 64 lines.
+pub fn orders(rows: &[Row]) -> String {
+    let mut text = String::from(
+        "| family | a keying | plain | ratio | a withdrawal | plain | ratio | plain, a load and 63 \
+         keyings | ratio |\n|---|--:|--:|--:|--:|--:|--:|--:|--:|\n",
+    );
+    for row in rows {
+        let Some(times) = row.order else {
+            continue;
+        };
+        let ([key, plain_key], [ours, plain, again]) = (times.key, times.withdraw);
+        writeln!(
+            text,
+            "| {} | {} | {} | {} | {} | {} | {} | {} | {:.2} |",
+            row.name,
+            time(key),
+            time(plain_key),
+            ratio(key / plain_key),
+            time(ours),
+            time(plain),
+            ratio(ours / plain),
+            time(again),
+            ours / again
+        )
+        .expect("a string");
+    }
+    text
+}
+
 /// The loads.
 pub fn loads(rows: &[Row]) -> String {
     let mut text = String::from(

@@ -1,8 +1,8 @@
--- An outcome told apart, and the bounds by which each value fits beside the refusal.
+-- The bounds by which each value fits beside the refusal.
 use mathlib.Core.Bool.{true}
 use mathlib.Core.List.{List}
 use mathlib.Core.Option.{none}
-use mathlib.Core.Path.{_≡_, ap, _∙_}
+use mathlib.Core.Path.{_≡_, ap}
 use Prim.Native.Nat.{ℕ, _*_, _≤_, _<_}
 use native.Mathlib.Nat.{mul-le-mul-right}
 use native.Mathlib.Omega.{arith}
@@ -10,7 +10,7 @@ use lib.ListN.{length}
 use Rattle.model.specs.Code.{weight}
 use Rattle.model.specs.Sheet.{options-in, used-in, nodes-in, is-sheet}
 use Rattle.model.specs.Book.{options-of, written}
-use Rattle.calls.specs.Outcomes.{Answer, accepted, Outcome}
+use Rattle.calls.specs.Outcomes.{accepted}
 use Rattle.calls.specs.Chains.{book-refusal}
 use Rattle.calls.specs.Calls.{writeOf, Ran, runOf}
 use Rattle.model.specs.Strategy.{cube}
@@ -19,17 +19,8 @@ use Rattle.theory_rewriting.specs.Measure.{bulk}
 use Rattle.theory_rewriting.specs.Reached.{run-bounded}
 use Rattle.call_laws.specs.Books.{accepted-book}
 use Rattle.call_laws.specs.Accepted.{accepted-due, write-accepted, run-accepted}
-use Rattle.call_answers.specs.AnswerMeaning.{afterCall}
 use Rattle.book_write.proofs.Written.{sizes-of, length-written}
 use Rattle.c_calls.specs.Packed.{Fits}
-
--- The number of an answer, and the buffer after it.
-pub told :
-    {A : Type 0} (pack : Answer A → ℕ) {a : Answer A} {l : List ℕ} {o : Outcome (List ℕ) A} {r : ℕ} →
-    r ≡ pack a →
-    afterCall a l ≡ o →
-    (r ≡ pack (o .answer)) × (l ≡ o .lent)
-told pack p e = (p ∙ ap (λ x. pack (x .answer)) e, ap (λ x. x .lent) e)
 
 written-small :
     (s b : List ℕ) →

@@ -1,7 +1,7 @@
-// Every call on sheets, for C (include/nibdrumlin_sheets.h). Each answers one number, as the calls of `c_calls` do: the low 8 bits are
+// The calls on sheets, for C (include/nibdrumlin_sheets.h). Each answers one number, as the calls of `c_calls` do: the low 8 bits are
 // the refusal (0: accepted), the rest is the value.
 ghost use mathlib.Core.Path.{_≡_};
-ghost use Rattle.calls.specs.Calls.{loadOf, writeOf, reportOf, completeOf, chooseOf, stepOf, runOf};
+ghost use Rattle.calls.specs.Calls.{loadOf, writeOf, reportOf, completeOf, stepOf, runOf};
 ghost use Rattle.c_calls.specs.Packed.{packedDone, packedValue};
 ghost use Rattle.c_sheet_calls.specs.PackedValues.{packedBool, packedRan};
 use call_report::Completed;
@@ -56,15 +56,6 @@ pub extern "C" fn nd_complete(sheet: &[u16]) -> u64
         Completed::Incomplete => 0,
         Completed::Refused(r) => c_calls::refused(r),
     }
-}
-
-// The choice of an option, taken or barred.
-#[no_mangle]
-pub extern "C" fn nd_choose(sheet: &mut [u16], option: u16, negative: bool) -> u64
-    ensures { λ r. ⌜ r ≡ packedDone (chooseOf (now (sheet .entry)) option negative .answer) ⌝ }
-    ensures { λ r. ⌜ now (sheet .exit) ≡ chooseOf (now (sheet .entry)) option negative .lent ⌝ }
-{
-    c_calls::done(call_choice::choose(sheet, option, negative))
 }
 
 // A single step.

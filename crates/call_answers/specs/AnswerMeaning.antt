@@ -1,8 +1,10 @@
 -- What each case of an answer is in the definitions: its refusal, by document 01's number, and its values.
+use mathlib.Core.List.{List}
 use mathlib.Core.Option.{Option, none, some}
 use Prim.Native.Nat.{ℕ}
 use Rattle.calls.specs.Refusals as M
 use Rattle.calls.specs.Outcomes.{Answer, refused, accepted, Outcome}
+use Rattle.calls.specs.Lines.{State}
 use Rattle.call_answers.specs.declared.Refusal as R
 use Rattle.call_answers.specs.declared.Refusal.the-variants as V₁
 use Rattle.call_answers.specs.declared.Done as D
@@ -23,6 +25,8 @@ refusalOf V₁.Rule = M.rule-refused
 refusalOf V₁.Step = M.step-refused
 refusalOf V₁.Sheet = M.sheet-refused
 refusalOf V₁.Output = M.output-refused
+refusalOf V₁.Line = M.line-refused
+refusalOf V₁.List = M.list-refused
 
 -- The refusal that is due, if any.
 abbrev pub dueOf : D.Done → Option M.Refusal
@@ -40,3 +44,7 @@ foundOf (V₃.Refused r) = refused (refusalOf r)
 -- An answer, with what the call leaves in all that it may write.
 abbrev pub afterCall : {L A : Type 0} → Answer A → L → Outcome L A
 afterCall a l = record { answer = a; lent = l }
+
+-- What a call on an order answers, and leaves of its sheet.
+abbrev pub onSheet : {A : Type 0} → Outcome State A → Outcome (List ℕ) A
+onSheet o = record { answer = o .answer; lent = o .lent .sheet }

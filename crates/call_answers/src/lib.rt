@@ -3,7 +3,7 @@ ghost use mathlib.Core.Path.{_≡_};
 ghost use Rattle.calls.specs.Refusals.{«refusal-number»};
 ghost use Rattle.call_answers.specs.AnswerMeaning.{refusalOf};
 
-// Why a call is refused, in the order of the numbers 1 to 12.
+// Why a call is refused, in the order of the numbers 1 to 14.
 pub enum Refusal {
     Length,
     Head,
@@ -17,6 +17,8 @@ pub enum Refusal {
     Step,
     Sheet,
     Output,
+    Line,
+    List,
 }
 
 // The answer of a call that has no value to give.
@@ -48,5 +50,7 @@ pub fn number(r: Refusal) -> u8
         Refusal::Step => 10,
         Refusal::Sheet => 11,
         Refusal::Output => 12,
+        Refusal::Line => 13,
+        Refusal::List => 14,
     }
 }

@@ -1,8 +1,9 @@
 -- The refusals of a book, in the order in which a program tests for them, and what none of them says.
 use mathlib.Core.Bool.{true, false, _&&_, not}
 use mathlib.Core.List.{List}
-use mathlib.Core.Option.{none, some}
-use mathlib.Core.Path.{_≡_}
+use mathlib.Core.Option.{Option, none, some}
+use mathlib.Core.Path.{_≡_, refl}
+use native.Mathlib.Omega.{arith}
 use borrow.Author.Tests.{eqb-true, eq-eqb, leb-true, le-leb, ltb-false, le-ltb, not-false}
 use Prim.Native.Nat.{ℕ, _+_, _*_, _≤_}
 use lib.Dec.{leb}
@@ -11,7 +12,9 @@ use Rattle.model.specs.Base.{only-if, first-of}
 use Rattle.model.specs.Code.{weight}
 use Rattle.model.specs.Limits.{most-options, most-rules, most-nodes, most-weight, head-length, code-length}
 use Rattle.model.specs.Book.{word, options-of, rules-of, size-of, head-in-limits, length-due, book-nodes}
-use Rattle.calls.specs.Refusals.{length-refused, head-refused}
+use Rattle.calls.specs.Refusals.{Refusal, length-refused, head-refused}
+use Rattle.calls.specs.Outcomes.{refused, accepted, answer}
+use Rattle.calls.specs.Calls.{checkOf}
 use Rattle.calls.specs.Conditions.{lacks-head, is-length-due, has-good-codes, has-good-contents, has-good-bodies, is-light}
 use Rattle.calls.specs.Chains.{part-refusal, book-refusal}
 use Rattle.theory_forms.specs.Logic.{and-split, only-none, none-due}
@@ -99,3 +102,21 @@ book-accepted b a =
       a .bodies,
       le-leb (weight (book-nodes b)) most-weight (a .weight),
     )
+
+-- What a check's answer says of the book.
+module _ (b : List ℕ) where
+  pub check-none : accepted tt ≡ checkOf b → book-refusal b ≡ none
+  unfolding checkOf answer
+  check-none e = go (book-refusal b) e
+    where
+      go : (o : Option Refusal) → accepted (tt {0}) ≡ answer o (tt {0}) → o ≡ none
+      go none e = refl
+      go (some r) e = let z : _≡_ {A = ℕ} 0 1 = cc in absurd (omega arith)
+
+  pub check-some : (r : Refusal) → refused r ≡ checkOf b → book-refusal b ≡ some r
+  unfolding checkOf answer
+  check-some r e = go (book-refusal b) e
+    where
+      go : (o : Option Refusal) → refused r ≡ answer o (tt {0}) → o ≡ some r
+      go none e = let z : _≡_ {A = ℕ} 0 1 = cc in absurd (omega arith)
+      go (some q) e = cc

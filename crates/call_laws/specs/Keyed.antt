@@ -1,4 +1,4 @@
--- The desk's lines as calls: each that is not refused by its form or its code is one choice.
+-- The desk's lines as calls: each that is not refused by its place, its form or its code is one keying.
 use mathlib.Core.Bool.{Bool, true, false}
 use mathlib.Core.List.{List, [], _∷_, _++_}
 use mathlib.Core.Logic.{_⊎_, inl, inr}
@@ -9,75 +9,81 @@ use lib.Dec.{eqb}
 use Rattle.model.specs.Base.{pick}
 use Rattle.calls.specs.Refusals.{option-refused}
 use Rattle.calls.specs.Outcomes.{Answer, refused, accepted, Outcome}
+use Rattle.calls.specs.Lines.{State}
+use Rattle.calls.specs.Conditions.{has-full-list}
 use Rattle.calls.specs.Calls.{lookupOf}
-use Rattle.calls.specs.History.{Call, choose, State, after-call, after-calls}
-use Rattle.calls.specs.Desk.{choose-found, keyed, go-on, all-keyed}
+use Rattle.calls.specs.History.{Call, key, after-call, after-calls}
+use Rattle.calls.specs.Desk.{key-found, key-signed, keyed, go-on, all-keyed}
 
-abbrev on-sheet : List ℕ → State
-on-sheet s = record { sheet = s }
+-- What a line leaves is the state as it was, or as a keying leaves it.
+abbrev One-call : State → State → Type 0
+One-call t left = (left ≡ t) ⊎ ((c : Call) × (left ≡ after-call c t))
 
--- What a line leaves is the sheet as it was, or as a choice leaves it.
-abbrev One-call : List ℕ → List ℕ → Type 0
-One-call s left = (left ≡ s) ⊎ ((c : Call) × (left ≡ after-call c (on-sheet s) .sheet))
+found-call : (found : Answer ℕ) (negative : Bool) (t : State) → One-call t (key-found found negative t .lent)
+unfolding key-found after-call
+found-call (refused r) negative t = inl refl
+found-call (accepted v) negative t = inr (key v negative, refl)
 
-found-call : (found : Answer ℕ) (negative : Bool) (s : List ℕ) → One-call s (choose-found found negative s .lent)
-unfolding choose-found after-call
-found-call (refused r) negative s = inl refl
-found-call (accepted v) negative s = inr (choose v negative, refl)
-
-keyed-call : (book l s : List ℕ) → One-call s (keyed book l s .lent)
-unfolding keyed pick
-keyed-call book [] s = inl refl
-keyed-call book (x ∷ code) s = go (eqb x 43) (eqb x 45)
+signed-call : (book l : List ℕ) (t : State) → One-call t (key-signed book l t .lent)
+unfolding key-signed pick
+signed-call book [] t = inl refl
+signed-call book (x ∷ code) t = go (eqb x 43) (eqb x 45)
   where
-    none : Outcome (List ℕ) (Unit {0})
-    none = record { answer = refused option-refused; lent = s }
+    none : Outcome State (Unit {0})
+    none = record { answer = refused option-refused; lent = t }
 
-    found : Bool → Outcome (List ℕ) (Unit {0})
-    found negative = choose-found (lookupOf book code) negative s
+    found : Bool → Outcome State (Unit {0})
+    found negative = key-found (lookupOf book code) negative t
 
-    go : (plus minus : Bool) → One-call s (pick plus (found false) (pick minus (found true) none) .lent)
-    go true minus = found-call (lookupOf book code) false s
-    go false true = found-call (lookupOf book code) true s
+    go : (plus minus : Bool) → One-call t (pick plus (found false) (pick minus (found true) none) .lent)
+    go true minus = found-call (lookupOf book code) false t
+    go false true = found-call (lookupOf book code) true t
     go false false = inl refl
+
+keyed-call : (book l : List ℕ) (t : State) → One-call t (keyed book l t .lent)
+unfolding keyed pick
+keyed-call book l t = go (has-full-list t) _
+  where
+    go : (full : Bool) (a : Answer (Unit {0})) → One-call t (pick full (record { answer = a; lent = t }) (key-signed book l t) .lent)
+    go true a = inl refl
+    go false a = signed-call book l t
 
 -- So the lines keyed leave what some list of calls does.
 pub keyed-calls :
-    (book : List ℕ) (ls : List (List ℕ)) (s : List ℕ) →
-    (cs : List Call) × (all-keyed book ls s .lent ≡ after-calls cs (on-sheet s) .sheet)
+    (book : List ℕ) (ls : List (List ℕ)) (t : State) →
+    (cs : List Call) × (all-keyed book ls t .lent ≡ after-calls cs t)
 unfolding all-keyed go-on after-calls
-keyed-calls book [] s = ([], refl)
-keyed-calls book (l ∷ ls) s = go (keyed book l s .answer) (keyed book l s .lent) (keyed-call book l s) (keyed-calls book ls)
+keyed-calls book [] t = ([], refl)
+keyed-calls book (l ∷ ls) t = go (keyed book l t .answer) (keyed book l t .lent) (keyed-call book l t) (keyed-calls book ls)
   where
-    Left : List ℕ → Type 0
-    Left left = (cs : List Call) × (left ≡ after-calls cs (on-sheet s) .sheet)
+    Left : State → Type 0
+    Left left = (cs : List Call) × (left ≡ after-calls cs t)
 
     go :
-        (a : Answer (Unit {0})) (t : List ℕ) →
-        One-call s t →
-        ((u : List ℕ) → (cs : List Call) × (all-keyed book ls u .lent ≡ after-calls cs (on-sheet u) .sheet)) →
-        Left (go-on a t (all-keyed book ls) .lent)
-    go (refused r) t (inl e) rest = ([], e)
-    go (refused r) t (inr w) rest = (w .0 ∷ [], w .1)
-    go (accepted u) t (inl e) rest = let later = rest t in (later .0, later .1 ∙ ap (λ x. after-calls (later .0) (on-sheet x) .sheet) e)
-    go (accepted u) t (inr w) rest =
-        let later = rest t in (w .0 ∷ later .0, later .1 ∙ ap (λ x. after-calls (later .0) (on-sheet x) .sheet) (w .1))
+        (a : Answer (Unit {0})) (u : State) →
+        One-call t u →
+        ((w : State) → (cs : List Call) × (all-keyed book ls w .lent ≡ after-calls cs w)) →
+        Left (go-on a u (all-keyed book ls) .lent)
+    go (refused r) u (inl e) rest = ([], e)
+    go (refused r) u (inr w) rest = (w .0 ∷ [], w .1)
+    go (accepted x) u (inl e) rest = let later = rest u in (later .0, later .1 ∙ ap (after-calls (later .0)) e)
+    go (accepted x) u (inr w) rest = let later = rest u in (w .0 ∷ later .0, later .1 ∙ ap (after-calls (later .0)) (w .1))
 
 -- Lines after lines that are all accepted.
 pub keyed-append :
-    (book : List ℕ) (ks ls : List (List ℕ)) (s : List ℕ) →
-    all-keyed book ks s .answer ≡ accepted tt →
-    all-keyed book (ks ++ ls) s ≡ all-keyed book ls (all-keyed book ks s .lent)
+    (book : List ℕ) (ks ls : List (List ℕ)) (t : State) →
+    all-keyed book ks t .answer ≡ accepted tt →
+    all-keyed book (ks ++ ls) t ≡ all-keyed book ls (all-keyed book ks t .lent)
 unfolding all-keyed go-on
-keyed-append book [] ls s e = refl
-keyed-append book (k ∷ ks) ls s e = go (keyed book k s .answer) (keyed book k s .lent) e (keyed-append book ks ls)
+keyed-append book [] ls t e = refl
+keyed-append book (k ∷ ks) ls t e = go (keyed book k t .answer) (keyed book k t .lent) e (keyed-append book ks ls)
   where
     go :
-        (a : Answer (Unit {0})) (t : List ℕ) →
-        go-on a t (all-keyed book ks) .answer ≡ accepted tt →
-        ((u : List ℕ) →
-        all-keyed book ks u .answer ≡ accepted tt →
-        all-keyed book (ks ++ ls) u ≡ all-keyed book ls (all-keyed book ks u .lent)) →
-        go-on a t (all-keyed book (ks ++ ls)) ≡ all-keyed book ls (go-on a t (all-keyed book ks) .lent)
-    go (refused r) t e rest = let z : _≡_ {A = ℕ} 0 1 = cc in absurd (omega arith)
-    go (accepted u) t e rest = rest t e
+        (a : Answer (Unit {0})) (u : State) →
+        go-on a u (all-keyed book ks) .answer ≡ accepted tt →
+        ((w : State) →
+        all-keyed book ks w .answer ≡ accepted tt →
+        all-keyed book (ks ++ ls) w ≡ all-keyed book ls (all-keyed book ks w .lent)) →
+        go-on a u (all-keyed book (ks ++ ls)) ≡ all-keyed book ls (go-on a u (all-keyed book ks) .lent)
+    go (refused r) u e rest = let z : _≡_ {A = ℕ} 0 1 = cc in absurd (omega arith)
+    go (accepted x) u e rest = rest u e

@@ -13,9 +13,12 @@ pub mod Normal
 pub mod RefusalChains
 pub mod Books
 pub mod Accepted
+-- The lines of an order, and marks put on a sheet.
+pub mod OrderLines
 -- What each call does, and what a list of calls does: the account is kept; a settled run leaves a normal form.
 pub mod Effects
 pub mod SettledLists
+pub mod Rekeyed
 -- Loading and writing, in terms of the calls.
 pub mod LoadingAndWriting
 -- Outputs whose first numbers were written.

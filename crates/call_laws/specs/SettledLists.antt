@@ -13,14 +13,15 @@ use Rattle.model.specs.Rules.{NoRule}
 use Rattle.model.specs.Strategy as strategy
 use Rattle.model.specs.Sheet.{options-in, nodes-in, is-sheet, clauses-in, is-unit, Falsum}
 use Rattle.calls.specs.Outcomes.{if-accepted}
-use Rattle.calls.specs.History.{Call, choose, step, run, State, after-call, after-calls, Account, account-call, says-settled, ends-settled}
+use Rattle.calls.specs.Lines.{State}
+use Rattle.calls.specs.History.{Call, key, withdraw, step, run, after-call, after-calls, Account, account-call, says-settled, ends-settled}
 use Rattle.theory_forms.specs.Logic.{true-false, either}
 use Rattle.theory_meaning.specs.Clauses.{clauses-root}
 use Rattle.theory_forms.specs.Shape.{shaped-decode}
 use Rattle.call_laws.specs.Normal.{normal-form, falsum-contradictory}
 use Rattle.theory_rewriting.specs.Runs.{run-steps, run-settled, run-stopped, run-is}
 use Rattle.theory_forms.specs.Sheets.{sheet-shaped}
-use Rattle.call_laws.specs.Effects.{Keeps, call-effect, run-outcome, run-leaves}
+use Rattle.call_laws.specs.Effects.{Agrees, call-effect, run-outcome, run-leaves}
 
 -- A run that says settled leaves a sheet to which no rule applies.
 settled-call :
@@ -29,7 +30,8 @@ settled-call :
     says-settled c t ≡ true →
     NoRule (nodes-in (after-call c t .sheet))
 unfolding says-settled after-call if-accepted
-settled-call (choose v negative) t h e = true-false (sym e)
+settled-call (key v negative) t h e = true-false (sym e)
+settled-call (withdraw b k) t h e = true-false (sym e)
 settled-call (step r p i j) t h e = true-false (sym e)
 settled-call (run b) t h e =
     let s = t .sheet in
@@ -38,14 +40,14 @@ settled-call (run b) t h e =
 
 pub ends-no-rule :
     (cs : List Call) (t : State) (a : Account) →
-    Keeps a (t .sheet) →
+    Agrees a t →
     ends-settled cs t ≡ true →
     NoRule (nodes-in (after-calls cs t .sheet))
 unfolding ends-settled after-calls
 ends-no-rule [] t a h e = true-false (sym e)
-ends-no-rule (c ∷ []) t a h e = settled-call c t (h .sheet) e
+ends-no-rule (c ∷ []) t a h e = settled-call c t (h .keeps .sheet) e
 ends-no-rule (c ∷ (d ∷ cs)) t a h e =
-    ends-no-rule (d ∷ cs) (after-call c t) (account-call c t a) (call-effect c t a h .keeps) e
+    ends-no-rule (d ∷ cs) (after-call c t) (account-call c t a) (call-effect c t a h .agrees) e
 
 -- A list says settled where its last call does.
 pub ends-last : (cs : List Call) (c : Call) (t : State) → ends-settled (cs ++ (c ∷ [])) t ≡ says-settled c (after-calls cs t)

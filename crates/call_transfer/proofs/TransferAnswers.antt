@@ -1,10 +1,9 @@
 -- What the loader and the writer answer, by the first refusal that is due.
 use mathlib.Core.Bool.{true, false}
 use mathlib.Core.List.{List}
-use mathlib.Core.Option.{Option, none, some}
-use mathlib.Core.Path.{_≡_, refl}
+use mathlib.Core.Option.{none, some}
+use mathlib.Core.Path.{_≡_}
 use Prim.Native.Nat.{ℕ, _≤_, _<_}
-use native.Mathlib.Omega.{arith}
 use borrow.Author.Tests.{eq-eqb, ne-eqb, lt-ltb, le-ltb}
 use lib.ListN.{length}
 use Rattle.model.specs.Base.{only-if, first-of, placed}
@@ -12,28 +11,10 @@ use Rattle.model.specs.Limits.{sheet-length}
 use Rattle.model.specs.Sheet.{options-in, is-sheet, sheet-of}
 use Rattle.model.specs.Book.{options-of, book-nodes, written}
 use Rattle.calls.specs.Refusals.{Refusal, sheet-refused, output-refused}
-use Rattle.calls.specs.Outcomes.{refused, accepted, answer, outcome}
+use Rattle.calls.specs.Outcomes.{refused, accepted, outcome}
 use Rattle.calls.specs.Chains.{book-refusal, load-refusal, write-refusal}
-use Rattle.calls.specs.Calls.{checkOf, loadOf, writeOf}
+use Rattle.calls.specs.Calls.{loadOf, writeOf}
 use Rattle.call_answers.specs.AnswerMeaning.{afterCall}
-
--- What a check's answer says of the book.
-module _ (b : List ℕ) where
-  pub check-none : accepted tt ≡ checkOf b → book-refusal b ≡ none
-  unfolding checkOf answer
-  check-none e = go (book-refusal b) e
-    where
-      go : (o : Option Refusal) → accepted (tt {0}) ≡ answer o (tt {0}) → o ≡ none
-      go none e = refl
-      go (some r) e = let z : _≡_ {A = ℕ} 0 1 = cc in absurd (omega arith)
-
-  pub check-some : (r : Refusal) → refused r ≡ checkOf b → book-refusal b ≡ some r
-  unfolding checkOf answer
-  check-some r e = go (book-refusal b) e
-    where
-      go : (o : Option Refusal) → refused r ≡ answer o (tt {0}) → o ≡ some r
-      go none e = let z : _≡_ {A = ℕ} 0 1 = cc in absurd (omega arith)
-      go (some q) e = cc
 
 module _ (b target : List ℕ) where
   pub load-short : (length target ≡ sheet-length → ⊥) → afterCall (refused sheet-refused) target ≡ loadOf b target

@@ -1,8 +1,8 @@
 -- What each call answers, and what each lent buffer holds after it.
 use mathlib.Core.Bool.{Bool}
 use mathlib.Core.List.{List}
-use Prim.Native.Nat.{ℕ}
-use lib.ListN.{length}
+use Prim.Native.Nat.{ℕ, _+_, _-_}
+use lib.ListN.{length, set}
 use Rattle.model.specs.Base.{maybe, placed}
 use Rattle.model.specs.Literal.{literal}
 use Rattle.model.specs.Propagation.{complete}
@@ -12,7 +12,8 @@ use Rattle.model.specs.Results.{appended, stepped, run-through}
 use Rattle.model.specs.Book.{options-of, codes-of, book-nodes, written, option-of-code}
 use Rattle.calls.specs.Outcomes.{Answer, answer, Outcome, outcome}
 use Rattle.calls.specs.Chains.{book-refusal, lookup-refusal, load-refusal, write-refusal, report-refusal}
-use Rattle.calls.specs.Chains.{complete-refusal, choose-refusal, step-refusal, run-refusal}
+use Rattle.calls.specs.Chains.{complete-refusal, key-refusal, withdraw-refusal, step-refusal, run-refusal}
+use Rattle.calls.specs.Lines.{State, counted, without, moved-up, with-marks}
 
 -- The book check.
 unfoldable pub checkOf : List ℕ → Answer (Unit {0})
@@ -42,10 +43,26 @@ reportOf s out =
 unfoldable pub completeOf : List ℕ → Answer Bool
 completeOf s = answer (complete-refusal s) (complete (report-in s))
 
--- A choice.
-unfoldable pub chooseOf : List ℕ → ℕ → Bool → Outcome (List ℕ) (Unit {0})
-chooseOf s v negative =
-    outcome (choose-refusal s v) tt s (appended s (literal v negative))
+-- A keying. Document 02, U2: "keying adds a line and the mark".
+unfoldable pub keyOf : State → ℕ → Bool → Outcome State (Unit {0})
+keyOf t v negative =
+    outcome (key-refusal t v) tt t
+    (record {
+      sheet = appended (t .sheet) (literal v negative);
+      lines = set (t .lines) (t .count) (literal v negative);
+      count = t .count + 1;
+    })
+
+-- A withdrawal. Document 02, U2: "Taking line k back (counted from 0) removes it, moves later lines up, loads the sheet afresh and keys
+-- the remaining lines in order."
+unfoldable pub withdrawOf : State → List ℕ → ℕ → Outcome State (Unit {0})
+withdrawOf t book k =
+    outcome (withdraw-refusal t book k) tt t
+    (record {
+      sheet = with-marks (sheet-of (options-of book) (book-nodes book)) (without k (counted t));
+      lines = moved-up k (t .count) (t .lines);
+      count = t .count - 1;
+    })
 
 -- A single step.
 unfoldable pub stepOf : List ℕ → ℕ → ℕ → ℕ → ℕ → Outcome (List ℕ) (Unit {0})

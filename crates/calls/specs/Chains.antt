@@ -1,5 +1,5 @@
 -- The refusals of each call in their order: "11 for the sheet; the book as 1 (under 8), 2, 1, 3, 4, 5, 6; 11 for N; then 7, 8, 9, 10;
--- last 12". The first that is due is the call's answer.
+-- last 12". Document 02, U2: 13 and 14 "both come after 11 and before 7". The first that is due is the call's answer.
 use mathlib.Core.Bool.{not}
 use mathlib.Core.List.{List}
 use mathlib.Core.Option.{Option}
@@ -12,7 +12,10 @@ use Rattle.calls.specs.Refusals.{Refusal, due, _or-else_}
 use Rattle.calls.specs.Refusals.{length-refused, head-refused, code-refused, contents-refused, body-refused, weight-refused}
 use Rattle.calls.specs.Refusals.{option-refused, full-refused, rule-refused, step-refused, sheet-refused, output-refused}
 use Rattle.calls.specs.Conditions.{lacks-head, is-length-due, has-good-codes, has-good-contents, has-good-bodies, is-light}
+use Rattle.calls.specs.Refusals.{line-refused, list-refused}
+use Rattle.calls.specs.Lines.{State}
 use Rattle.calls.specs.Conditions.{has-option, has-code, is-full, applies, is-book-of, is-long-enough, is-shorter}
+use Rattle.calls.specs.Conditions.{leaves-too-much, has-lines-in-order, has-line, has-full-list}
 
 -- What is tested of a book once its head and its length are right.
 unfoldable pub part-refusal : List ℕ → Option Refusal
@@ -50,11 +53,23 @@ report-refusal s out =
 unfoldable pub complete-refusal : List ℕ → Option Refusal
 complete-refusal s = due (not (is-sheet s)) sheet-refused
 
-unfoldable pub choose-refusal : List ℕ → ℕ → Option Refusal
-choose-refusal s v =
-    due (not (is-sheet s)) sheet-refused
-    or-else due (not (has-option s v)) option-refused
-    or-else due (is-full s) full-refused
+unfoldable pub key-refusal : State → ℕ → Option Refusal
+key-refusal t v =
+    due (not (is-sheet (t .sheet))) sheet-refused
+    or-else due (not (has-lines-in-order t)) sheet-refused
+    or-else due (has-full-list t) list-refused
+    or-else due (not (has-option (t .sheet) v)) option-refused
+    or-else due (is-full (t .sheet)) full-refused
+
+-- Document 02, U2: "Every 11 but the sheet's own is tested after 6, with that for N."
+unfoldable pub withdraw-refusal : State → List ℕ → ℕ → Option Refusal
+withdraw-refusal t b k =
+    due (not (is-sheet (t .sheet))) sheet-refused
+    or-else book-refusal b
+    or-else due (not (is-book-of (t .sheet) b)) sheet-refused
+    or-else due (not (has-lines-in-order t)) sheet-refused
+    or-else due (not (has-line t k)) line-refused
+    or-else due (leaves-too-much t b) full-refused
 
 unfoldable pub step-refusal : List ℕ → ℕ → ℕ → ℕ → ℕ → Option Refusal
 step-refusal s rule place i j =

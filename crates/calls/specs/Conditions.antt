@@ -1,16 +1,18 @@
 -- The conditions that the refusals are due on, each by its name.
-use mathlib.Core.Bool.{Bool}
+use mathlib.Core.Bool.{Bool, _&&_}
 use mathlib.Core.List.{List}
-use Prim.Native.Nat.{ℕ, _+_}
+use Prim.Native.Nat.{ℕ, _+_, _-_, _*_}
 use lib.Dec.{eqb, leb, ltb}
 use lib.ListN.{length}
 use Rattle.model.specs.Base.{all, is-some}
+use Rattle.model.specs.Literal.{option}
 use Rattle.model.specs.Code.{weight}
 use Rattle.model.specs.Rules.{step}
 use Rattle.model.specs.Limits.{usual, sheet-length, head-length, literal-weight}
 use Rattle.model.specs.Sheet.{options-in, nodes-in}
 use Rattle.model.specs.Book.{options-of, size-of, length-due, codes-of, codes-ok, contents-of, in-line, bodies-of, body-ok}
 use Rattle.model.specs.Book.{book-nodes, option-of-code}
+use Rattle.calls.specs.Lines.{most-lines, State, counted}
 
 -- "1 length (fewer than 8 bytes, or not the length due)."
 abbrev pub lacks-head : List ℕ → Bool
@@ -46,6 +48,10 @@ has-code b code = is-some (option-of-code code 0 (codes-of b))
 abbrev pub is-full : List ℕ → Bool
 is-full s = ltb (usual .weight) (weight (nodes-in s) + literal-weight)
 
+-- Document 02, U2: "Refusal 8 applies if book weight plus twice the remaining lines is over 4,096."
+abbrev pub leaves-too-much : State → List ℕ → Bool
+leaves-too-much t b = ltb (usual .weight) (weight (book-nodes b) + literal-weight * (t .count - 1))
+
 -- "10 the step does not apply."
 abbrev pub applies : List ℕ → ℕ → ℕ → ℕ → ℕ → Bool
 applies s rule place i j = is-some (step rule place i j (nodes-in s))
@@ -57,6 +63,20 @@ is-book-of s b = eqb (options-of b) (options-in s)
 abbrev pub is-long-enough : List ℕ → Bool
 is-long-enough target = eqb (length target) sheet-length
 
+-- Document 02, U2: "A count over 64, another number of slots, a counted line naming no option .. is refused 11."
+abbrev pub has-lines-in-order : State → Bool
+has-lines-in-order t =
+    eqb (length (t .lines)) most-lines
+    && leb (t .count) most-lines
+    && all (λ l. has-option (t .sheet) (option l)) (counted t)
+
 -- "12 output shorter than needed."
 abbrev pub is-shorter : List ℕ → ℕ → Bool
 is-shorter out needed = ltb (length out) needed
+
+-- Document 02, U2: "13 no such line; 14 list full."
+abbrev pub has-line : State → ℕ → Bool
+has-line t k = ltb k (t .count)
+
+abbrev pub has-full-list : State → Bool
+has-full-list t = eqb (t .count) most-lines

@@ -7,9 +7,12 @@ use lib.ListN.{replicate}
 use Rattle.model.specs.Base.{pick}
 use Rattle.model.specs.Limits.{sheet-length}
 use Rattle.model.specs.Book.{codes-of, characters}
-use Rattle.calls.specs.Refusals.{refusal-number, option-refused}
+use Rattle.model.specs.Literal.{pos}
+use Rattle.calls.specs.Refusals.{refusal-number, option-refused, list-refused}
 use Rattle.calls.specs.Outcomes.{Answer, refused, accepted, Outcome}
-use Rattle.calls.specs.Calls.{Ran, lookupOf, loadOf, chooseOf, runOf, reportOf}
+use Rattle.calls.specs.Lines.{most-lines, State}
+use Rattle.calls.specs.Conditions.{has-full-list}
+use Rattle.calls.specs.Calls.{Ran, lookupOf, loadOf, keyOf, runOf, reportOf}
 
 -- "Choices from standard input, one a line; the last may lack its line end." Byte 10 ends a line.
 unfoldable pub before-line : ℕ → List (List ℕ) → List (List ℕ)
@@ -20,27 +23,35 @@ unfoldable pub lines : List ℕ → List (List ℕ)
 lines [] = []
 lines (x ∷ xs) = pick (eqb x 10) ([] ∷ lines xs) (before-line x (lines xs))
 
--- The choice of a code's option, where there is one.
-unfoldable pub choose-found : Answer ℕ → Bool → List ℕ → Outcome (List ℕ) (Unit {0})
-choose-found (refused r) negative s = record { answer = refused r; lent = s }
-choose-found (accepted v) negative s = chooseOf s v negative
+-- The keying of a code's option, where there is one.
+unfoldable pub key-found : Answer ℕ → Bool → State → Outcome State (Unit {0})
+key-found (refused r) negative t = record { answer = refused r; lent = t }
+key-found (accepted v) negative t = keyOf t v negative
 
 -- "+ or - and a code (any other line, an empty one too, is 7)."
-unfoldable pub keyed : List ℕ → List ℕ → List ℕ → Outcome (List ℕ) (Unit {0})
-keyed book [] s = record { answer = refused option-refused; lent = s }
-keyed book (x ∷ code) s =
+unfoldable pub key-signed : List ℕ → List ℕ → State → Outcome State (Unit {0})
+key-signed book [] t = record { answer = refused option-refused; lent = t }
+key-signed book (x ∷ code) t =
     pick (eqb x 43)
-    (choose-found (lookupOf book code) false s)
-    (pick (eqb x 45) (choose-found (lookupOf book code) true s) (record { answer = refused option-refused; lent = s }))
+    (key-found (lookupOf book code) false t)
+    (pick (eqb x 45) (key-found (lookupOf book code) true t) (record { answer = refused option-refused; lent = t }))
+
+-- Document 02, U2: "its 65th line is 14 whatever it holds".
+unfoldable pub keyed : List ℕ → List ℕ → State → Outcome State (Unit {0})
+keyed book l t = pick (has-full-list t) (record { answer = refused list-refused; lent = t }) (key-signed book l t)
 
 -- "It keys them in order"; a refusal "ends the program".
-unfoldable pub go-on : Answer (Unit {0}) → List ℕ → (List ℕ → Outcome (List ℕ) (Unit {0})) → Outcome (List ℕ) (Unit {0})
-go-on (refused r) s next = record { answer = refused r; lent = s }
-go-on (accepted u) s next = next s
+unfoldable pub go-on : Answer (Unit {0}) → State → (State → Outcome State (Unit {0})) → Outcome State (Unit {0})
+go-on (refused r) t next = record { answer = refused r; lent = t }
+go-on (accepted u) t next = next t
 
-unfoldable pub all-keyed : List ℕ → List (List ℕ) → List ℕ → Outcome (List ℕ) (Unit {0})
-all-keyed book [] s = record { answer = accepted tt; lent = s }
-all-keyed book (l ∷ ls) s = go-on (keyed book l s .answer) (keyed book l s .lent) (all-keyed book ls)
+unfoldable pub all-keyed : List ℕ → List (List ℕ) → State → Outcome State (Unit {0})
+all-keyed book [] t = record { answer = accepted tt; lent = t }
+all-keyed book (l ∷ ls) t = go-on (keyed book l t .answer) (keyed book l t .lent) (all-keyed book ls)
+
+-- Document 02, U2: "The desk program begins with an empty list."
+unfoldable pub with-no-lines : List ℕ → State
+with-no-lines s = record { sheet = s; lines = replicate most-lines (pos 0); count = 0 }
 
 -- A number in decimal digits.
 unfoldable pub digits : ℕ → ℕ → List ℕ
@@ -99,8 +110,8 @@ screen-length = 512
 unfoldable pub deskOf : List ℕ → List ℕ → List ℕ
 deskOf book input =
     let loaded = loadOf book (replicate sheet-length 0) in
-    let chosen = all-keyed book (lines input) (loaded .lent) in
-    let done = runOf (chosen .lent) desk-budget in
+    let chosen = all-keyed book (lines input) (with-no-lines (loaded .lent)) in
+    let done = runOf (chosen .lent .sheet) desk-budget in
     let told = reportOf (done .lent) (replicate screen-length 0) in
     printed (loaded .answer) (λ u.
     printed (chosen .answer) (λ v.

@@ -1,6 +1,7 @@
--- What calls answer and leave, in document 01's words.
+-- What calls answer and leave, in the words of documents 01 and 02.
 pub mod Refusals
 pub mod Outcomes
+pub mod Lines
 pub mod Conditions
 pub mod Chains
 pub mod Calls

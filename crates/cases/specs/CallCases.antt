@@ -9,9 +9,10 @@ use Prim.Native.String.{String}
 use lib.ListN.{length, replicate}
 use Rattle.calls.specs.Refusals.{output-refused}
 use Rattle.calls.specs.Outcomes.{Answer, refused, accepted, Outcome}
-use Rattle.calls.specs.Calls.{Ran, loadOf, chooseOf, runOf, reportOf, completeOf}
+use Rattle.calls.specs.Lines.{State}
+use Rattle.calls.specs.Calls.{Ran, loadOf, keyOf, runOf, reportOf, completeOf}
 use Rattle.cases.specs.Opened.{definitions}
-use Rattle.cases.specs.Samples.{P, Q, R, not-P, not-Q, not-R, True, False, all-of, any-of, root, book, sheet, said, samples}
+use Rattle.cases.specs.Samples.{P, Q, R, not-P, not-Q, not-R, True, False, all-of, any-of, root, book, sheet, lined, said, samples}
 
 -- A case: its codes, its rules, its choices (the option, and whether it is barred).
 pub record Order : Type 0 where
@@ -26,9 +27,11 @@ pub record Called : Type 0 where
   pub ran : Outcome (List ℕ) Ran
   pub told : Outcome (List ℕ) Bool
 
-unfoldable pub choose-all : List (ℕ × Bool) → List ℕ → List (Outcome (List ℕ) (Unit {0}))
-choose-all [] s = []
-choose-all (c ∷ cs) s = let o = chooseOf s (c .0) (c .1) in o ∷ choose-all cs (o .lent)
+-- The choices keyed from an empty list on: each answer, and the sheet after it. (The lines are in `LineCases`.)
+unfoldable pub key-all : List (ℕ × Bool) → State → List (Outcome (List ℕ) (Unit {0}))
+key-all [] t = []
+key-all (c ∷ cs) t =
+    let o = keyOf t (c .0) (c .1) in record { answer = o .answer; lent = o .lent .sheet } ∷ key-all cs (o .lent)
 
 -- The sheet as the last choice left it.
 unfoldable pub left-by : List ℕ → List (Outcome (List ℕ) (Unit {0})) → List ℕ
@@ -40,7 +43,7 @@ unfoldable pub call : Order → Called
 call c =
     let bytes = book (c .codes) (c .rules) in
     let loaded = loadOf bytes (replicate 4098 7) in
-    let chosen = choose-all (c .choices) (loaded .lent) in
+    let chosen = key-all (c .choices) (lined (loaded .lent) [] 0) in
     let ran = runOf (left-by (loaded .lent) chosen) 100 in
     record {
       loaded = loaded;
@@ -123,7 +126,7 @@ pub starred-by-calls :
     ∷ comes-to (root 1 ∷ False ∷ []) 0 (root 1 ∷ False ∷ []) true []
     ∷ comes-to (root 1 ∷ True ∷ []) 1 (root 0 ∷ []) false []
     ∷ []
-unfolding definitions samples choose-all left-by call orders
+unfolding definitions samples key-all left-by call orders
 starred-by-calls = refl
 
 -- Sheets before any step: every option in or out; one open; contradictory, though every option is forced; no option.
@@ -194,8 +197,8 @@ budgets-kept = refl
 -- "one any-of with 2,047 marks is accepted and a choice is then refused 8".
 unfoldable pub last-choices : List ℕ
 last-choices =
-    said (chooseOf (sheet 1 (root 1 ∷ any-of 2046 ∷ replicate 2046 P)) 0 true .answer)
-    ∷ said (chooseOf (sheet 1 (root 1 ∷ any-of 2047 ∷ replicate 2047 P)) 0 true .answer)
+    said (keyOf (lined (sheet 1 (root 1 ∷ any-of 2046 ∷ replicate 2046 P)) [] 0) 0 true .answer)
+    ∷ said (keyOf (lined (sheet 1 (root 1 ∷ any-of 2047 ∷ replicate 2047 P)) [] 0) 0 true .answer)
     ∷ []
 
 pub last-choices-answered : last-choices ≡ 0 ∷ 8 ∷ []

@@ -5,9 +5,10 @@ use mathlib.Core.Path.{_≡_, refl}
 use Prim.Native.Nat.{ℕ}
 use Prim.Native.String.{String}
 use lib.ListN.{replicate}
-use Rattle.calls.specs.Desk.{first-line, deskOf}
+use Rattle.model.specs.Literal.{pos}
+use Rattle.calls.specs.Desk.{lines, all-keyed, with-no-lines, first-line, deskOf}
 use Rattle.cases.specs.Opened.{definitions}
-use Rattle.cases.specs.Samples.{text, P, Q, True, any-of, book, first-book, samples}
+use Rattle.cases.specs.Samples.{text, P, Q, True, any-of, root, book, first-book, sheet, lined, said, samples}
 
 -- A book with these choices keyed.
 unfoldable pub keyed-on : List ℕ → String → List ℕ
@@ -76,3 +77,16 @@ first-lines =
 pub first-lines-printed : first-lines ≡ map text ("settled 12\n" ∷ "stopped 305\n" ∷ "contradiction 99\n" ∷ [])
 unfolding definitions samples first-lines
 first-lines-printed = refl
+
+-- Document 02, U2: "The desk program begins with an empty list; its 65th line is 14 whatever it holds". With 62 lines keyed: two good
+-- lines, with and without the last line end; a third that is good, empty, of no option; an earlier refusal ends the program first.
+unfoldable pub last-lines : List ℕ
+last-lines =
+    let full = lined (sheet 1 (root 0 ∷ [])) (replicate 64 (pos 0)) 62 in
+    with-no-lines [] .count
+    ∷ map (λ input. said (all-keyed (book ("P" ∷ []) []) (lines (text input)) full .answer))
+    ("+P\n+P" ∷ "+P\n+P\n" ∷ "+P\n+P\n+P" ∷ "+P\n+P\n\n" ∷ "+P\n+P\n*X" ∷ "+P\n+X\n+P" ∷ [])
+
+pub last-lines-answered : last-lines ≡ 0 ∷ 0 ∷ 0 ∷ 14 ∷ 14 ∷ 14 ∷ 7 ∷ []
+unfolding definitions samples last-lines
+last-lines-answered = refl

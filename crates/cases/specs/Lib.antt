@@ -6,5 +6,6 @@ pub mod DeskCases
 pub mod BookCases
 pub mod SheetCases
 pub mod StepCases
+pub mod LineCases
 pub mod ListCases
 pub mod OrderCases

@@ -1,38 +1,39 @@
 -- Lists of calls, refused ones among them: the account, the steps, the end, the stretches and their bound.
 use mathlib.Core.Bool.{Bool, true, false}
-use mathlib.Core.List.{List, [], _∷_}
+use mathlib.Core.List.{List, [], _∷_, _++_, map}
 use mathlib.Core.Path.{_≡_, refl}
 use Prim.Native.Nat.{ℕ}
-use Rattle.model.specs.Literal.{pos, neg}
+use Rattle.model.specs.Literal.{Literal, pos, neg}
 use Rattle.model.specs.Strategy.{most-steps}
 use Rattle.model.specs.Sheet.{nodes-in}
-use Rattle.calls.specs.History.{Call, choose, step, run, State, after-calls, Account, loaded, account-calls, meaning, is-stretch}
+use Rattle.calls.specs.Lines.{State, counted}
+use Rattle.calls.specs.History.{Call, key, withdraw, step, run, after-calls, Account, loaded, account-calls, meaning, is-stretch}
 use Rattle.calls.specs.History.{steps-of, ends-settled}
 use Rattle.cases.specs.Opened.{definitions}
-use Rattle.cases.specs.Samples.{P, Q, not-Q, any-of, root, book, first-book, sheet, samples}
+use Rattle.cases.specs.Samples.{P, Q, not-P, not-Q, any-of, root, book, first-book, sheet, lined, samples}
 
 -- "P or Q": the book, the sheet that the loader fills from it (`CallCases`), and the sheet with "choice not Q".
 unfoldable pub P-or-Q : List ℕ
 P-or-Q = book ("P" ∷ "Q" ∷ []) ((any-of 2 ∷ P ∷ Q ∷ []) ∷ [])
 
 unfoldable pub start : State
-start = record { sheet = sheet 2 (root 1 ∷ any-of 2 ∷ P ∷ Q ∷ []) }
+start = lined (sheet 2 (root 1 ∷ any-of 2 ∷ P ∷ Q ∷ [])) [] 0
 
 unfoldable pub after-first-choice : State
-after-first-choice = record { sheet = sheet 2 (root 2 ∷ any-of 2 ∷ P ∷ Q ∷ not-Q ∷ []) }
+after-first-choice = lined (sheet 2 (root 2 ∷ any-of 2 ∷ P ∷ Q ∷ not-Q ∷ [])) (neg 1 ∷ []) 1
 
 -- A stretch: no such option, a run of one step, a step that does not apply, one that does.
 unfoldable pub stretch : List Call
-stretch = choose 2 false ∷ run 1 ∷ step 1 0 0 0 ∷ step 5 1 1 0 ∷ []
+stretch = key 2 false ∷ run 1 ∷ step 1 0 0 0 ∷ step 5 1 1 0 ∷ []
 
 -- A choice, that stretch, another choice, a run to the end.
 unfoldable pub whole : List Call
 whole =
-    choose 1 true ∷ choose 2 false ∷ run 1 ∷ step 1 0 0 0 ∷ step 5 1 1 0 ∷ choose 0 false ∷ run 20 ∷ []
+    key 1 true ∷ key 2 false ∷ run 1 ∷ step 1 0 0 0 ∷ step 5 1 1 0 ∷ key 0 false ∷ run 20 ∷ []
 
 -- No sheet at all, so that every call is refused.
 unfoldable pub no-sheet : State
-no-sheet = record { sheet = 2 ∷ 1 ∷ [] }
+no-sheet = lined (2 ∷ 1 ∷ []) [] 0
 
 pub record Listed : Type 0 where
   pub accounts : List Account
@@ -45,21 +46,21 @@ unfoldable pub listed : Listed
 listed =
     record {
       accounts =
-          account-calls whole start (loaded P-or-Q) ∷ account-calls whole no-sheet (loaded P-or-Q) ∷ [];
+          account-calls whole start (loaded P-or-Q start) ∷ account-calls whole no-sheet (loaded P-or-Q no-sheet) ∷ [];
       left = after-calls whole start .sheet ∷ after-calls whole no-sheet .sheet ∷ [];
       steps = steps-of whole start ∷ steps-of stretch after-first-choice ∷ steps-of whole no-sheet ∷ [];
       ends =
           ends-settled whole start
           ∷ ends-settled (run 1 ∷ []) after-first-choice
-          ∷ ends-settled (choose 1 true ∷ []) start
+          ∷ ends-settled (key 1 true ∷ []) start
           ∷ ends-settled [] start
           ∷ ends-settled whole no-sheet
           ∷ [];
       stretches =
           is-stretch stretch after-first-choice
           ∷ is-stretch [] start
-          ∷ is-stretch (choose 1 true ∷ []) start
-          ∷ is-stretch (choose 2 true ∷ choose 1 true ∷ []) start
+          ∷ is-stretch (key 1 true ∷ []) start
+          ∷ is-stretch (key 2 true ∷ key 1 true ∷ []) start
           ∷ [];
     }
 
@@ -68,14 +69,14 @@ pub lists-come-to :
     ≡ record {
       -- "A call is accepted when it is not refused."
       accounts =
-          record { book = P-or-Q; choices = neg 1 ∷ pos 0 ∷ [] }
-          ∷ record { book = P-or-Q; choices = [] }
+          record { book = P-or-Q; choices = neg 1 ∷ pos 0 ∷ []; ledger = neg 1 ∷ pos 0 ∷ [] }
+          ∷ record { book = P-or-Q; choices = []; ledger = [] }
           ∷ [];
       -- "Each call is lent the sheet as the call before left it, unchanged by a refused one."
       left = sheet 2 (root 2 ∷ P ∷ not-Q ∷ []) ∷ (2 ∷ 1 ∷ []) ∷ [];
       -- "The steps it does are its accepted single steps and the counts that its runs returned, added up": 1 + 1 + 3; 1 + 1; none.
       steps = 5 ∷ 2 ∷ 0 ∷ [];
-      -- A run that says settled; one that says stopped; a choice; nothing; a refused run.
+      -- A run that says settled; one that says stopped; a keying; nothing; a refused run.
       ends = true ∷ false ∷ false ∷ false ∷ false ∷ [];
       -- "A stretch is any unbroken part of the list that holds no accepted choice."
       stretches = true ∷ true ∷ false ∷ false ∷ [];
@@ -86,7 +87,7 @@ lists-come-to = refl
 -- "With the choices they mean these clauses: those of every body, and for each accepted choice the clause of its mark alone." Of P or (P
 -- and Q) these are P, P and P, Q.
 pub account-means :
-    meaning (record { book = first-book; choices = neg 1 ∷ pos 0 ∷ [] })
+    meaning (record { book = first-book; choices = neg 1 ∷ pos 0 ∷ []; ledger = pos 1 ∷ [] })
     ≡ (pos 0 ∷ pos 0 ∷ []) ∷ (pos 0 ∷ pos 1 ∷ []) ∷ (neg 1 ∷ []) ∷ (pos 0 ∷ []) ∷ []
 unfolding definitions samples
 account-means = refl
@@ -95,3 +96,65 @@ account-means = refl
 pub stretch-bound : most-steps (nodes-in (after-first-choice .sheet)) ≡ 1331
 unfolding definitions samples after-first-choice
 stretch-bound = refl
+
+-- Document 02, U2, in lists. The first lines hold "not Q", which was never keyed, and count it. P is keyed, a run stops after one step,
+-- and P, line 1, is taken back.
+unfoldable pub unkeyed : State
+unkeyed = lined (sheet 2 (root 1 ∷ any-of 2 ∷ P ∷ Q ∷ [])) (neg 1 ∷ []) 1
+
+unfoldable pub taking-back : List Call
+taking-back = key 0 false ∷ run 1 ∷ withdraw P-or-Q 1 ∷ []
+
+-- Another book of two options: the rule "not P".
+unfoldable pub other-book : List ℕ
+other-book = book ("P" ∷ "Q" ∷ []) ((not-P ∷ []) ∷ [])
+
+pub record Taken : Type 0 where
+  pub accounts : List Account
+  pub sheets : List (List ℕ)
+  pub lines-are : List Literal
+  pub stretches : List Bool
+  pub steps : ℕ
+
+unfoldable pub taken : Taken
+taken =
+    let first = loaded P-or-Q unkeyed in
+    let refused = key 0 false ∷ withdraw P-or-Q 2 ∷ withdraw first-book 18446744073709551616 ∷ [] in
+    let other = key 0 false ∷ withdraw other-book 0 ∷ [] in
+    let none = taking-back ++ (withdraw P-or-Q 0 ∷ run 20 ∷ []) in
+    record {
+      accounts =
+          map (λ cs. account-calls cs unkeyed first) (taking-back ∷ refused ∷ other ∷ []);
+      sheets = map (λ cs. after-calls cs unkeyed .sheet) (taking-back ∷ other ∷ none ∷ []);
+      lines-are = counted (after-calls taking-back unkeyed);
+      stretches =
+          is-stretch (withdraw P-or-Q 1 ∷ []) unkeyed
+          ∷ is-stretch (withdraw P-or-Q 0 ∷ []) unkeyed
+          ∷ [];
+      steps = steps-of none unkeyed;
+    }
+
+pub taken-come-to :
+    taken
+    ≡ record {
+      -- A line that was never keyed is no choice, until the first accepted withdrawal: then "the accepted choices are the lines still
+      -- standing", "and the loaded rules are those of the book lent to it". Refused ones change nothing.
+      accounts =
+          record { book = P-or-Q; choices = neg 1 ∷ []; ledger = neg 1 ∷ [] }
+          ∷ record { book = P-or-Q; choices = pos 0 ∷ []; ledger = neg 1 ∷ pos 0 ∷ [] }
+          ∷ record { book = other-book; choices = pos 0 ∷ []; ledger = pos 0 ∷ [] }
+          ∷ [];
+      -- "The run's work is dropped."
+      sheets =
+          sheet 2 (root 2 ∷ any-of 2 ∷ P ∷ Q ∷ not-Q ∷ [])
+          ∷ sheet 2 (root 2 ∷ not-P ∷ P ∷ [])
+          ∷ sheet 2 (root 1 ∷ any-of 2 ∷ P ∷ Q ∷ [])
+          ∷ [];
+      lines-are = neg 1 ∷ [];
+      -- A refused withdrawal is in a stretch; an accepted one is in none, "even if no line is left".
+      stretches = true ∷ false ∷ [];
+      -- "The next run counts from zero": the one step before, and none after, as no rule applies.
+      steps = 1;
+    }
+unfolding definitions samples P-or-Q unkeyed taking-back other-book taken
+taken-come-to = refl

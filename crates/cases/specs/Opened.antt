@@ -14,6 +14,7 @@ use Rattle.model.specs.Results
 use Rattle.model.specs.Book
 use Rattle.calls.specs.Refusals
 use Rattle.calls.specs.Outcomes
+use Rattle.calls.specs.Lines
 use Rattle.calls.specs.Chains
 use Rattle.calls.specs.Calls
 use Rattle.calls.specs.History
@@ -71,17 +72,18 @@ of-books = tt
 of-calls : Unit {0}
 unfolding Refusals.refusal-number Outcomes.answer Outcomes.if-accepted Outcomes.outcome Chains.part-refusal Chains.book-refusal
     Chains.lookup-refusal Chains.load-refusal Chains.write-refusal Chains.report-refusal Chains.complete-refusal
-    Chains.choose-refusal Chains.step-refusal Chains.run-refusal Calls.checkOf Calls.lookupOf Calls.loadOf Calls.writeOf
-    Calls.reportOf Calls.completeOf Calls.chooseOf Calls.stepOf Calls.runOf
+    Chains.key-refusal Chains.withdraw-refusal Chains.step-refusal Chains.run-refusal Calls.checkOf Calls.lookupOf Calls.loadOf Calls.writeOf
+    Calls.reportOf Calls.completeOf Calls.keyOf Calls.withdrawOf Calls.stepOf Calls.runOf Lines.without
+    Lines.moved-up Lines.with-marks
 of-calls = tt
 
 of-lists : Unit {0}
 unfolding History.after-call History.after-calls History.account-call History.account-calls History.choice-clauses History.meaning
-    History.chooses History.is-stretch History.steps-of-call History.steps-of History.says-settled History.ends-settled
+    History.rekeys History.is-stretch History.steps-of-call History.steps-of History.says-settled History.ends-settled
 of-lists = tt
 
 of-desk : Unit {0}
-unfolding Desk.before-line Desk.lines Desk.choose-found Desk.keyed Desk.go-on Desk.all-keyed Desk.digits Desk.decimal
+unfolding Desk.before-line Desk.lines Desk.key-found Desk.key-signed Desk.keyed Desk.go-on Desk.all-keyed Desk.with-no-lines Desk.digits Desk.decimal
     Desk.refused-word Desk.contradiction-word Desk.settled-word Desk.stopped-word Desk.mark-word Desk.line Desk.printed
     Desk.first-line Desk.option-lines Desk.desk-budget Desk.screen-length Desk.deskOf
 of-desk = tt

@@ -7,9 +7,10 @@ use mathlib.Core.Path.{_≡_, refl}
 use Prim.Native.Nat.{ℕ}
 use Prim.Native.String.{String}
 use lib.ListN.{replicate}
-use Rattle.calls.specs.Calls.{checkOf, lookupOf, loadOf, writeOf, reportOf, completeOf, chooseOf, stepOf, runOf}
+use Rattle.model.specs.Literal.{pos}
+use Rattle.calls.specs.Calls.{checkOf, lookupOf, loadOf, writeOf, reportOf, completeOf, keyOf, withdrawOf, stepOf, runOf}
 use Rattle.cases.specs.Opened.{definitions}
-use Rattle.cases.specs.Samples.{P, True, plain, any-of, root, text, codes, book-of, book, sheet, said, samples}
+use Rattle.cases.specs.Samples.{P, True, plain, any-of, root, text, codes, book-of, book, sheet, lined, said, samples}
 
 unfoldable pub checked : List ℕ → ℕ
 checked b = let bytes = b in said (checkOf bytes)
@@ -65,16 +66,13 @@ pub writing-in-order : writing ≡ (11, 1) ∷ (6, 11) ∷ (11, 12) ∷ []
 unfolding definitions samples heavy writes writing
 writing-in-order = refl
 
--- Reporting: 11 before 12, which is for an output too short and for no longer one. Choosing: 11 before 7, 7 before 8. A single step: 11
--- before 9, 9 before 10. Of the "complete" question and of a run there is 11 alone.
+-- Reporting: 11 before 12, which is for an output too short and for no longer one. A single step: 11 before 9, 9 before 10. Of the
+-- "complete" question and of a run there is 11 alone.
 unfoldable pub on-sheets : List (ℕ × ℕ)
 on-sheets =
     let s = sheet 1 (root 1 ∷ P ∷ []) in
-    let full = sheet 1 (root 1 ∷ any-of 2047 ∷ replicate 2047 P) in
     (said (reportOf [] [] .answer), said (reportOf s [] .answer))
     ∷ (said (reportOf [] (0 ∷ 0 ∷ []) .answer), said (reportOf s (0 ∷ 0 ∷ []) .answer))
-    ∷ (said (chooseOf [] 1 false .answer), said (chooseOf s 1 false .answer))
-    ∷ (said (chooseOf full 1 false .answer), said (chooseOf full 0 false .answer))
     ∷ (said (stepOf [] 0 0 0 0 .answer), said (stepOf s 0 0 0 0 .answer))
     ∷ (said (stepOf s 15 9 0 0 .answer), said (stepOf s 14 9 0 0 .answer))
     ∷ (said (completeOf []), said (completeOf s))
@@ -82,6 +80,40 @@ on-sheets =
     ∷ []
 
 pub on-sheets-in-order :
-    on-sheets ≡ (11, 12) ∷ (11, 0) ∷ (11, 7) ∷ (7, 8) ∷ (11, 9) ∷ (9, 10) ∷ (11, 0) ∷ (11, 0) ∷ []
+    on-sheets ≡ (11, 12) ∷ (11, 0) ∷ (11, 9) ∷ (9, 10) ∷ (11, 0) ∷ (11, 0) ∷ []
 unfolding definitions samples on-sheets
 on-sheets-in-order = refl
+
+-- Document 02, U2: 13 and 14 "both come after 11 and before 7". Keying: 11 for the sheet before 14; 11 for the lines before 14; 14
+-- before 7; 7 before 8.
+unfoldable pub keying : List (ℕ × ℕ)
+keying =
+    let s = sheet 1 (root 1 ∷ P ∷ []) in
+    let full = sheet 1 (root 1 ∷ any-of 2047 ∷ replicate 2047 P) in
+    let good = replicate 64 (pos 0) in
+    (said (keyOf (lined [] good 64) 1 false .answer), said (keyOf (lined s good 64) 1 false .answer))
+    ∷ (said (keyOf (lined s (replicate 64 (pos 1)) 64) 1 false .answer), said (keyOf (lined full good 64) 1 false .answer))
+    ∷ (said (keyOf (lined full good 63) 1 false .answer), said (keyOf (lined full good 63) 0 false .answer))
+    ∷ []
+
+pub keying-in-order : keying ≡ (11, 14) ∷ (11, 14) ∷ (7, 8) ∷ []
+unfolding definitions samples keying
+keying-in-order = refl
+
+-- Taking back: 11 for the sheet before 1; 6 before 11 for N; "every 11 but the sheet's own is tested after 6, with that for N", so 11 for
+-- lines before 13; 13 before 8.
+unfoldable pub withdrawing : List (ℕ × ℕ)
+withdrawing =
+    let s = sheet 1 (root 0 ∷ []) in
+    let none = book ("P" ∷ []) [] in
+    let most = book ("P" ∷ []) ((any-of 2047 ∷ replicate 2047 P) ∷ []) in
+    (said (withdrawOf (lined [] [] 0) [] 0 .answer), said (withdrawOf (lined s [] 0) [] 0 .answer))
+    ∷ (said (withdrawOf (lined s [] 0) (heavy True) 0 .answer), said (withdrawOf (lined s [] 0) (replicate 8 0) 0 .answer))
+    ∷ (said (withdrawOf (lined s [] 65) (heavy True) 0 .answer), said (withdrawOf (lined s [] 65) none 0 .answer))
+    ∷ (said (withdrawOf (lined s (pos 1 ∷ []) 1) none 1 .answer), said (withdrawOf (lined s (pos 0 ∷ []) 1) none 1 .answer))
+    ∷ (said (withdrawOf (lined s (pos 0 ∷ pos 0 ∷ []) 2) most 2 .answer), said (withdrawOf (lined s (pos 0 ∷ pos 0 ∷ []) 2) most 1 .answer))
+    ∷ []
+
+pub withdrawing-in-order : withdrawing ≡ (11, 1) ∷ (6, 11) ∷ (6, 11) ∷ (11, 13) ∷ (13, 8) ∷ []
+unfolding definitions samples heavy withdrawing
+withdrawing-in-order = refl

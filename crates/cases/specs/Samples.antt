@@ -5,8 +5,10 @@ use Prim.Native.Char
 use Prim.Native.String
 use Prim.Native.String.{String}
 use lib.ListN.{length, replicate}
+use Rattle.model.specs.Literal.{Literal, pos}
 use Rattle.calls.specs.Refusals.{refusal-number}
 use Rattle.calls.specs.Outcomes.{Answer, refused, accepted}
+use Rattle.calls.specs.Lines.{State}
 
 -- The bytes of a text.
 unfoldable pub text : String → List ℕ
@@ -97,6 +99,10 @@ first-book =
 unfoldable pub sheet : ℕ → List ℕ → List ℕ
 sheet n nodes = n ∷ length nodes ∷ nodes ++ replicate (4096 - length nodes) 0
 
+-- A sheet, lines at the start of "64 slots" and their count; the other slots hold the option 600, taken.
+unfoldable pub lined : List ℕ → List Literal → ℕ → State
+lined s ls count = record { sheet = s; lines = ls ++ replicate (64 - length ls) (pos 600); count = count }
+
 -- "A refusal is its number alone." Of an answer: 0 where the call is accepted.
 unfoldable pub said : {A : Type 0} → Answer A → ℕ
 said (refused r) = refusal-number r
@@ -104,5 +110,5 @@ said (accepted a) = 0
 
 -- What all of these see through, by one name.
 unfoldable pub samples : Unit {0}
-unfolding text low-first codes book-of pairs joined book first-book sheet said
+unfolding text low-first codes book-of pairs joined book first-book sheet lined said
 samples = tt

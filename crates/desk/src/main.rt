@@ -1,6 +1,6 @@
 // The desk program: reads the option book `book.bin` and the choices on standard input, and prints what the order gives. All that is
 // decided is decided by `desk_session::session`, which is proved to give every byte; here the bytes are only read and written. No more
-// than 65,536 of either are read: the rest cannot change what is printed (`sessions`: `Buffers.desk-cut`). Where choices are typed at
+// than 65,536 of either are read: the rest cannot change what is printed (`desk_session`: `Buffers.desk-cut`). Where choices are typed at
 // a terminal, standard error has a word on how, and why a line was refused; where they are piped, nothing is written there.
 ghost use Prim.Native.Nat.{_≤_};
 ghost use lib.ListN.{length};
@@ -90,15 +90,8 @@ fn refused_line(book: &[u8], input: &[u8]) -> Line
     }
 }
 
-// The words for a refusal by its digit: of a book (1 to 6), or of a line.
-fn say_why(book: &[u8], input: &[u8], digit: u8) {
-    if digit < b'7' {
-        io::write_all(
-            STDERR_FILENO,
-            b"book.bin is no book that can be used; tools/book check says why.\n",
-        );
-        return;
-    }
+// The words for a refusal of a line by its last digit: 7, 8 or 14.
+fn say_line(book: &[u8], input: &[u8], digit: u8) {
     let line = refused_line(book, input);
     let from = line.from;
     let to = line.to;
@@ -111,8 +104,27 @@ fn say_why(book: &[u8], input: &[u8], digit: u8) {
             STDERR_FILENO,
             b"\", is not + or - and a code of this book.\n",
         );
-    } else {
+    } else if digit == b'8' {
         io::write_all(STDERR_FILENO, b"\", finds the sheet full.\n");
+    } else {
+        io::write_all(
+            STDERR_FILENO,
+            b"\", is one too many: an order has at most 64 lines.\n",
+        );
+    }
+}
+
+// The words for a refusal by its digits, of which the second is a line end where there is but one: of a book (1 to 6), or of a line.
+fn say_why(book: &[u8], input: &[u8], first: u8, second: u8) {
+    if second != 10 {
+        say_line(book, input, second);
+    } else if first < b'7' {
+        io::write_all(
+            STDERR_FILENO,
+            b"book.bin is no book that can be used; tools/book check says why.\n",
+        );
+    } else {
+        say_line(book, input, first);
     }
 }
 
@@ -129,6 +141,6 @@ fn main() {
     let k = desk_session::session(&book[..n], &input[..m], &mut out);
     io::write_all(STDOUT_FILENO, &out[..k]);
     if typed && out[0] == b'r' {
-        say_why(&book[..n], &input[..m], out[8]);
+        say_why(&book[..n], &input[..m], out[8], out[9]);
     }
 }

@@ -1,14 +1,19 @@
-// Choices keyed on a sheet, a line each.
+// The desk's lines: choices keyed one after another.
 ghost use mathlib.Core.Path.{_≡_};
+ghost use mathlib.Core.Bool.{_||_};
 ghost use Prim.Native.Nat.{_≤_};
+ghost use lib.Dec.{eqb};
 ghost use lib.ListN.{length};
-ghost use Rattle.calls.specs.Calls.{lookupOf};
-ghost use Rattle.calls.specs.Desk.{lines, «choose-found», keyed, «all-keyed»};
-ghost use Rattle.call_answers.specs.AnswerMeaning.{doneOf, foundOf, afterCall};
-ghost use Rattle.desk_keying.specs.Endings.{ending, dropped};
+ghost use Rattle.calls.specs.Desk.{lines, «all-keyed», «with-no-lines»};
+ghost use Rattle.call_answers.specs.AnswerMeaning.{doneOf, foundOf, afterCall, onSheet};
+ghost use Rattle.order_lines.specs.LineMeaning.{order};
+ghost use Rattle.desk_keying.specs.Endings.{ending, asked, lineKeyed, dropped};
 use call_answers::Done;
 use call_answers::Found;
 use call_answers::Refusal;
+use order_lines::Line;
+use order_lines::MOST_LINES;
+use order_lines::SLOTS;
 
 // Why there is no number, of an answer that gives one or is refused.
 fn without_number(found: Found) -> Done
@@ -20,35 +25,53 @@ fn without_number(found: Found) -> Done
     Done::Accepted
 }
 
-// The choice of a code's option, taken or barred.
-fn choose_code(book: &[u8], code: &[u8], negative: bool, sheet: &mut [u16]) -> Done
-    ensures { λ r. ⌜
-        afterCall (doneOf r) (now (sheet .exit))
-        ≡ «choose-found» (lookupOf (now (book .entry)) (now (code .entry))) negative (now (sheet .entry)) ⌝ }
+// A plus or a minus.
+fn is_sign(x: u8) -> bool
+    ensures { λ r. ⌜ r ≡ (eqb x 43 || eqb x 45) ⌝ }
 {
-    let found = call_books::lookup(book, code);
-    let Found::Value(v) = found else {
-        return without_number(found);
-    };
-    call_choice::choose(sheet, v as u16, negative)
+    if x == 43 {
+        return true;
+    }
+    x == 45
 }
 
-// One line: a sign and a code.
-pub fn key_line(book: &[u8], line: &[u8], sheet: &mut [u16]) -> Done
-    ensures { λ r. ⌜
-        afterCall (doneOf r) (now (sheet .exit))
-        ≡ keyed (now (book .entry)) (now (line .entry)) (now (sheet .entry)) ⌝ }
+// The option that a line asks for, by its sign and its code.
+fn read_line(book: &[u8], line: &[u8]) -> Found
+    ensures { λ r. ⌜ foundOf r ≡ asked (now (book .entry)) (now (line .entry)) ⌝ }
 {
     if line.len() == 0 {
-        return Done::Refused(Refusal::Unknown);
+        return Found::Refused(Refusal::Unknown);
     }
-    if line[0] == 43 {
-        return choose_code(book, &line[1..], false, sheet);
+    if !is_sign(line[0]) {
+        return Found::Refused(Refusal::Unknown);
     }
-    if line[0] == 45 {
-        return choose_code(book, &line[1..], true, sheet);
+    call_books::lookup(book, &line[1..])
+}
+
+// One line keyed beside those before it. Answers the option that it names.
+pub fn key_line(
+    book: &[u8],
+    line: &[u8],
+    sheet: &mut [u16],
+    lines: [Line; SLOTS],
+    count: u16,
+) -> Found
+    ensures { λ r. ⌜
+        afterCall (foundOf r) (now (sheet .exit))
+        ≡ lineKeyed (now (book .entry)) (now (line .entry)) (order (now (sheet .entry)) lines count) ⌝ }
+{
+    if count == MOST_LINES {
+        return Found::Refused(Refusal::List);
     }
-    Done::Refused(Refusal::Unknown)
+    let found = read_line(book, line);
+    let Found::Value(v) = found else {
+        return found;
+    };
+    let answer = call_keying::key(sheet, lines, count, v as u64, line[0] == 45);
+    if let Done::Refused(r) = answer {
+        return Found::Refused(r);
+    }
+    Found::Value(v)
 }
 
 // Where the first line ends: the place of its line end, or the end of the input.
@@ -67,19 +90,29 @@ fn line_end(s: &[u8]) -> usize
     i
 }
 
-// All lines, in order, until one is refused.
+// All lines, in order, until one is refused: the desk begins with no lines, and keeps those that it keyed.
 pub fn key_lines(book: &[u8], input: &[u8], sheet: &mut [u16]) -> Done
     ensures { λ r. ⌜
         afterCall (doneOf r) (now (sheet .exit))
-        ≡ «all-keyed» (now (book .entry)) (lines (now (input .entry))) (now (sheet .entry)) ⌝ }
+        ≡ onSheet («all-keyed» (now (book .entry)) (lines (now (input .entry))) («with-no-lines» (now (sheet .entry)))) ⌝ }
 {
+    let mut keyed = [Line {
+        option: 0,
+        negative: false,
+    }; SLOTS];
+    let mut count: u16 = 0;
     let mut at = 0;
     while at < input.len() {
         let end = at + line_end(&input[at..]);
-        let answer = key_line(book, &input[at..end], sheet);
-        let Done::Accepted = answer else {
-            return answer;
+        let found = key_line(book, &input[at..end], sheet, keyed, count);
+        let Found::Value(v) = found else {
+            return without_number(found);
         };
+        keyed[common_nodes::wide16(count)] = Line {
+            option: v as u16,
+            negative: input[at] == 45,
+        };
+        count += 1;
         at = if end < input.len() { end + 1 } else { end };
     }
     Done::Accepted

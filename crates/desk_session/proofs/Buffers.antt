@@ -1,4 +1,4 @@
--- The first 65,536 bytes of a book and of the choices decide what is printed, so that a program may read no more.
+-- The first 65,536 bytes of a book and the first 961 of the choices decide what is printed, so that a program may read no more.
 use mathlib.Core.Bool.{Bool, true, false, not, _&&_}
 use mathlib.Core.List.{List, [], _∷_}
 use mathlib.Core.Logic.{⊎-elim}
@@ -6,34 +6,29 @@ use mathlib.Core.Option.{Option, none, some}
 use mathlib.Core.Path.{_≡_, refl, sym, ap, _∙_}
 use Prim.Native.Nat.{ℕ, zero, suc, _+_, _-_, _*_, _≤_, _<_}
 use native.Mathlib.Omega.{arith}
-use borrow.Author.Tests.{le-ltb, ne-eqb, ltb-true, ltb-false}
+use borrow.Author.Tests.{le-ltb, eq-eqb, ne-eqb, ltb-true, ltb-false}
 use lib.Dec.{eqb, ltb}
 use lib.ListN.{length, take, drop, getD, replicate, length-take, length-replicate}
 use lib.Seq.{take-all, take-nil, take-take, getD-take, length-take-le}
 use Rattle.model.specs.Base.{pick, same-list, first-of, only-if, is-some, maybe}
-use Rattle.model.specs.Literal.{Literal, option, literal}
-use Rattle.model.specs.Code.{weight}
-use Rattle.model.specs.Sheet.{options-in, nodes-in, sheet-of, chosen}
 use Rattle.model.specs.Book.{word, options-of, rules-of, size-of, head-in-limits, length-due, same-code, characters, pieces}
 use Rattle.model.specs.Book.{codes-of, option-of-code}
-use Rattle.model.specs.Limits.{most-weight, literal-weight, sheet-length}
-use Rattle.model.specs.Results.{appended}
-use Rattle.calls.specs.Refusals.{Refusal, length-refused, head-refused, option-refused}
+use Rattle.model.specs.Limits.{sheet-length}
+use Rattle.calls.specs.Refusals.{Refusal, length-refused, head-refused, option-refused, list-refused}
 use Rattle.calls.specs.Outcomes.{Answer, refused, accepted, answer, Outcome, outcome}
-use Rattle.calls.specs.Chains.{book-refusal, lookup-refusal, choose-refusal}
-use Rattle.calls.specs.Calls.{lookupOf, loadOf, chooseOf}
-use Rattle.calls.specs.Desk.{lines, choose-found, keyed, go-on, all-keyed, printed, deskOf}
-use Rattle.call_laws.specs.Accepted.{choose-accepted}
+use Rattle.calls.specs.Lines.{Line, most-lines, State}
+use Rattle.calls.specs.Conditions.{has-full-list}
+use Rattle.calls.specs.Chains.{book-refusal, lookup-refusal, key-refusal}
+use Rattle.calls.specs.Calls.{lookupOf, loadOf, keyOf}
+use Rattle.calls.specs.Desk.{lines, key-found, key-signed, keyed, go-on, all-keyed, with-no-lines, printed, deskOf}
 use Rattle.theory_forms.specs.Logic.{either}
-use Rattle.theory_forms.specs.Sheets.{sheet-shaped, sheet-options, nodes-made}
-use Rattle.theory_forms.specs.Choice.{chosen-shaped, chosen-weight}
-use Rattle.call_answers.specs.AnswerMeaning.{afterCall}
+use Rattle.theory_forms.specs.Lists.{drop-take}
+use Rattle.theory_reading.specs.Stretches.{live-short}
+use Rattle.call_answers.specs.AnswerMeaning.{afterCall, onSheet}
 use Rattle.call_books.proofs.BookTests.{head-limits, length-is}
 use Rattle.call_transfer.proofs.TransferAnswers as transfer
 use Rattle.desk_keying.specs.Endings.{ending}
 use Rattle.desk_keying.proofs.KeyedLines.{first-of-lines}
-use Rattle.theory_forms.specs.Lists.{drop-take}
-use Rattle.theory_reading.specs.Stretches.{live-short}
 use Rattle.desk_session.proofs.PrintedAnswers.{chosen-lines, loaded-lines, desk-is, load-refused}
 
 -- A code of more than 13 characters is no option's.
@@ -54,12 +49,13 @@ none-spelled given (suc n) v b h =
     let short : length (characters (take 13 b)) < length given = omega (arith, live-short (take 13 b), length-take 13 b) in
     rw (longer given (characters (take 13 b)) short) (none-spelled given n (suc v) (drop 13 b) h)
 
--- What a line with such a code is refused for: its first byte and the book say it alone.
+-- What a line with such a code is refused for: its first byte, the book and the count say it alone.
 unfoldable unknown-due : List ℕ → Refusal
 unknown-due book = maybe option-refused (λ r. r) (book-refusal book)
 
-unfoldable long-due : List ℕ → ℕ → Refusal
-long-due book x = pick (eqb x 43) (unknown-due book) (pick (eqb x 45) (unknown-due book) option-refused)
+unfoldable long-due : List ℕ → State → ℕ → Refusal
+long-due book t x =
+    pick (has-full-list t) list-refused (pick (eqb x 43) (unknown-due book) (pick (eqb x 45) (unknown-due book) option-refused))
 
 lookup-long : (book code : List ℕ) → 13 < length code → lookupOf book code ≡ refused (unknown-due book)
 unfolding lookupOf lookup-refusal unknown-due codes-of is-some only-if maybe answer first-of
@@ -69,77 +65,72 @@ lookup-long book code h = rw (none-spelled code (options-of book) 0 (drop 8 book
     go none = refl
     go (some r) = refl
 
-keyed-long : (book s code : List ℕ) (x : ℕ) → 13 < length code → keyed book (x ∷ code) s ≡ afterCall (refused (long-due book x)) s
-unfolding keyed long-due choose-found pick
-keyed-long book s code x h = rw (lookup-long book code h) (go (eqb x 43) (eqb x 45))
+keyed-long :
+    (book code : List ℕ) (t : State) (x : ℕ) →
+    13 < length code →
+    keyed book (x ∷ code) t ≡ afterCall (refused (long-due book t x)) t
+unfolding keyed key-signed key-found long-due pick
+keyed-long book code t x h = rw (lookup-long book code h) (go (has-full-list t) (eqb x 43) (eqb x 45))
   where
     go :
-        (t u : Bool) →
-        pick t (afterCall {A = Unit {0}} (refused (unknown-due book)) s)
-        (pick u (afterCall (refused (unknown-due book)) s) (afterCall (refused option-refused) s))
-        ≡ afterCall (refused (pick t (unknown-due book) (pick u (unknown-due book) option-refused))) s
-    go true u = refl
-    go false true = refl
-    go false false = refl
+        (full plus minus : Bool) →
+        pick full (afterCall {A = Unit {0}} (refused list-refused) t)
+        (pick plus (afterCall (refused (unknown-due book)) t)
+        (pick minus (afterCall (refused (unknown-due book)) t) (afterCall (refused option-refused) t)))
+        ≡ afterCall (refused (pick full list-refused (pick plus (unknown-due book) (pick minus (unknown-due book) option-refused)))) t
+    go true plus minus = refl
+    go false true minus = refl
+    go false false true = refl
+    go false false false = refl
 
-literal-below : (v : ℕ) (negative : Bool) {n : ℕ} → v < n → option (literal v negative) < n
-unfolding option literal pick
-literal-below v true h = h
-literal-below v false h = h
-
--- A choice that is accepted adds two to a weight that has room for it.
-pub record Adds (s t : List ℕ) : Type 0 where
-  pub more : weight (nodes-in t) ≡ weight (nodes-in s) + literal-weight
-  pub room : weight (nodes-in s) + literal-weight ≤ most-weight
-
-choose-adds : (s : List ℕ) (v : ℕ) (negative : Bool) → chooseOf s v negative .answer ≡ accepted tt → Adds s (chooseOf s v negative .lent)
-unfolding chooseOf appended outcome
-choose-adds s v negative = go (choose-refusal s v) refl
+-- A line that is accepted is counted.
+key-counts : (t : State) (v : ℕ) (negative : Bool) → keyOf t v negative .answer ≡ accepted tt → keyOf t v negative .lent .count ≡ t .count + 1
+unfolding keyOf outcome
+key-counts t v negative = go (key-refusal t v) _
   where
-    l : Literal
-    l = literal v negative
-
-    filled : List ℕ
-    filled = sheet-of (options-in s) (chosen l (nodes-in s))
-
     go :
-        (o : Option Refusal) →
-        choose-refusal s v ≡ o →
-        outcome {A = Unit {0}} o tt s filled .answer ≡ accepted tt →
-        Adds s (outcome {A = Unit {0}} o tt s filled .lent)
-    go (some r) e f = let z : _≡_ {A = ℕ} 0 1 = cc in absurd (omega arith)
-    go none e f =
-        let w = choose-accepted s v e in
-        let form = sheet-shaped s (w .sheet) in
-        let after = chosen-shaped l form (literal-below v negative (w .known)) in
-        let heavy = chosen-weight l form in
-        let light : weight (chosen l (nodes-in s)) ≤ most-weight = omega (arith, heavy, w .room) in
-        record { more = ap weight (nodes-made (sheet-options s (w .sheet)) after light) ∙ heavy; room = w .room }
+        (o : Option Refusal) (filled : List ℕ × List Line) →
+        let done = outcome {A = Unit {0}} o tt t (record { sheet = filled .0; lines = filled .1; count = t .count + 1 }) in
+        done .answer ≡ accepted tt →
+        done .lent .count ≡ t .count + 1
+    go none filled e = refl
+    go (some r) filled e = let z : _≡_ {A = ℕ} 0 1 = cc in absurd (omega arith)
 
-found-adds :
-    (x : Answer ℕ) (negative : Bool) (s : List ℕ) →
-    choose-found x negative s .answer ≡ accepted tt →
-    Adds s (choose-found x negative s .lent)
-unfolding choose-found
-found-adds (refused r) negative s e = let z : _≡_ {A = ℕ} 0 1 = cc in absurd (omega arith)
-found-adds (accepted v) negative s e = choose-adds s v negative e
+found-counts :
+    (x : Answer ℕ) (negative : Bool) (t : State) →
+    key-found x negative t .answer ≡ accepted tt →
+    key-found x negative t .lent .count ≡ t .count + 1
+unfolding key-found
+found-counts (refused r) negative t e = let z : _≡_ {A = ℕ} 0 1 = cc in absurd (omega arith)
+found-counts (accepted v) negative t e = key-counts t v negative e
 
-keyed-adds : (book l s : List ℕ) → keyed book l s .answer ≡ accepted tt → Adds s (keyed book l s .lent)
-unfolding keyed pick
-keyed-adds book [] s e = let z : _≡_ {A = ℕ} 0 1 = cc in absurd (omega arith)
-keyed-adds book (x ∷ code) s e = go (eqb x 43) (eqb x 45) e
+signed-counts : (book l : List ℕ) (t : State) → key-signed book l t .answer ≡ accepted tt → key-signed book l t .lent .count ≡ t .count + 1
+unfolding key-signed pick
+signed-counts book [] t e = let z : _≡_ {A = ℕ} 0 1 = cc in absurd (omega arith)
+signed-counts book (x ∷ code) t e = go (eqb x 43) (eqb x 45) e
   where
-    nothing : Outcome (List ℕ) (Unit {0})
-    nothing = record { answer = refused option-refused; lent = s }
-
     go :
-        (t u : Bool) →
-        pick t (choose-found (lookupOf book code) false s) (pick u (choose-found (lookupOf book code) true s) nothing) .answer
-        ≡ accepted tt →
-        Adds s (pick t (choose-found (lookupOf book code) false s) (pick u (choose-found (lookupOf book code) true s) nothing) .lent)
-    go true u f = found-adds (lookupOf book code) false s f
-    go false true f = found-adds (lookupOf book code) true s f
+        (plus minus : Bool) →
+        let done =
+        pick plus (key-found (lookupOf book code) false t)
+        (pick minus (key-found (lookupOf book code) true t) (record { answer = refused option-refused; lent = t })) in
+        done .answer ≡ accepted tt →
+        done .lent .count ≡ t .count + 1
+    go true minus f = found-counts (lookupOf book code) false t f
+    go false true f = found-counts (lookupOf book code) true t f
     go false false f = let z : _≡_ {A = ℕ} 0 1 = cc in absurd (omega arith)
+
+keyed-counts : (book l : List ℕ) (t : State) → keyed book l t .answer ≡ accepted tt → keyed book l t .lent .count ≡ t .count + 1
+unfolding keyed pick
+keyed-counts book l t e = go (has-full-list t) e
+  where
+    go :
+        (full : Bool) →
+        let done = pick full (record { answer = refused list-refused; lent = t }) (key-signed book l t) in
+        done .answer ≡ accepted tt →
+        done .lent .count ≡ t .count + 1
+    go true f = let z : _≡_ {A = ℕ} 0 1 = cc in absurd (omega arith)
+    go false f = signed-counts book l t f
 
 -- Where the first line of cut input ends: where it did before, if the cut is behind that, and never before the cut otherwise.
 ending-cut : (n : ℕ) (xs : List ℕ) → ending xs < n → ending (take n xs) ≡ ending xs
@@ -182,21 +173,21 @@ ending-within (x ∷ xs) = go (eqb x 10) (ending-within xs)
 
 -- A first line of more than 14 bytes is refused, whatever stands after its first byte.
 long-line :
-    (book s ys : List ℕ) (x : ℕ) →
+    (book ys : List ℕ) (t : State) (x : ℕ) →
     15 ≤ ending (x ∷ ys) →
-    all-keyed book (lines (x ∷ ys)) s ≡ afterCall (refused (long-due book x)) s
+    all-keyed book (lines (x ∷ ys)) t ≡ afterCall (refused (long-due book t x)) t
 unfolding all-keyed go-on
-long-line book s ys x h = rw (first-of-lines x ys) (go (ending (x ∷ ys)) h (ending-within (x ∷ ys)))
+long-line book ys t x h = rw (first-of-lines x ys) (go (ending (x ∷ ys)) h (ending-within (x ∷ ys)))
   where
     go :
         (e : ℕ) →
         15 ≤ e →
         e ≤ length (x ∷ ys) →
-        go-on (keyed book (take e (x ∷ ys)) s .answer) (keyed book (take e (x ∷ ys)) s .lent)
+        go-on (keyed book (take e (x ∷ ys)) t .answer) (keyed book (take e (x ∷ ys)) t .lent)
         (all-keyed book (lines (drop (suc e) (x ∷ ys))))
-        ≡ afterCall (refused (long-due book x)) s
+        ≡ afterCall (refused (long-due book t x)) t
     go zero g w = absurd (omega arith)
-    go (suc e) g w = rw (keyed-long book s (take e ys) x (omega (arith, length-take-le e ys (omega arith))))
+    go (suc e) g w = rw (keyed-long book (take e ys) t x (omega (arith, length-take-le e ys (omega arith))))
 
 -- A shorter one is the same in the cut input, whose later lines are those of later bytes, cut too.
 lines-cut :
@@ -210,55 +201,77 @@ lines-cut x m ys h =
     ∙ rw (ending-cut (suc m) (x ∷ ys) h, take-take end (suc m) (x ∷ ys) (omega arith), drop-take (suc end) (suc m) (x ∷ ys))
 
 go-on-same :
-    (a : Answer (Unit {0})) (s : List ℕ) (f g : List ℕ → Outcome (List ℕ) (Unit {0})) →
-    (a ≡ accepted tt → f s ≡ g s) →
-    go-on a s f ≡ go-on a s g
+    (a : Answer (Unit {0})) (t : State) (f g : State → Outcome State (Unit {0})) →
+    (a ≡ accepted tt → f t ≡ g t) →
+    go-on a t f ≡ go-on a t g
 unfolding go-on
-go-on-same (refused r) s f g h = refl
-go-on-same (accepted u) s f g h = h refl
+go-on-same (refused r) t f g h = refl
+go-on-same (accepted u) t f g h = h refl
 
 -- One line of cut input: what is left to show is shown of what comes after it, where it is accepted.
 one-line :
-    (book s xs : List ℕ) (n : ℕ) →
+    (book xs : List ℕ) (t : State) (n : ℕ) →
     15 ≤ n →
-    ((m : ℕ) (ys t : List ℕ) → n ≤ m + 15 → Adds s t → all-keyed book (lines (take m ys)) t ≡ all-keyed book (lines ys) t) →
-    all-keyed book (lines (take n xs)) s ≡ all-keyed book (lines xs) s
+    ((m : ℕ) (ys : List ℕ) (u : State) →
+    n ≤ m + 15 →
+    u .count ≡ t .count + 1 →
+    all-keyed book (lines (take m ys)) u ≡ all-keyed book (lines ys) u) →
+    all-keyed book (lines (take n xs)) t ≡ all-keyed book (lines xs) t
 unfolding all-keyed
-one-line book s [] n h later = ap (λ l. all-keyed book (lines l) s) (take-nil n)
-one-line book s (x ∷ ys) zero h later = absurd (omega arith)
-one-line book s (x ∷ ys) (suc m) h later =
+one-line book [] t n h later = ap (λ l. all-keyed book (lines l) t) (take-nil n)
+one-line book (x ∷ ys) t zero h later = absurd (omega arith)
+one-line book (x ∷ ys) t (suc m) h later =
     ⊎-elim
-    (λ t. short (ltb-true (ending (x ∷ ys)) 15 t))
-    (λ t.
-    let e = ltb-false (ending (x ∷ ys)) 15 t in
-    long-line book s (take m ys) x (ending-least 15 (suc m) (x ∷ ys) h e) ∙ sym (long-line book s ys x e))
+    (λ b. short (ltb-true (ending (x ∷ ys)) 15 b))
+    (λ b.
+    let e = ltb-false (ending (x ∷ ys)) 15 b in
+    long-line book (take m ys) t x (ending-least 15 (suc m) (x ∷ ys) h e) ∙ sym (long-line book ys t x e))
     (either (ltb (ending (x ∷ ys)) 15))
   where
-    short : ending (x ∷ ys) < 15 → all-keyed book (lines (take (suc m) (x ∷ ys))) s ≡ all-keyed book (lines (x ∷ ys)) s
+    short : ending (x ∷ ys) < 15 → all-keyed book (lines (take (suc m) (x ∷ ys))) t ≡ all-keyed book (lines (x ∷ ys)) t
     short e =
         let end = ending (x ∷ ys) in
         let l = take end (x ∷ ys) in
         rw (lines-cut x m ys (omega arith), first-of-lines x ys)
-        (go-on-same (keyed book l s .answer) (keyed book l s .lent) _ _
-        (λ a. later (suc m - suc end) (drop (suc end) (x ∷ ys)) (keyed book l s .lent) (omega arith) (keyed-adds book l s a)))
+        (go-on-same (keyed book l t .answer) (keyed book l t .lent) _ _
+        (λ a. later (suc m - suc end) (drop (suc end) (x ∷ ys)) (keyed book l t .lent) (omega arith) (keyed-counts book l t a)))
 
--- So the first bytes decide, fifteen for each choice that the sheet has room for, and one more.
+-- With a full list any line is refused, whatever it holds.
+full-line : (book ys : List ℕ) (t : State) (x : ℕ) → t .count ≡ most-lines → all-keyed book (lines (x ∷ ys)) t ≡ afterCall (refused list-refused) t
+unfolding all-keyed keyed go-on pick
+full-line book ys t x e = rw (first-of-lines x ys, eq-eqb (t .count) most-lines e)
+
+full-cut :
+    (book xs : List ℕ) (t : State) (n : ℕ) →
+    1 ≤ n →
+    t .count ≡ most-lines →
+    all-keyed book (lines (take n xs)) t ≡ all-keyed book (lines xs) t
+full-cut book [] t n h e = ap (λ l. all-keyed book (lines l) t) (take-nil n)
+full-cut book (x ∷ ys) t zero h e = absurd (omega arith)
+full-cut book (x ∷ ys) t (suc m) h e = full-line book (take m ys) t x e ∙ sym (full-line book ys t x e)
+
+-- So the first bytes decide, fifteen for each line that the list has room for, and one more.
 keys-cut :
-    (book : List ℕ) (k n : ℕ) (xs s : List ℕ) →
-    15 * suc k ≤ n →
-    most-weight < weight (nodes-in s) + 2 + 2 * k →
-    all-keyed book (lines (take n xs)) s ≡ all-keyed book (lines xs) s
-keys-cut book zero n xs s h w = one-line book s xs n (omega arith) (λ m ys t a b. absurd (omega (arith, b .room)))
-keys-cut book (suc k) n xs s h w =
-    one-line book s xs n (omega arith) (λ m ys t a b. keys-cut book k m ys t (omega arith) (omega (arith, b .more)))
+    (book : List ℕ) (k n : ℕ) (xs : List ℕ) (t : State) →
+    15 * k + 1 ≤ n →
+    t .count + k ≡ most-lines →
+    all-keyed book (lines (take n xs)) t ≡ all-keyed book (lines xs) t
+keys-cut book zero n xs t h w = full-cut book xs t n (omega arith) (omega arith)
+keys-cut book (suc k) n xs t h w =
+    one-line book xs t n (omega arith) (λ m ys u a b. keys-cut book k m ys u (omega arith) (omega (arith, b)))
+
+-- All lines that a list takes, each of 15 bytes with its end, and a byte more.
+abbrev pub most-input : ℕ
+most-input = 15 * most-lines + 1
 
 input-cut :
-    (book input : List ℕ) (loaded : Outcome (List ℕ) (Unit {0})) →
-    loaded-lines book (take 65536 input) loaded ≡ loaded-lines book input loaded
-unfolding loaded-lines
-input-cut book input loaded =
-    ap (λ c. printed (loaded .answer) (λ u. chosen-lines book c))
-    (keys-cut book 2048 65536 input (loaded .lent) (omega arith) (omega arith))
+    (book input : List ℕ) (n : ℕ) (loaded : Outcome (List ℕ) (Unit {0})) →
+    most-input ≤ n →
+    loaded-lines book (take n input) loaded ≡ loaded-lines book input loaded
+unfolding loaded-lines with-no-lines
+input-cut book input n loaded h =
+    ap (λ c. printed (loaded .answer) (λ u. chosen-lines book (onSheet c)))
+    (keys-cut book most-lines n input (with-no-lines (loaded .lent)) h (omega arith))
 
 -- A book that is longer than any due length is refused by its head, or for its length.
 unfoldable too-long-due : List ℕ → Refusal
@@ -323,10 +336,10 @@ book-cut book input =
         sym (desk-refused (take 65536 book) (too-long-due book) (too-long (take 65536 book) (omega arith) ∙ ap some same))
         ∙ desk-refused book (too-long-due book) (too-long book (omega arith))
 
--- The first 65,536 bytes of both decide what is printed.
-pub desk-cut : (book input : List ℕ) → deskOf (take 65536 book) (take 65536 input) ≡ deskOf book input
-desk-cut book input =
-    sym (desk-is (take 65536 book) (take 65536 input))
-    ∙ input-cut (take 65536 book) input (loadOf (take 65536 book) (replicate sheet-length 0))
+-- The first 65,536 bytes of the book, and as many of the input or fewer, decide what is printed.
+pub desk-cut : (book input : List ℕ) (n : ℕ) → most-input ≤ n → deskOf (take 65536 book) (take n input) ≡ deskOf book input
+desk-cut book input n h =
+    sym (desk-is (take 65536 book) (take n input))
+    ∙ input-cut (take 65536 book) input n (loadOf (take 65536 book) (replicate sheet-length 0)) h
     ∙ desk-is (take 65536 book) input
     ∙ book-cut book input

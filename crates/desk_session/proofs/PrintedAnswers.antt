@@ -2,7 +2,7 @@
 use mathlib.Core.Bool.{Bool, true, false}
 use mathlib.Core.List.{List, [], _++_, append-nil}
 use mathlib.Core.Option.{Option, none, some}
-use mathlib.Core.Path.{_≡_, refl, sym, ap}
+use mathlib.Core.Path.{_≡_, refl, sym, ap, _∙_}
 use Prim.Native.Nat.{ℕ, _+_, _-_, _*_, _≤_, _<_}
 use native.Mathlib.Omega.{arith}
 use borrow.Author.Tests.{eq-eqb, lt-ltb, le-ltb}
@@ -17,11 +17,11 @@ use Rattle.calls.specs.Refusals.{Refusal, refusal-number}
 use Rattle.calls.specs.Outcomes.{Answer, refused, accepted, Outcome, outcome}
 use Rattle.calls.specs.Chains.{book-refusal, load-refusal}
 use Rattle.calls.specs.Calls.{Ran, loadOf, runOf, reportOf}
-use Rattle.calls.specs.Desk.{lines, all-keyed, decimal, line, printed, refused-word, contradiction-word, settled-word}
+use Rattle.calls.specs.Desk.{lines, all-keyed, with-no-lines, decimal, line, printed, refused-word, contradiction-word, settled-word}
 use Rattle.calls.specs.Desk.{stopped-word, first-line, option-lines, desk-budget, screen-length, deskOf}
 use Rattle.call_laws.specs.Books.{accepted-book}
 use Rattle.call_laws.specs.PlacedOutputs.{lines-first}
-use Rattle.call_answers.specs.AnswerMeaning.{afterCall}
+use Rattle.call_answers.specs.AnswerMeaning.{afterCall, onSheet}
 use Rattle.call_books.proofs.BookTests.{codes-room}
 use Rattle.desk_printing.specs.Placed.{after, filled}
 use Rattle.desk_printing.proofs.PlacedBytes.{length-line, placed-within}
@@ -101,7 +101,7 @@ chosen-lines book chosen = printed (chosen .answer) (λ v. ran-lines book (runOf
 
 unfoldable pub loaded-lines : List ℕ → List ℕ → Outcome (List ℕ) (Unit {0}) → List ℕ
 loaded-lines book input loaded =
-    printed (loaded .answer) (λ u. chosen-lines book (all-keyed book (lines input) (loaded .lent)))
+    printed (loaded .answer) (λ u. chosen-lines book (onSheet (all-keyed book (lines input) (with-no-lines (loaded .lent)))))
 
 pub desk-is : (book input : List ℕ) → loaded-lines book input (loadOf book (replicate sheet-length 0)) ≡ deskOf book input
 unfolding loaded-lines chosen-lines ran-lines told-lines deskOf
@@ -117,15 +117,22 @@ module _ (book input s : List ℕ) (loaded : Answer (Unit {0})) (load : afterCal
       (done : loaded ≡ accepted tt)
       (s' : List ℕ)
       (chosen : Answer (Unit {0}))
-      (key : afterCall chosen s' ≡ all-keyed book (lines input) s)
+      (key : afterCall chosen s' ≡ onSheet (all-keyed book (lines input) (with-no-lines s)))
     where
+      through : chosen-lines book (afterCall chosen s') ≡ deskOf book input
+      unfolding loaded-lines printed
+      through =
+          let all : chosen-lines book (onSheet (all-keyed book (lines input) (with-no-lines s))) ≡ deskOf book input =
+          rw (← desk-is book input, ← load, done) in
+          ap (chosen-lines book) key ∙ all
+
       pub keys-refused : (r : Refusal) → chosen ≡ refused r → printed chosen (λ u. []) ≡ deskOf book input
-      unfolding loaded-lines chosen-lines printed
-      keys-refused r e = rw (← desk-is book input, ← load, done, ← key, e)
+      unfolding chosen-lines printed
+      keys-refused r e = rw e (rw e at through)
 
       pub keys-accepted : chosen ≡ accepted tt → ran-lines book (runOf s' desk-budget) ≡ deskOf book input
-      unfolding loaded-lines chosen-lines printed
-      keys-accepted e = rw (← desk-is book input, ← load, done, ← key, e)
+      unfolding chosen-lines printed
+      keys-accepted e = rw e at through
 
 -- A book that was loaded is accepted.
 pub loaded-good :

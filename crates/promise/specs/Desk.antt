@@ -14,18 +14,19 @@ use Rattle.calls.specs.Refusals.{Refusal, refusal-number, sheet-refused}
 use Rattle.calls.specs.Outcomes.{refused, accepted, Outcome}
 use Rattle.calls.specs.Chains.{load-refusal}
 use Rattle.calls.specs.Calls.{Ran, checkOf, loadOf, runOf, reportOf}
-use Rattle.calls.specs.History.{Call, run, State, after-call, after-calls, loaded, account-calls}
-use Rattle.calls.specs.Desk.{lines, keyed, go-on, all-keyed, decimal, line, printed, refused-word}
+use Rattle.calls.specs.Lines.{State}
+use Rattle.calls.specs.History.{Call, run, after-call, after-calls, loaded, account-calls}
+use Rattle.calls.specs.Desk.{lines, keyed, go-on, all-keyed, with-no-lines, decimal, line, printed, refused-word}
 use Rattle.calls.specs.Desk.{first-line, option-lines, desk-budget, screen-length, deskOf}
 use Rattle.theory_forms.specs.Logic.{none-due}
 use Rattle.theory_meaning.specs.ExactReports.{report-tells}
 use Rattle.call_laws.specs.Accepted.{accepted-due}
-use Rattle.call_laws.specs.Effects.{run-outcome, after-append, kept-book}
+use Rattle.call_laws.specs.Effects.{Agrees, run-outcome, after-append, kept-options}
 use Rattle.call_laws.specs.PlacedOutputs.{lines-placed}
 use Rattle.call_laws.specs.Keyed.{keyed-calls, keyed-append}
 use Rattle.promise.specs.Refusals.{check-none, accepted-exactly}
 use Rattle.promise.specs.Reports.{reported}
-use Rattle.promise.specs.Lists.{Means, demand-3}
+use Rattle.promise.specs.Lists.{Means, loaded-agrees, demand-3}
 
 -- "A refusal prints only `refused` and its number, a space between."
 abbrev pub refusal-line : Refusal → List ℕ
@@ -45,15 +46,15 @@ pub record Printed (book sheet written : List ℕ) : Type 0 where
       ≡ first-line (told .contradictory) ran
       ++ pick (told .contradictory) [] (option-lines (codes-of book) (told .marks))
 
--- A sheet just loaded, as the first call of a list is lent it.
-abbrev fresh : Outcome (List ℕ) (Unit {0}) → State
-fresh o = record { sheet = o .lent }
-
 -- The program "reads `book.bin`", "then choices from standard input, one a line"; it "keys them in order, then makes one run with a
 -- budget of 100,000". A refusal "ends the program": the first that is met, of the book or of a line.
 module _ (book input : List ℕ) where
   abbrev load : Outcome (List ℕ) (Unit {0})
   load = loadOf book (replicate sheet-length 0)
+
+  -- What the first line is keyed on. Document 02, U2: "The desk program begins with an empty list."
+  abbrev first : State
+  first = with-no-lines (load .lent)
 
   pub record Desk-writes : Type 0 where
     pub book-refused :
@@ -64,13 +65,13 @@ module _ (book input : List ℕ) where
         (before rest : List (List ℕ)) (one : List ℕ) (r : Refusal) →
         (lines-are : lines input ≡ before ++ (one ∷ rest)) →
         (load-accepted : load .answer ≡ accepted tt) →
-        (earlier-accepted : all-keyed book before (load .lent) .answer ≡ accepted tt) →
-        (one-refused : keyed book one (all-keyed book before (load .lent) .lent) .answer ≡ refused r) →
+        (earlier-accepted : all-keyed book before first .answer ≡ accepted tt) →
+        (one-refused : keyed book one (all-keyed book before first .lent) .answer ≡ refused r) →
         deskOf book input ≡ refusal-line r
     pub all-accepted :
         (load-accepted : load .answer ≡ accepted tt) →
-        (lines-accepted : all-keyed book (lines input) (load .lent) .answer ≡ accepted tt) →
-        Printed book (all-keyed book (lines input) (load .lent) .lent) (deskOf book input)
+        (lines-accepted : all-keyed book (lines input) first .answer ≡ accepted tt) →
+        Printed book (all-keyed book (lines input) first .lent .sheet) (deskOf book input)
 
   -- A book that is loaded is accepted.
   loaded-book : load .answer ≡ accepted tt → checkOf book ≡ accepted tt
@@ -84,13 +85,19 @@ module _ (book input : List ℕ) where
       (good : load .answer ≡ accepted tt)
       (cs : List Call)
       (s : List ℕ)
-      (e : s ≡ after-calls cs (fresh load) .sheet)
+      (e : s ≡ after-calls cs first .sheet)
     where
       abbrev means :
           (calls : List Call) →
-          Means (account-calls calls (fresh load) (loaded book)) (after-calls calls (fresh load) .sheet)
+          Means (account-calls calls first (loaded book first)) (after-calls calls first .sheet)
+      unfolding with-no-lines
       means calls =
-          demand-3 book (replicate sheet-length 0) (loaded-book good) (length-replicate {A = ℕ} sheet-length 0) calls .means
+          demand-3 book (replicate sheet-length 0) _ 0 (loaded-book good) (length-replicate {A = ℕ} sheet-length 0) calls .means
+
+      first-agrees : Agrees (loaded book first) first
+      unfolding with-no-lines
+      first-agrees =
+          loaded-agrees book (replicate sheet-length 0) _ 0 (loaded-book good) (length-replicate {A = ℕ} sheet-length 0)
 
       keyed-sheet : is-sheet s ≡ true
       keyed-sheet = rw e (means cs .is-a-sheet)
@@ -103,14 +110,14 @@ module _ (book input : List ℕ) where
       unfolding after-calls after-call screen-length
       report-told =
           let calls = cs ++ (run desk-budget ∷ []) in
-          let after = after-append cs (run desk-budget ∷ []) (fresh load) in
-          let left : after-calls calls (fresh load) .sheet ≡ runOf s desk-budget .lent = rw (after, e) in
+          let after = after-append cs (run desk-budget ∷ []) first in
+          let left : after-calls calls first .sheet ≡ runOf s desk-budget .lent = rw (after, e) in
           let few = accepted-exactly book .0 (loaded-book good) .options in
-          let same = kept-book calls (fresh load) (loaded book) in
+          let same = kept-options calls first (loaded book first) first-agrees in
           let screen : List ℕ = replicate screen-length 0 in
-          let room : options-of (account-calls calls (fresh load) (loaded book) .book) ≤ length screen =
+          let room : options-of (account-calls calls first (loaded book first) .book) ≤ length screen =
           rw same (omega (arith, few, length-replicate {A = ℕ} screen-length 0)) in
-          (report _ _, (rw left at (means calls .report-is screen room)), report-tells _ _ .width ∙ ap options-of same)
+          (report _ _, (rw left at (means calls .report-is screen room)), report-tells _ _ .width ∙ same)
 
   pub desk-writes : Desk-writes
   unfolding deskOf printed all-keyed go-on
@@ -118,12 +125,13 @@ module _ (book input : List ℕ) where
       record {
         book-refused = λ r e. rw e;
         line-refused = λ before rest one r parts good fine e.
-            rw (good, parts, keyed-append book before (one ∷ rest) (load .lent) fine, e);
+            rw (good, parts, keyed-append book before (one ∷ rest) first fine, e);
         all-accepted = λ good fine.
-            let s = all-keyed book (lines input) (load .lent) .lent in
-            let calls = keyed-calls book (lines input) (load .lent) in
-            let ran = ap (λ o. o .answer) (run-outcome s desk-budget (keyed-sheet good (calls .0) s (calls .1))) in
-            let told = report-told good (calls .0) s (calls .1) in
+            let s = all-keyed book (lines input) first .lent .sheet in
+            let calls = keyed-calls book (lines input) first in
+            let left = ap (λ t. t .sheet) (calls .1) in
+            let ran = ap (λ o. o .answer) (run-outcome s desk-budget (keyed-sheet good (calls .0) s left)) in
+            let told = report-told good (calls .0) s left in
             record {
               ran = _;
               told = told .0;

@@ -1,7 +1,7 @@
 -- Demand 1: "a result or one refusal numbered 1 to 12, due on its condition in document 01 and on no other". For each call its
 -- refusals stand here in their order, each with its condition: "11 for the sheet; the book as 1 (under 8), 2, 1, 3, 4, 5, 6; 11 for N;
--- then 7, 8, 9, 10; last 12". The call is refused by one exactly if its condition holds and no earlier one does, and gives a result
--- exactly if none holds.
+-- then 7, 8, 9, 10; last 12"; and document 02's 13 and 14, which "both come after 11 and before 7". The call is refused by one exactly
+-- if its condition holds and no earlier one does, and gives a result exactly if none holds.
 use mathlib.Core.Bool.{Bool, not}
 use mathlib.Core.List.{List, [], _∷_, _++_}
 use mathlib.Core.Path.{_≡_}
@@ -13,10 +13,13 @@ use Rattle.model.specs.Book.{head-in-limits, written}
 use Rattle.calls.specs.Refusals.{length-refused, head-refused, code-refused, contents-refused, body-refused, weight-refused}
 use Rattle.calls.specs.Refusals.{option-refused, full-refused, rule-refused, step-refused, sheet-refused, output-refused}
 use Rattle.calls.specs.Conditions.{lacks-head, is-length-due, has-good-codes, has-good-contents, has-good-bodies, is-light}
+use Rattle.calls.specs.Refusals.{line-refused, list-refused}
+use Rattle.calls.specs.Lines.{State}
 use Rattle.calls.specs.Conditions.{has-option, has-code, is-full, applies, is-book-of, is-long-enough, is-shorter}
+use Rattle.calls.specs.Conditions.{leaves-too-much, has-lines-in-order, has-line, has-full-list}
 use Rattle.calls.specs.Chains.{part-refusal, book-refusal, lookup-refusal, load-refusal, write-refusal, report-refusal}
-use Rattle.calls.specs.Chains.{complete-refusal, choose-refusal, step-refusal, run-refusal}
-use Rattle.calls.specs.Calls.{checkOf, lookupOf, loadOf, writeOf, reportOf, completeOf, chooseOf, stepOf, runOf}
+use Rattle.calls.specs.Chains.{complete-refusal, key-refusal, withdraw-refusal, step-refusal, run-refusal}
+use Rattle.calls.specs.Calls.{checkOf, lookupOf, loadOf, writeOf, reportOf, completeOf, keyOf, withdrawOf, stepOf, runOf}
 use Rattle.call_laws.specs.RefusalChains.{Test, _on_, first-due, By-chain, first-append, first-last, answered, answered-lent}
 
 -- "The book as 1 (under 8), 2, 1, 3, 4, 5, 6."
@@ -67,14 +70,27 @@ pub record First-due : Type 0 where
       ∷ output-refused on is-shorter out (options-in s)
       ∷ [])
   pub complete : (s : List ℕ) → By-chain (completeOf s) (of-sheet s ∷ [])
-  pub choose :
-      (s : List ℕ) (v : ℕ) (negative : Bool) →
+  pub key :
+      (t : State) (v : ℕ) (negative : Bool) →
       By-chain
-      (chooseOf s v negative .answer)
-      (of-sheet s
-      ∷ option-refused on not (has-option s v)
-      ∷ full-refused on is-full s
+      (keyOf t v negative .answer)
+      (of-sheet (t .sheet)
+      ∷ sheet-refused on not (has-lines-in-order t)
+      ∷ list-refused on has-full-list t
+      ∷ option-refused on not (has-option (t .sheet) v)
+      ∷ full-refused on is-full (t .sheet)
       ∷ [])
+  pub withdraw :
+      (t : State) (book : List ℕ) (k : ℕ) →
+      By-chain
+      (withdrawOf t book k .answer)
+      (of-sheet (t .sheet)
+      ∷ (of-book book
+      ++ (sheet-refused on not (is-book-of (t .sheet) book)
+      ∷ sheet-refused on not (has-lines-in-order t)
+      ∷ line-refused on not (has-line t k)
+      ∷ full-refused on leaves-too-much t book
+      ∷ [])))
   pub step :
       (s : List ℕ) (r p i j : ℕ) →
       By-chain
@@ -91,8 +107,9 @@ unfolding book-refusal part-refusal first-due of-book
 book-chain b = simp first-last
 
 pub first-due-refused : First-due
-unfolding checkOf lookupOf loadOf writeOf reportOf completeOf chooseOf stepOf runOf
-    lookup-refusal load-refusal write-refusal report-refusal complete-refusal choose-refusal step-refusal run-refusal first-due
+unfolding checkOf lookupOf loadOf writeOf reportOf completeOf keyOf withdrawOf stepOf runOf
+    lookup-refusal load-refusal write-refusal report-refusal complete-refusal key-refusal withdraw-refusal step-refusal run-refusal
+    first-due
 first-due-refused =
     record {
       check = λ b. answered _ _ (book-chain b);
@@ -101,7 +118,8 @@ first-due-refused =
       write = λ s b out. answered-lent _ _ _ _ (simp (first-append, first-last, book-chain));
       report = λ s out. answered-lent _ _ _ _ (simp first-last);
       complete = λ s. answered _ _ (simp first-last);
-      choose = λ s v negative. answered-lent _ _ _ _ (simp first-last);
+      key = λ t v negative. answered-lent _ _ _ _ (simp first-last);
+      withdraw = λ t b k. answered-lent _ _ _ _ (simp (first-append, first-last, book-chain));
       step = λ s r p i j. answered-lent _ _ _ _ (simp first-last);
       run = λ s budget. answered-lent _ _ _ _ (simp first-last);
     }

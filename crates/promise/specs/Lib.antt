@@ -6,6 +6,7 @@ pub mod Complete
 pub mod RoundTrips
 pub mod Lists
 pub mod Order
+pub mod Withdrawals
 pub mod Runs
 pub mod Weights
 pub mod Desk

@@ -1,8 +1,9 @@
--- Demand 3: one theorem about every list of choices, single steps and runs, refused ones included, from a freshly loaded sheet.
+-- Demand 3: one theorem about every list of keyings, withdrawals, single steps and runs, refused ones included, from a freshly loaded
+-- sheet and any lines.
 use mathlib.Core.Bool.{true}
-use mathlib.Core.List.{List, _++_, append-nil}
+use mathlib.Core.List.{List, _++_}
 use mathlib.Core.Logic.{_↔_, Iff·trans}
-use mathlib.Core.Path.{_≡_, sym, ap, _∙_}
+use mathlib.Core.Path.{_≡_, refl, ap, _∙_}
 use Prim.Native.Nat.{ℕ, _≤_}
 use lib.ListN.{length}
 use Rattle.model.specs.Literal.{Literal}
@@ -11,19 +12,19 @@ use Rattle.model.specs.Propagation.{report}
 use Rattle.model.specs.Rules.{NoRule}
 use Rattle.model.specs.Strategy.{most-steps}
 use Rattle.model.specs.Limits.{sheet-length}
-use Rattle.model.specs.Sheet.{options-in, nodes-in, is-sheet, sheet-of, clauses-in, is-unit, Falsum}
-use Rattle.model.specs.Book.{options-of, book-nodes, clauses-of-book}
+use Rattle.model.specs.Sheet.{options-in, nodes-in, is-sheet, clauses-in, is-unit, Falsum}
+use Rattle.model.specs.Book.{options-of}
 use Rattle.calls.specs.Outcomes.{accepted}
 use Rattle.calls.specs.Calls.{checkOf, loadOf, reportOf}
-use Rattle.calls.specs.History.{Call, State, after-calls, Account, loaded, account-calls, choice-clauses, meaning}
+use Rattle.calls.specs.Lines.{Line, State, counted}
+use Rattle.calls.specs.History.{Call, after-calls, Account, loaded, account-calls, meaning}
 use Rattle.calls.specs.History.{is-stretch, steps-of, ends-settled}
 use Rattle.theory_rewriting.specs.Steps.{steps-bound}
-use Rattle.call_laws.specs.Valuations.{same-of, same-report, same-contradictory, same-derived}
-use Rattle.theory_formats.specs.Loading.{Accepted, loaded-sheet, loaded-meaning}
+use Rattle.call_laws.specs.Valuations.{same-report, same-contradictory, same-derived}
 use Rattle.call_laws.specs.Books.{accepted-book}
 use Rattle.call_laws.specs.LoadingAndWriting.{load-accepted}
-use Rattle.theory_forms.specs.Sheets.{sheet-shaped, options-made}
-use Rattle.call_laws.specs.Effects.{Keeps, calls-effect}
+use Rattle.theory_forms.specs.Sheets.{sheet-shaped}
+use Rattle.call_laws.specs.Effects.{Keeps, Agrees, calls-effect, loaded-keeps}
 use Rattle.call_laws.specs.SettledLists.{ends-no-rule, sheet-normal}
 use Rattle.promise.specs.Refusals.{check-none}
 use Rattle.promise.specs.Reports.{reported, Reported, report-given, propagation-exact}
@@ -54,26 +55,29 @@ pub record Normal (account : Account) (sheet : List ℕ) : Type 0 where
       (is-unit l sheet ≡ true) ↔ Derived (meaning account) l
 
 -- "No stretch of the list without an accepted choice does more steps than the cube of n + 2l, for n nodes and l option marks at its
--- start." Every way to cut the list into what is before, the stretch and the rest.
+-- start." Every way to cut the list into what is before, the stretch and the rest. Document 02, U2: a stretch "holds no accepted
+-- withdrawal either".
 abbrev pub Bounded : List Call → State → Type 0
 Bounded calls start =
     (before stretch rest : List Call) →
     (calls-are : calls ≡ before ++ (stretch ++ rest)) →
-    (without-choice : is-stretch stretch (after-calls before start) ≡ true) →
+    (nothing-rekeyed : is-stretch stretch (after-calls before start) ≡ true) →
     steps-of stretch (after-calls before start) ≤ most-steps (nodes-in (after-calls before start .sheet))
 
--- A list of calls on a state that begins with a freshly loaded book.
+-- A list of calls on a state that begins with a freshly loaded book. The account is "reckoned from those first lines and the accepted
+-- calls"; the counted lines are its ledger after every list.
 pub record Demand-3 (book : List ℕ) (start : State) (calls : List Call) : Type 0 where
-  pub means : Means (account-calls calls start (loaded book)) (after-calls calls start .sheet)
+  pub means : Means (account-calls calls start (loaded book start)) (after-calls calls start .sheet)
+  pub lines-are : counted (after-calls calls start) ≡ account-calls calls start (loaded book start) .ledger
   pub settled :
       (said-settled : ends-settled calls start ≡ true) →
-      Normal (account-calls calls start (loaded book)) (after-calls calls start .sheet)
+      Normal (account-calls calls start (loaded book start)) (after-calls calls start .sheet)
   pub bounded : Bounded calls start
 
 -- The theorem from any state whose sheet keeps a book's rules.
 from-rules :
     (book : List ℕ) (start : State) →
-    Keeps (loaded book) (start .sheet) →
+    Agrees (loaded book start) start →
     (calls : List Call) →
     Demand-3 book start calls
 from-rules book start h calls =
@@ -86,8 +90,9 @@ from-rules book start h calls =
             report-says = λ out room.
                 rw (given out room) (propagation-exact (options-of (account .book)) (meaning account) out room);
           };
+      lines-are = there-agrees .ledger;
       settled = λ q.
-          let calm = ends-no-rule calls start (loaded book) h q in
+          let calm = ends-no-rule calls start (loaded book start) h q in
           let normal = sheet-normal left (k .sheet) calm in
           record {
             no-rule = calm;
@@ -97,20 +102,23 @@ from-rules book start h calls =
                 Iff·trans (normal .1 fine-here l) (same-derived (k .models) fine-here l);
           };
       bounded = λ before stretch rest parts quiet.
-          let b = calls-effect before start (loaded book) h .keeps in
+          let b = calls-effect before start (loaded book start) h .agrees in
           let there = after-calls before start in
-          let done = calls-effect stretch there (account-calls before start (loaded book)) b .steps quiet in
-          steps-bound (sheet-shaped (there .sheet) (b .sheet)) done;
+          let done = calls-effect stretch there (account-calls before start (loaded book start)) b .steps quiet in
+          steps-bound (sheet-shaped (there .sheet) (b .keeps .sheet)) done;
     }
   where
     left : List ℕ
     left = after-calls calls start .sheet
 
     account : Account
-    account = account-calls calls start (loaded book)
+    account = account-calls calls start (loaded book start)
+
+    there-agrees : Agrees account (after-calls calls start)
+    there-agrees = calls-effect calls start (loaded book start) h .agrees
 
     k : Keeps account left
-    k = calls-effect calls start (loaded book) h .keeps
+    k = there-agrees .keeps
 
     given :
         (out : List ℕ) →
@@ -120,28 +128,29 @@ from-rules book start h calls =
         report-given left out (k .sheet) (rw (k .options) room)
         ∙ ap (λ r. reported r out) (rw (k .options) (same-report (k .models) (options-of (account .book))))
 
--- What a book loads keeps its rules.
-loaded-keeps :
-    (book : List ℕ) →
-    Accepted book →
-    Keeps (loaded book) (sheet-of (options-of book) (book-nodes book))
-unfolding meaning choice-clauses
-loaded-keeps book good =
-    record {
-      sheet = loaded-sheet book good;
-      options = options-made (options-of book) (book-nodes book);
-      models = same-of (loaded-meaning book good ∙ sym (append-nil (clauses-of-book book)));
-    }
+-- What is lent to the first call: the sheet as a load leaves it, and any lines.
+abbrev pub order-of : List ℕ → List ℕ → List Line → ℕ → State
+order-of book target lines count = record { sheet = loadOf book target .lent; lines = lines; count = count }
+
+-- That state agrees with the account of a loaded book.
+pub loaded-agrees :
+    (book target : List ℕ) (lines : List Line) (count : ℕ) →
+    checkOf book ≡ accepted tt →
+    length target ≡ sheet-length →
+    let start = order-of book target lines count in
+    Agrees (loaded book start) start
+loaded-agrees book target lines count ok long =
+    let fine = check-none book .0 ok in
+    rw (load-accepted book target fine long) (record { keeps = loaded-keeps book _ (accepted-book book fine); ledger = refl })
 
 -- "For every list of choices, single steps and runs, refused ones included, from a freshly loaded sheet, each on the sheet that the
--- one before left": every accepted book, every target that a load fills, every list of calls with any arguments.
+-- one before left": every accepted book, every target that a load fills, every list of calls with any arguments. Document 02, U2:
+-- "Withdrawals, refused ones too, now stand in the list of demand 3, which starts with any lent lines."
 pub demand-3 :
-    (book target : List ℕ) →
+    (book target : List ℕ) (lines : List Line) (count : ℕ) →
     (book-accepted : checkOf book ≡ accepted tt) →
     (target-long-enough : length target ≡ sheet-length) →
     (calls : List Call) →
-    Demand-3 book (record { sheet = loadOf book target .lent }) calls
-demand-3 book target ok long calls =
-    let fine = check-none book .0 ok in
-    let filled : State = record { sheet = sheet-of (options-of book) (book-nodes book) } in
-    rw (load-accepted book target fine long) (from-rules book filled (loaded-keeps book (accepted-book book fine)) calls)
+    Demand-3 book (order-of book target lines count) calls
+demand-3 book target lines count ok long calls =
+    from-rules book (order-of book target lines count) (loaded-agrees book target lines count ok long) calls

@@ -9,15 +9,17 @@ use mathlib.Core.Path.{_≡_, refl}
 use Prim.Native.Nat.{ℕ, _≤_}
 use native.Mathlib.Omega.{arith}
 use Rattle.calls.specs.Refusals.{Refusal, length-refused, head-refused, code-refused, contents-refused, body-refused, weight-refused}
-use Rattle.calls.specs.Refusals.{option-refused, full-refused, rule-refused, step-refused, sheet-refused, output-refused, refusal-number}
+use Rattle.calls.specs.Refusals.{option-refused, full-refused, rule-refused, step-refused, sheet-refused, output-refused}
+use Rattle.calls.specs.Refusals.{line-refused, list-refused, refusal-number}
 use Rattle.calls.specs.Outcomes.{refused, accepted, answer, Outcome, outcome}
 use Rattle.calls.specs.Chains.{book-refusal}
-use Rattle.calls.specs.Calls.{checkOf, loadOf, writeOf, reportOf, chooseOf, stepOf, runOf}
+use Rattle.calls.specs.Lines.{State}
+use Rattle.calls.specs.Calls.{checkOf, loadOf, writeOf, reportOf, keyOf, withdrawOf, stepOf, runOf}
 use Rattle.theory_formats.specs.Loading.{Accepted}
 use Rattle.call_laws.specs.Books.{accepted-book, book-accepted}
 
--- "A result or one refusal numbered 1 to 12."
-pub numbered : (r : Refusal) → (1 ≤ refusal-number r) × (refusal-number r ≤ 12)
+-- "A result or one refusal numbered 1 to 12"; with 13 and 14 since document 02, U2.
+pub numbered : (r : Refusal) → (1 ≤ refusal-number r) × (refusal-number r ≤ 14)
 unfolding refusal-number
 numbered length-refused = omega arith
 numbered head-refused = omega arith
@@ -31,6 +33,8 @@ numbered rule-refused = omega arith
 numbered step-refused = omega arith
 numbered sheet-refused = omega arith
 numbered output-refused = omega arith
+numbered line-refused = omega arith
+numbered list-refused = omega arith
 
 -- An outcome whose answer is a refusal has left what was lent as it was.
 abbrev pub Keeps : {L A : Type 0} → Outcome L A → L → Type 0
@@ -46,23 +50,26 @@ unfolding outcome
 outcome-keeps none a kept filled r e = let z : _≡_ {A = ℕ} 0 1 = cc in absurd (omega arith)
 outcome-keeps (some x) a kept filled r e = refl
 
--- "After a refusal each lent buffer holds what it held before": the buffer that each call may write. (The others it only reads.)
+-- "After a refusal each lent buffer holds what it held before": all that each call may write, for a keying and a withdrawal the sheet,
+-- the lines and the count. (The others it only reads.)
 pub record Nothing-written : Type 0 where
   pub load : (book target : List ℕ) → Keeps (loadOf book target) target
   pub write : (sheet book out : List ℕ) → Keeps (writeOf sheet book out) out
   pub report : (sheet out : List ℕ) → Keeps (reportOf sheet out) out
-  pub choose : (sheet : List ℕ) (v : ℕ) (negative : Bool) → Keeps (chooseOf sheet v negative) sheet
+  pub key : (order : State) (v : ℕ) (negative : Bool) → Keeps (keyOf order v negative) order
+  pub withdraw : (order : State) (book : List ℕ) (k : ℕ) → Keeps (withdrawOf order book k) order
   pub step : (sheet : List ℕ) (r p i j : ℕ) → Keeps (stepOf sheet r p i j) sheet
   pub run : (sheet : List ℕ) (b : ℕ) → Keeps (runOf sheet b) sheet
 
 pub nothing-written : Nothing-written
-unfolding loadOf writeOf reportOf chooseOf stepOf runOf
+unfolding loadOf writeOf reportOf keyOf withdrawOf stepOf runOf
 nothing-written =
     record {
       load = λ b t. outcome-keeps _ _ _ _;
       write = λ s b o. outcome-keeps _ _ _ _;
       report = λ s o. outcome-keeps _ _ _ _;
-      choose = λ s v n. outcome-keeps _ _ _ _;
+      key = λ t v n. outcome-keeps _ _ _ _;
+      withdraw = λ t b k. outcome-keeps _ _ _ _;
       step = λ s r p i j. outcome-keeps _ _ _ _;
       run = λ s b. outcome-keeps _ _ _ _;
     }

@@ -11,12 +11,13 @@ use Rattle.model.specs.Strategy.{most-steps}
 use Rattle.model.specs.Limits.{sheet-length}
 use Rattle.model.specs.Sheet.{nodes-in, is-sheet}
 use Rattle.calls.specs.Outcomes.{accepted, if-accepted}
-use Rattle.calls.specs.Calls.{Ran, checkOf, loadOf, runOf}
-use Rattle.calls.specs.History.{Call, run, State, after-calls, loaded, account-calls, chooses, is-stretch}
+use Rattle.calls.specs.Calls.{Ran, checkOf, runOf}
+use Rattle.calls.specs.Lines.{Line, State}
+use Rattle.calls.specs.History.{Call, run, after-calls, loaded, account-calls, rekeys, is-stretch}
 use Rattle.calls.specs.History.{steps-of-call, steps-of, says-settled, ends-settled}
 use Rattle.call_laws.specs.Effects.{run-outcome}
 use Rattle.call_laws.specs.SettledLists.{ends-last, run-enough}
-use Rattle.promise.specs.Lists.{Normal, demand-3}
+use Rattle.promise.specs.Lists.{Normal, order-of, demand-3}
 
 -- A run on a sheet is accepted, and its count is at most the cube of n + 2l.
 pub record Counts (sheet : List ℕ) (budget : ℕ) : Type 0 where
@@ -31,12 +32,12 @@ pub record Settles (book : List ℕ) (start : State) (before : List Call) (budge
   pub settled : ran .settled ≡ true
   pub normal :
       Normal
-      (account-calls (before ++ (run budget ∷ [])) start (loaded book))
+      (account-calls (before ++ (run budget ∷ [])) start (loaded book start))
       (after-calls (before ++ (run budget ∷ [])) start .sheet)
 
-module _ (book target : List ℕ) where
+module _ (book target : List ℕ) (lines : List Line) (count : ℕ) where
   abbrev start : State
-  start = record { sheet = loadOf book target .lent }
+  start = order-of book target lines count
 
   -- The sheet after some calls, and the count of a run there, by demand 3.
   module _
@@ -48,15 +49,15 @@ module _ (book target : List ℕ) where
       here = after-calls before start .sheet
 
       here-sheet : is-sheet here ≡ true
-      here-sheet = demand-3 book target ok long before .means .is-a-sheet
+      here-sheet = demand-3 book target lines count ok long before .means .is-a-sheet
 
       counted :
           (calls rest : List Call) (budget : ℕ) →
           calls ≡ before ++ (run budget ∷ rest) →
           strategy.run budget (nodes-in here) .count ≤ most-steps (nodes-in here)
-      unfolding is-stretch chooses steps-of steps-of-call if-accepted
+      unfolding is-stretch rekeys steps-of steps-of-call if-accepted
       counted calls rest budget parts =
-          let bound = demand-3 book target ok long calls .bounded before (run budget ∷ []) rest parts refl in
+          let bound = demand-3 book target lines count ok long calls .bounded before (run budget ∷ []) rest parts refl in
           omega (arith, rw (run-outcome here budget here-sheet) at bound)
 
   -- "Whatever the budgets, no stretch of the list without an accepted choice does more steps than the cube of n + 2l": a run in the
@@ -91,5 +92,5 @@ module _ (book target : List ℕ) where
         ran = _;
         says = ap (λ o. o .answer) said;
         settled = settled;
-        normal = demand-3 book target ok long calls .settled last;
+        normal = demand-3 book target lines count ok long calls .settled last;
       }

@@ -5,6 +5,14 @@ use std::collections::HashSet;
 
 const CODE: usize = 13;
 
+/// A book that is accepted: what its sheet is made of.
+pub struct Checked<'a> {
+    pub options: usize,
+    pub weight: usize,
+    rules: usize,
+    bodies: &'a [u8],
+}
+
 /// The refusal, 0 where the book is accepted and the sheet is filled.
 pub fn load(book: &[u8], sheet: &mut [u16]) -> u64 {
     if sheet.len() != LENGTH {
@@ -12,22 +20,28 @@ pub fn load(book: &[u8], sheet: &mut [u16]) -> u64 {
     }
     match checked(book) {
         Err(refusal) => refusal,
-        Ok((options, rules, bodies)) => {
-            sheet[0] = options as u16;
-            sheet[1] = 1 + (bodies.len() / 2) as u16;
-            sheet[2] = node(ROOT, rules);
-            let filled = 3 + bodies.len() / 2;
-            for (place, bytes) in sheet[3..filled].iter_mut().zip(bodies.chunks_exact(2)) {
-                *place = number(bytes) as u16;
-            }
-            sheet[filled..].fill(0);
+        Ok(book) => {
+            fill(sheet, &book);
             0
         }
     }
 }
 
-/// The numbers of options and of rules, and the bodies; or the refusal.
-fn checked(book: &[u8]) -> Result<(usize, usize, &[u8]), u64> {
+/// Fills a sheet from a book.
+pub fn fill(sheet: &mut [u16], book: &Checked) {
+    let nodes = book.bodies.len() / 2;
+    sheet[0] = book.options as u16;
+    sheet[1] = 1 + nodes as u16;
+    sheet[2] = node(ROOT, book.rules);
+    let bodies = book.bodies.chunks_exact(2);
+    for (place, bytes) in sheet[3..3 + nodes].iter_mut().zip(bodies) {
+        *place = number(bytes) as u16;
+    }
+    sheet[3 + nodes..].fill(0);
+}
+
+/// What the book holds, or the refusal.
+pub fn checked(book: &[u8]) -> Result<Checked<'_>, u64> {
     let (head, rest) = book.split_at_checked(8).ok_or(1u64)?;
     let [options, rules, total, zero] = [0, 2, 4, 6].map(|at| number(&head[at..]));
     if options > 512 || rules > 4095 || total > 4095 || zero != 0 {
@@ -49,10 +63,16 @@ fn checked(book: &[u8]) -> Result<(usize, usize, &[u8]), u64> {
         return Err(5);
     }
     let nodes = bodies.chunks_exact(2).map(|bytes| number(bytes) as u16);
-    if 1 + total + nodes.filter(|&node| is_literal(node)).count() > 4096 {
+    let weight = 1 + total + nodes.filter(|&node| is_literal(node)).count();
+    if weight > 4096 {
         return Err(6);
     }
-    Ok((options, rules, bodies))
+    Ok(Checked {
+        options,
+        weight,
+        rules,
+        bodies,
+    })
 }
 
 /// A 16-bit number, low byte first.

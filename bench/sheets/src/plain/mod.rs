@@ -1,9 +1,10 @@
-//! Sheets in plain Rust, from document 01: the loader, the run by two searches, the report by
-//! two methods.
+//! Sheets in plain Rust, from documents 01 and 02: the loader, keying and taking back, the run by
+//! two searches, the report by two methods.
 
 pub mod bounds;
 pub mod flat;
 pub mod least;
+pub mod lines;
 pub mod load;
 pub mod parts;
 pub mod rules;

@@ -7,7 +7,8 @@ use borrow.Author.Needs.{needs}
 use Rattle.model.specs.Base.{pick}
 use Rattle.call_run.specs.RunMeaning.{ranOf}
 use Rattle.c_sheet_calls.specs.PackedValues.{packedRan}
-use Rattle.c_sheet_calls.proofs.SheetCallsFit.{told, run-fits}
+use Rattle.call_answers.proofs.AnswersTold.{told}
+use Rattle.c_sheet_calls.proofs.SheetCallsFit.{run-fits}
 use Rattle.c_sheet_calls.proofs.nd_run.Statement.{statement}
 use Rattle.c_sheet_calls.proofs.nd_run.Tie as tie
 

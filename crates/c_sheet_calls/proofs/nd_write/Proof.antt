@@ -2,7 +2,8 @@
 use mathlib.Core.Path.{ap}
 use borrow.Author.Needs.{needs}
 use Rattle.c_calls.specs.Packed.{packedValue}
-use Rattle.c_sheet_calls.proofs.SheetCallsFit.{told, write-fits}
+use Rattle.call_answers.proofs.AnswersTold.{told}
+use Rattle.c_sheet_calls.proofs.SheetCallsFit.{write-fits}
 use Rattle.c_sheet_calls.proofs.nd_write.Statement.{statement}
 use Rattle.c_sheet_calls.proofs.nd_write.Tie as tie
 

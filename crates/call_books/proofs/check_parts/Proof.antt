@@ -5,8 +5,8 @@ use native.Mathlib.Omega.{arith}
 use borrow.Author.Needs.{needs}
 use borrow.Author.Tests.{not-true, not-false}
 use Rattle.calls.specs.Conditions.{has-good-codes, has-good-contents, has-good-bodies}
-use Rattle.call_books.proofs.BookTests.{codes-test, contents-test, bodies-test, weight-test, codes-bad, contents-bad}
-use Rattle.call_books.proofs.BookTests.{bodies-bad, weight-bad, all-good, few-literals}
+use Rattle.call_books.proofs.BookTests.{codes-test, contents-test, bodies-test, codes-bad, contents-bad}
+use Rattle.call_books.proofs.BookTests.{bodies-bad, weight-bad, all-good}
 use Rattle.call_books.proofs.check_parts.Statement.{statement}
 use Rattle.call_books.proofs.check_parts.Tie as tie
 
@@ -56,24 +56,21 @@ returns-3 c =
     (bodies-test (d .before .before .before .before .pre) (c .before .are-bodies .ensures)
     ∙ not-true (c .before .are-bodies .result) (c .if3 .taken))
 
-add-if4-2 : tie.Need-add-if4-2
-add-if4-2 c = omega (arith, few-literals _ _ (c .count-literals .ensures))
-
 returns-4 : tie.Need-returns-4
 returns-4 c =
-    let f = c .before .before .before in
+    let f = c .before .before in
     let e = f .before .before .before .before in
     let d = e .before .before .before in
     weight-bad _ (good-codes d) (good-contents e) (good-bodies f)
-    (omega (arith, c .if4 .taken, weight-test (d .before .before .before .before .pre) (c .before .count-literals .ensures)))
+    (omega (arith, c .if4 .taken, c .before .weigh .ensures))
 
 returns-5 : tie.Need-returns-5
 returns-5 c =
-    let f = c .before .before .before in
+    let f = c .before .before in
     let e = f .before .before .before .before in
     let d = e .before .before .before in
     all-good _ (good-codes d) (good-contents e) (good-bodies f)
-    (omega (arith, c .if4 .left, weight-test (d .before .before .before .before .pre) (c .before .count-literals .ensures)))
+    (omega (arith, c .if4 .left, c .before .weigh .ensures))
 
 pub check-parts-spec : {M : Type 1} → statement M
 check-parts-spec =
@@ -101,11 +98,6 @@ check-parts-spec =
     (λ c. search needs)
     are-bodies-requires
     returns-3
-    (λ c. search needs)
-    (λ c. search needs)
-    (λ c. search needs)
-    (λ c. search needs)
     (λ c κs. search needs)
-    add-if4-2
     returns-4
     returns-5)

@@ -3,9 +3,9 @@ use mathlib.Core.Option.{none}
 use mathlib.Core.Path.{_≡_, sym, ap, _∙_}
 use borrow.Author.Needs.{needs}
 use Rattle.calls.specs.Chains.{book-refusal}
-use Rattle.call_laws.specs.Books.{accepted-book}
+use Rattle.call_laws.specs.Books.{accepted-book, check-none, check-some}
 use Rattle.call_answers.specs.AnswerMeaning.{doneOf}
-use Rattle.call_transfer.proofs.TransferAnswers.{check-none, check-some, load-short, load-refused, load-done}
+use Rattle.call_transfer.proofs.TransferAnswers.{load-short, load-refused, load-done}
 use Rattle.call_transfer.proofs.load.Statement.{statement}
 use Rattle.call_transfer.proofs.load.Tie as tie
 

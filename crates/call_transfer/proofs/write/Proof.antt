@@ -16,7 +16,8 @@ use Rattle.call_answers.specs.AnswerMeaning.{doneOf}
 use Rattle.theory_forms.specs.Sheets.{sheet-formed}
 use Rattle.book_load.proofs.Loaded.{head-of}
 use Rattle.book_write.proofs.Written.{length-written}
-use Rattle.call_transfer.proofs.TransferAnswers.{check-none, check-some, write-none, write-refused, write-other, write-short, write-done}
+use Rattle.call_laws.specs.Books.{check-none, check-some}
+use Rattle.call_transfer.proofs.TransferAnswers.{write-none, write-refused, write-other, write-short, write-done}
 use Rattle.call_transfer.proofs.write.Statement.{statement}
 use Rattle.call_transfer.proofs.write.Tie as tie
 

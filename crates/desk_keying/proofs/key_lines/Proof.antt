@@ -1,60 +1,144 @@
--- `desk_keying::key_lines` meets its contract. Invariant: what is left to key, on the sheet as it is, gives what all lines give on the first.
-use mathlib.Core.Path.{_≡_, refl, ap, _∙_}
-use Prim.Native.Nat.{_+_, _-_, _≤_}
+-- `desk_keying::key_lines` meets its contract. Invariant: what is left to key, on the order as it is, gives what all lines give on the first.
+use mathlib.Core.List.{List}
+use mathlib.Core.Path.{_≡_, refl, sym, ap, _∙_}
+use Prim.Native.Nat.{ℕ, _+_, _-_, _≤_}
 use native.Mathlib.Omega.{arith}
 use borrow.Author.Needs.{needs}
-use lib.ListN.{length, drop}
+use lib.Dec.{eqb}
+use lib.ListN.{length, take, drop, getD, set}
 use lib.Seq.{drop-length}
-use Rattle.calls.specs.Desk.{lines, go-on, all-keyed}
-use Rattle.call_answers.specs.AnswerMeaning.{doneOf}
-use Rattle.desk_keying.proofs.KeyedLines.{keyed-line, stopped-by, gone-on, past-end}
+use Rattle.model.specs.Base.{pick}
+use Rattle.model.specs.Literal.{literal}
+use Rattle.model.specs.Limits.{most-options}
+use Rattle.calls.specs.Lines.{State}
+use Rattle.calls.specs.Desk.{lines, keyed, go-on, all-keyed, with-no-lines}
+use Rattle.call_answers.specs.AnswerMeaning.{foundOf, onSheet}
+use Rattle.order_lines.specs.LineMeaning.{line, order}
+use Rattle.desk_keying.specs.Endings.{ending, dropped}
+use Rattle.desk_keying.proofs.KeyedLines.{Last-keyed, line-stopped, line-accepted, asked-small, here-line, keyed-line, first-byte}
+use Rattle.desk_keying.proofs.KeyedLines.{past-end, stopped-by, gone-on}
 use Rattle.desk_keying.proofs.key_lines.Statement.{statement}
 use Rattle.desk_keying.proofs.key_lines.Tie as tie
 
 abbrev Inv-loop : tie.InvT-loop
-Inv-loop book input sheet₀ at₀ sheet from =
+Inv-loop book input sheet₀ keyed₀ count₀ at₀ sheet keyed count from =
     (from ≤ length input)
     × (length sheet ≡ length sheet₀)
-    × (all-keyed book (lines (drop from input)) sheet ≡ all-keyed book (lines input) sheet₀)
+    × (onSheet (all-keyed book (lines (drop from input)) (order sheet keyed count))
+    ≡ onSheet (all-keyed book (lines input) (with-no-lines sheet₀)))
 
 abbrev μ-loop : tie.MeasureT-loop
-μ-loop book input sheet₀ at₀ sheet from = length input - from
+μ-loop book input sheet₀ keyed₀ count₀ at₀ sheet keyed count from = length input - from
 
 loop-holds : tie.Need-loop-holds Inv-loop μ-loop
+unfolding with-no-lines literal pick
 loop-holds c = (omega arith, refl, refl)
 
-enum-told : tie.Need-enum-told Inv-loop μ-loop
-enum-told c = search needs
+-- A line that was looked at: where it ends, and what it and the lines after it give.
+module _ (c : tie.After-key-line Inv-loop μ-loop) where
+  abbrev book : List ℕ
+  book = c .before .before .before .before .before .before .before .before .before .before .args .book .now
 
--- A line that was keyed: its answer and the lines after it, on the sheet as it is, give what all lines give on the first.
-keyed-here :
-    (c : tie.After-key-line Inv-loop μ-loop) →
-    let line = c .before .before .before in
-    let n = line .before .before .before in
-    let a = n .before .before .before .before .args in
-    let rest = lines (drop (n .loop .at + line .line-end .result + 1) (a .input .now)) in
-    go-on (doneOf (c .key-line .result)) (c .key-line .last .1 .1 .0) (all-keyed (a .book .now) rest)
-    ≡ all-keyed (a .book .now) (lines (a .input .now)) (a .sheet .now)
-keyed-here c =
-    let line = c .before .before .before in
-    let n = line .before .before .before in
-    let a = n .before .before .before .before .args in
-    let end = ap (λ k. n .loop .at + k) (line .line-end .ensures .0) in
-    keyed-line (a .book .now) (a .input .now) (line .before .before .loop-test .taken) end (n .loop .sheet) _ _ (c .key-line .ensures)
-    ∙ n .loop .inv .2
+  abbrev input : List ℕ
+  input = c .before .before .before .before .before .before .before .before .before .before .args .input .now
+
+  abbrev from : ℕ
+  from = c .before .before .before .before .before .before .loop .at
+
+  abbrev end : ℕ
+  end = from + c .before .before .before .line-end .result
+
+  abbrev so-far : State
+  so-far = order (c .before .before .before .before .before .before .loop .sheet) (c .before .before .before .before .before .before .loop .keyed) (c .before .before .before .before .before .before .loop .count)
+
+  ends : end ≡ from + ending (take (length input - from) (drop from input))
+  ends = ap (λ k. from + k) (c .before .before .before .line-end .ensures .0)
+
+  abbrev this : List ℕ
+  this = here-line book input (c .before .before .before .before .before .loop-test .taken) ends
+
+  abbrev rest : List (List ℕ)
+  rest = lines (drop (end + 1) input)
+
+  all-from-here :
+      let done = keyed book this so-far in
+      onSheet (go-on (done .answer) (done .lent) (all-keyed book rest))
+      ≡ onSheet (all-keyed book (lines input) (with-no-lines (c .before .before .before .before .before .before .before .before .before .before .args .sheet .now)))
+  all-from-here =
+      ap onSheet (keyed-line book input (c .before .before .before .before .before .loop-test .taken) ends so-far) ∙ c .before .before .before .before .before .before .loop .inv .2
+
+-- A line that was keyed: the option that it names is the last line now.
+module _ (c : tie.After-known-told Inv-loop μ-loop) where
+  abbrev looked : tie.After-key-line Inv-loop μ-loop
+  looked = c .before .before .before .before .before
+
+  abbrev option : ℕ
+  option = c .before .found .given .0 .0
+
+  abbrev left : List ℕ
+  left = looked .key-line .last .1 .1 .0
+
+  taken :
+      let n = looked .before .before .before .before .before .before .loop in
+      Last-keyed (book looked) (this looked) (n .sheet) (n .keyed) (n .count) option left
+  taken =
+      let n = looked .before .before .before .before .before .before .loop in
+      let told = ap foundOf (c .before .found .given .1) in
+      line-accepted (book looked) (this looked) (n .sheet) (n .keyed) (n .count) (rw told at (looked .key-line .ensures))
+
+  small : (1 ≤ length (this looked)) × (option ≤ most-options)
+  small = asked-small (book looked) (this looked) option (taken .asked-so)
+
+  -- What is left to key, beside the lines with this one.
+  left-to-key :
+      (w : ℕ) →
+      w ≡ looked .before .before .before .before .before .before .loop .count →
+      let n = looked .before .before .before .before .before .before .loop in
+      onSheet
+      (all-keyed (book looked) (rest looked)
+      (order left (set (n .keyed) w (line option (eqb (getD (input looked) (from looked) 0) 45))) (n .count + 1)))
+      ≡ onSheet (all-keyed (book looked) (lines (input looked)) (with-no-lines (looked .before .before .before .before .before .before .before .before .before .before .args .sheet .now)))
+  left-to-key w e =
+      let n = looked .before .before .before .before .before .before .loop in
+      let byte = first-byte (book looked) (input looked) (looked .before .before .before .before .before .loop-test .taken) (ends looked) (small .0) in
+      ap onSheet
+      ((λ i.
+      all-keyed (book looked) (rest looked)
+      (order left (set (n .keyed) (e i) (line option (eqb (sym byte i) 45))) (n .count + 1)))
+      ∙ gone-on (book looked) (rest looked) (keyed (book looked) (this looked) (so-far looked)) (taken .keyed-so))
+      ∙ all-from-here looked
+
+cast-t23 : tie.Need-cast-t23 Inv-loop μ-loop
+cast-t23 c = record { fits = omega (arith, small c .1) }
+
+array-set-from-keyed : tie.Need-array-set-from-keyed Inv-loop μ-loop
+array-set-from-keyed c = omega (arith, c .wide16 .ensures .0, taken (c .before .before) .free)
+
+add-count : tie.Need-add-count Inv-loop μ-loop
+add-count c = record { fits = omega (arith, taken (c .before .before) .free) }
 
 returns : tie.Need-returns Inv-loop μ-loop
-returns c = stopped-by _ _ (ap doneOf (c .enum-told2 .given .1)) ∙ keyed-here (c .before .before .before .before)
+unfolding dropped
+returns c =
+    let looked = c .before .before .before .before .before in
+    let n = looked .before .before .before .before .before .before .loop in
+    let told = ap foundOf (c .before .enum-told .given .1) in
+    let stopped =
+    line-stopped (book looked) (this looked) (n .sheet) (n .keyed) (n .count) (rw told at (looked .key-line .ensures)) in
+    rw (c .without-number .ensures, told)
+    (stopped-by (book looked) (rest looked) (keyed (book looked) (this looked) (so-far looked)) stopped ∙ all-from-here looked)
 
 loop-again : tie.Need-loop-again Inv-loop μ-loop
-loop-again c =
-    let keyed = keyed-here (c .before .before .before .before .before) in
-    (omega arith, omega arith, gone-on _ _ (ap doneOf (c .before .enum-told .given .1)) ∙ keyed)
+loop-again c = (omega arith, omega arith, left-to-key (c .before .before .before) (c .before .wide16 .result) (c .before .wide16 .ensures .0))
 
 loop-again-2 : tie.Need-loop-again-2 Inv-loop μ-loop
 loop-again-2 c =
-    let keyed = keyed-here (c .before .before .before .before .before) in
-    (omega arith, omega arith, past-end _ _ _ (c .if1 .left) ∙ gone-on _ _ (ap doneOf (c .before .enum-told .given .1)) ∙ keyed)
+    let told = c .before .before .before in
+    let n = looked told .before .before .before .before .before .before .loop in
+    let same = past-end (book (looked told)) (input (looked told))
+    (order (left told) (set (n .keyed) (c .before .wide16 .result) (line (option told) (eqb (getD (input (looked told)) (from (looked told)) 0) 45))) (n .count + 1))
+    (c .if1 .left) in
+    (omega arith, omega arith, ap onSheet same ∙ left-to-key told (c .before .wide16 .result) (c .before .wide16 .ensures .0))
 
 returns-2 : tie.Need-returns-2 Inv-loop μ-loop
 unfolding all-keyed lines
@@ -79,10 +163,17 @@ key-lines-spec =
     (λ c. search needs)
     (λ c. search needs)
     (λ c κs. search needs)
-    enum-told
     (λ c. search needs)
+    (λ c. search needs)
+    (λ c κs. search needs)
     (λ c. search needs)
     returns
+    cast-t23
+    (λ c. search needs)
+    (λ c κs. search needs)
+    (λ c. search needs)
+    array-set-from-keyed
+    add-count
     (λ c. search needs)
     (λ c. search needs)
     loop-again

@@ -1,0 +1,2 @@
+pub mod CopiedLines
+pub mod Stored

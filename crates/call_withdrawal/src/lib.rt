@@ -1,0 +1,67 @@
+// Withdrawals: a line taken back, and the sheet made anew without it.
+ghost use mathlib.Core.Path.{_≡_};
+ghost use Prim.Native.Nat.{_≤_};
+ghost use Rattle.calls.specs.Chains.{«withdraw-refusal»};
+ghost use Rattle.calls.specs.Calls.{withdrawOf};
+ghost use Rattle.calls.specs.Lines.{«most-lines»};
+ghost use Rattle.theory_formats.specs.Loading.{Accepted};
+ghost use Rattle.call_answers.specs.AnswerMeaning.{doneOf, dueOf, afterCall, onSheet};
+ghost use Rattle.order_lines.specs.LineMeaning.{order};
+ghost use Rattle.call_withdrawal.specs.LastTests.{«line-refusal»};
+use call_answers::Done;
+use call_answers::Refusal;
+use common_limits::LITERAL_WEIGHT;
+use common_limits::MOST_WEIGHT;
+use order_lines::Line;
+use order_lines::SLOTS;
+
+// Why line k cannot be taken back, where the book is accepted and the lines are in order.
+fn refuse_line(book: &[u8], count: u16, k: u64) -> Done
+    requires { ⌜ Accepted (now book) × (count ≤ «most-lines») ⌝ }
+    ensures { λ r. ⌜ dueOf r ≡ «line-refusal» (now (book .entry)) count k ⌝ }
+{
+    let lines = common_nodes::wide16(count);
+    if lines as u64 <= k {
+        return Done::Refused(Refusal::Line);
+    }
+    if MOST_WEIGHT < call_books::weight_of(book) + LITERAL_WEIGHT * (lines - 1) {
+        return Done::Refused(Refusal::Full);
+    }
+    Done::Accepted
+}
+
+// Why a withdrawal is refused. Nothing is written yet.
+fn refuse(sheet: &[u16], book: &[u8], lines: [Line; SLOTS], count: u16, k: u64) -> Done
+    ensures { λ r. ⌜ dueOf r ≡ «withdraw-refusal» (order (now (sheet .entry)) lines count) (now (book .entry)) k ⌝ }
+{
+    if !sheet_check::is_sheet(sheet) {
+        return Done::Refused(Refusal::Sheet);
+    }
+    let checked = call_books::check(book);
+    let Done::Accepted = checked else {
+        return checked;
+    };
+    if common_nodes::word_at(book, 0) != common_nodes::wide16(sheet[0]) {
+        return Done::Refused(Refusal::Sheet);
+    }
+    if !order_check::are_in_order(lines, count, sheet[0]) {
+        return Done::Refused(Refusal::Sheet);
+    }
+    refuse_line(book, count, k)
+}
+
+// The withdrawal of line k, by a copy of the lines: what it answers, and what it leaves of the sheet. Once all is tested the book is
+// loaded and the standing lines get their marks, of which none can be refused.
+pub fn withdraw(sheet: &mut [u16], book: &[u8], lines: [Line; SLOTS], count: u16, k: u64) -> Done
+    ensures { λ r. ⌜
+        afterCall (doneOf r) (now (sheet .exit))
+        ≡ onSheet (withdrawOf (order (now (sheet .entry)) lines count) (now (book .entry)) k) ⌝ }
+{
+    let refused = refuse(sheet, book, lines, count, k);
+    let Done::Accepted = refused else {
+        return refused;
+    };
+    book_load::fill_sheet(book, sheet);
+    order_marks::put_standing(sheet, lines, common_nodes::wide16(count), k as usize);
+    Done::Accepted
+}

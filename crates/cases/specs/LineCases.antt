@@ -1,0 +1,101 @@
+-- Document 02, U2: one keying and one withdrawal, slot by slot.
+use mathlib.Core.Bool.{true, false}
+use mathlib.Core.List.{List, [], _∷_, map}
+use mathlib.Core.Path.{_≡_, refl}
+use Prim.Native.Nat.{ℕ}
+use lib.ListN.{replicate}
+use Rattle.model.specs.Literal.{Literal, pos, neg}
+use Rattle.calls.specs.Refusals.{full-refused}
+use Rattle.calls.specs.Outcomes.{Outcome, refused, accepted}
+use Rattle.calls.specs.Lines.{State}
+use Rattle.calls.specs.Calls.{keyOf, withdrawOf}
+use Rattle.cases.specs.Opened.{definitions}
+use Rattle.cases.specs.Samples.{P, Q, not-P, not-Q, any-of, root, book, sheet, lined, said, samples}
+
+-- "P or Q", and its sheet.
+unfoldable pub P-or-Q : List ℕ
+P-or-Q = book ("P" ∷ "Q" ∷ []) ((any-of 2 ∷ P ∷ Q ∷ []) ∷ [])
+
+-- "Keying adds a line and the mark": at the count, over what stood there; all other slots stay.
+unfoldable pub one-keyed : Outcome State (Unit {0})
+one-keyed = keyOf (lined (sheet 2 (root 1 ∷ any-of 2 ∷ P ∷ Q ∷ [])) (pos 0 ∷ neg 300 ∷ pos 7 ∷ []) 1) 1 true
+
+pub keyed-so :
+    one-keyed
+    ≡ record {
+      answer = accepted tt;
+      lent = lined (sheet 2 (root 2 ∷ any-of 2 ∷ P ∷ Q ∷ not-Q ∷ [])) (pos 0 ∷ neg 1 ∷ pos 7 ∷ []) 2;
+    }
+unfolding definitions samples one-keyed
+keyed-so = refl
+
+-- "After a refusal each lent buffer holds what it held before": a full sheet, and room for its line.
+unfoldable pub full : State
+full = lined (sheet 1 (root 1 ∷ any-of 2047 ∷ replicate 2047 P)) (pos 0 ∷ neg 300 ∷ []) 1
+
+pub refused-so : keyOf full 0 true ≡ record { answer = refused full-refused; lent = full }
+unfolding definitions samples full
+refused-so = refl
+
+-- Four lines of which three are counted; the sheet has been run to its end. Lines 0, 1 and 2 taken back: "removes it, moves later lines
+-- up, loads the sheet afresh and keys the remaining lines in order"; the slot that is freed "keeps what it held", as does the next.
+unfoldable pub three : State
+three = lined (sheet 2 (root 2 ∷ P ∷ not-Q ∷ [])) (neg 1 ∷ pos 0 ∷ neg 0 ∷ neg 300 ∷ []) 3
+
+unfoldable pub taken-back : List (Outcome State (Unit {0}))
+taken-back = map (withdrawOf three P-or-Q) (0 ∷ 1 ∷ 2 ∷ [])
+
+pub taken-back-so :
+    taken-back
+    ≡ map (λ t. record { answer = accepted tt; lent = t })
+    (lined (sheet 2 (root 3 ∷ any-of 2 ∷ P ∷ Q ∷ P ∷ not-P ∷ [])) (pos 0 ∷ neg 0 ∷ neg 0 ∷ neg 300 ∷ []) 2
+    ∷ lined (sheet 2 (root 3 ∷ any-of 2 ∷ P ∷ Q ∷ not-Q ∷ not-P ∷ [])) (neg 1 ∷ neg 0 ∷ neg 0 ∷ neg 300 ∷ []) 2
+    ∷ lined (sheet 2 (root 3 ∷ any-of 2 ∷ P ∷ Q ∷ not-Q ∷ P ∷ [])) (neg 1 ∷ pos 0 ∷ neg 0 ∷ neg 300 ∷ []) 2
+    ∷ [])
+unfolding definitions samples P-or-Q three taken-back
+taken-back-so = refl
+
+-- "A count over 64, another number of slots, a counted line naming no option .. is refused 11"; the last line of "64 slots" may be
+-- counted, and what stands past the count is not looked at.
+unfoldable pub slots : ℕ → ℕ → Literal → List ℕ
+slots many count l =
+    let s = sheet 1 (root 0 ∷ []) in
+    let t : State = record { sheet = s; lines = replicate many l; count = count } in
+    said (keyOf t 0 false .answer) ∷ said (withdrawOf t (book ("P" ∷ []) []) 0 .answer) ∷ []
+
+unfoldable pub lines-judged : List (List ℕ)
+lines-judged =
+    slots 64 63 (pos 0)
+    ∷ slots 64 64 (neg 0)
+    ∷ slots 64 65 (pos 0)
+    ∷ slots 63 1 (pos 0)
+    ∷ slots 65 1 (pos 0)
+    ∷ slots 0 0 (pos 0)
+    ∷ slots 64 1 (pos 1)
+    ∷ slots 64 0 (neg 65535)
+    ∷ []
+
+pub lines-judged-so :
+    lines-judged
+    ≡ (0 ∷ 0 ∷ [])
+    ∷ (14 ∷ 0 ∷ [])
+    ∷ (11 ∷ 11 ∷ [])
+    ∷ (11 ∷ 11 ∷ [])
+    ∷ (11 ∷ 11 ∷ [])
+    ∷ (11 ∷ 11 ∷ [])
+    ∷ (11 ∷ 11 ∷ [])
+    ∷ (0 ∷ 13 ∷ [])
+    ∷ []
+unfolding definitions samples slots lines-judged
+lines-judged-so = refl
+
+-- "Refusal 8 applies if book weight plus twice the remaining lines is over 4,096": 4,094 with one line left, and with two.
+unfoldable pub room-left : List ℕ
+room-left =
+    let s = sheet 1 (root 0 ∷ []) in
+    let b = book ("P" ∷ []) ((any-of 2046 ∷ replicate 2046 P) ∷ []) in
+    map (λ n. said (withdrawOf (lined s (replicate 64 (pos 0)) n) b 0 .answer)) (1 ∷ 2 ∷ 3 ∷ [])
+
+pub room-left-so : room-left ≡ 0 ∷ 0 ∷ 8 ∷ []
+unfolding definitions samples room-left
+room-left-so = refl

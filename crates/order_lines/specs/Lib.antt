@@ -1,0 +1,2 @@
+pub mod LineMeaning
+pub mod LentLines
