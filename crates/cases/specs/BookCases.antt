@@ -7,9 +7,9 @@ use lib.ListN.{take, replicate}
 use Rattle.calls.specs.Refusals.{option-refused}
 use Rattle.calls.specs.Outcomes.{Answer, refused, accepted, Outcome}
 use Rattle.calls.specs.Calls.{checkOf, lookupOf, loadOf, writeOf}
-use Rattle.cases.specs.Opened.{definitions}
-use Rattle.cases.specs.Samples.{P, Q, not-P, not-Q, not-R, True, False, plain, barred, all-of, any-of, root, text}
-use Rattle.cases.specs.Samples.{book-of, book, first-book, sheet, said, samples}
+use Rattle.case_samples.specs.Opened.{definitions}
+use Rattle.case_samples.specs.Samples.{P, Q, not-P, not-Q, not-R, True, False, plain, barred, all-of, any-of, root, text}
+use Rattle.case_samples.specs.Samples.{book-of, book, first-book, sheet, said, samples}
 
 -- The number that the book check says: 0 where the book is good.
 unfoldable pub checked : List ℕ → ℕ

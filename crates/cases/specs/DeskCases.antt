@@ -7,8 +7,8 @@ use Prim.Native.String.{String}
 use lib.ListN.{replicate}
 use Rattle.model.specs.Literal.{pos}
 use Rattle.calls.specs.Desk.{lines, all-keyed, with-no-lines, first-line, deskOf}
-use Rattle.cases.specs.Opened.{definitions}
-use Rattle.cases.specs.Samples.{text, P, Q, True, any-of, root, book, first-book, sheet, lined, said, samples}
+use Rattle.case_samples.specs.Opened.{definitions}
+use Rattle.case_samples.specs.Samples.{text, P, Q, True, any-of, root, book, first-book, sheet, lined, said, samples}
 
 -- A book with these choices keyed.
 unfoldable pub keyed-on : List ℕ → String → List ℕ

@@ -4,8 +4,8 @@ use mathlib.Core.List.{List, [], _∷_, _++_, map}
 use mathlib.Core.Path.{_≡_, refl}
 use lib.ListN.{take, replicate}
 use Rattle.model.specs.Sheet.{is-sheet}
-use Rattle.cases.specs.Opened.{definitions}
-use Rattle.cases.specs.Samples.{P, True, plain, barred, all-of, any-of, root, sheet, samples}
+use Rattle.case_samples.specs.Opened.{definitions}
+use Rattle.case_samples.specs.Samples.{P, True, plain, barred, all-of, any-of, root, sheet, samples}
 
 -- No rules, no options; the last of 512 options.
 unfoldable pub good : List Bool

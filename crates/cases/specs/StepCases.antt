@@ -10,8 +10,8 @@ use Rattle.model.specs.Rules.{step}
 use Rattle.calls.specs.Refusals.{rule-refused, step-refused}
 use Rattle.calls.specs.Outcomes.{refused, accepted, Outcome}
 use Rattle.calls.specs.Calls.{stepOf}
-use Rattle.cases.specs.Opened.{definitions}
-use Rattle.cases.specs.Samples.{P, Q, R, not-P, not-R, True, False, all-of, any-of, root, sheet, samples}
+use Rattle.case_samples.specs.Opened.{definitions}
+use Rattle.case_samples.specs.Samples.{P, Q, R, not-P, not-R, True, False, all-of, any-of, root, sheet, samples}
 
 -- The nodes after a step (rule, place, i, j), if it applies.
 unfoldable pub turned : ℕ → ℕ → ℕ → ℕ → List ℕ → Option (List ℕ)

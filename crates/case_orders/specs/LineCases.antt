@@ -9,8 +9,8 @@ use Rattle.calls.specs.Refusals.{full-refused}
 use Rattle.calls.specs.Outcomes.{Outcome, refused, accepted}
 use Rattle.calls.specs.Lines.{State}
 use Rattle.calls.specs.Calls.{keyOf, withdrawOf}
-use Rattle.cases.specs.Opened.{definitions}
-use Rattle.cases.specs.Samples.{P, Q, not-P, not-Q, any-of, root, book, sheet, lined, said, samples}
+use Rattle.case_samples.specs.Opened.{definitions}
+use Rattle.case_samples.specs.Samples.{P, Q, not-P, not-Q, any-of, root, book, sheet, lined, said, samples}
 
 -- "P or Q", and its sheet.
 unfoldable pub P-or-Q : List ℕ

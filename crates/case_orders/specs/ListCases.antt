@@ -9,8 +9,8 @@ use Rattle.model.specs.Sheet.{nodes-in}
 use Rattle.calls.specs.Lines.{State, counted}
 use Rattle.calls.specs.History.{Call, key, withdraw, step, run, after-calls, Account, loaded, account-calls, meaning, is-stretch}
 use Rattle.calls.specs.History.{steps-of, ends-settled}
-use Rattle.cases.specs.Opened.{definitions}
-use Rattle.cases.specs.Samples.{P, Q, not-P, not-Q, any-of, root, book, first-book, sheet, lined, samples}
+use Rattle.case_samples.specs.Opened.{definitions}
+use Rattle.case_samples.specs.Samples.{P, Q, not-P, not-Q, any-of, root, book, first-book, sheet, lined, samples}
 
 -- "P or Q": the book, the sheet that the loader fills from it (`CallCases`), and the sheet with "choice not Q".
 unfoldable pub P-or-Q : List ℕ

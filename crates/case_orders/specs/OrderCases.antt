@@ -9,8 +9,8 @@ use Prim.Native.String.{String}
 use lib.ListN.{replicate}
 use Rattle.model.specs.Literal.{pos}
 use Rattle.calls.specs.Calls.{checkOf, lookupOf, loadOf, writeOf, reportOf, completeOf, keyOf, withdrawOf, stepOf, runOf}
-use Rattle.cases.specs.Opened.{definitions}
-use Rattle.cases.specs.Samples.{P, True, plain, any-of, root, text, codes, book-of, book, sheet, lined, said, samples}
+use Rattle.case_samples.specs.Opened.{definitions}
+use Rattle.case_samples.specs.Samples.{P, True, plain, any-of, root, text, codes, book-of, book, sheet, lined, said, samples}
 
 unfoldable pub checked : List ℕ → ℕ
 checked b = let bytes = b in said (checkOf bytes)

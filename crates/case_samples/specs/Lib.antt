@@ -1,0 +1,3 @@
+-- What computed cases see through, and what they are spelled with.
+pub mod Opened
+pub mod Samples
