@@ -1,12 +1,10 @@
 // The contents and the bodies of a book.
 ghost use mathlib.Core.Path.{_≡_};
 ghost use mathlib.Core.Bool.{true};
-ghost use mathlib.Core.List.{map};
 ghost use Prim.Native.Nat.{_*_, _≤_};
 ghost use lib.ListN.{length};
 ghost use Rattle.model.specs.Base.{all};
 ghost use Rattle.model.specs.Limits.{«most-rules», «most-nodes»};
-ghost use Rattle.model.specs.Code.{literals, «node-of»};
 ghost use Rattle.model.specs.Book.{words, entries, «in-line», cut, «body-ok»};
 use common_nodes::Trees;
 
@@ -70,20 +68,4 @@ pub fn are_bodies(contents: &[u8], m: usize, s: &[u8], total: usize, n: usize) -
         i += 1;
     }
     true
-}
-
-// The literals among so many nodes.
-pub fn count_literals(s: &[u8], total: usize) -> usize
-    requires { ⌜ (total ≤ «most-nodes») × (2 * total ≤ length (now s)) ⌝ }
-    ensures { λ r. ⌜ r ≡ literals (map «node-of» (words total (now (s .entry)))) ⌝ }
-{
-    let mut sum = 0;
-    let mut i = 0;
-    while i < total {
-        if common_nodes::is_literal(common_nodes::word_at(s, 2 * i)) {
-            sum += 1;
-        }
-        i += 1;
-    }
-    sum
 }

@@ -1,16 +1,16 @@
 -- What the book check computes, test by test.
 use mathlib.Core.Bool.{Bool, true, false, _&&_}
-use mathlib.Core.List.{List, map}
+use mathlib.Core.List.{List}
 use mathlib.Core.Option.{Option, none, some}
 use mathlib.Core.Path.{_≡_, refl, sym, ap, _∙_}
 use Prim.Native.Nat.{ℕ, _+_, _-_, _*_, _≤_, _<_}
 use native.Mathlib.Omega.{arith}
 use borrow.Author.Tests.{leb-true, le-leb, lt-leb}
 use lib.Dec.{eqb, leb}
-use lib.ListN.{length, take, drop, length-map}
+use lib.ListN.{length, take, drop}
 use borrow.Rule.Slice.PartAt.{part-to-end}
 use Rattle.model.specs.Base.{all, only-if, first-of, is-some, maybe}
-use Rattle.model.specs.Code.{literals, weight, node-of}
+use Rattle.model.specs.Code.{weight}
 use Rattle.model.specs.Limits.{most-options, most-rules, most-nodes, most-weight}
 use Rattle.model.specs.Book.{word, words, entries, pieces, cut, codes-ok, option-of-code, in-line, body-ok, options-of, rules-of}
 use Rattle.model.specs.Book.{size-of, head-in-limits, codes-end, contents-end, length-due, codes-of, contents-of, numbers-of}
@@ -26,8 +26,7 @@ use Rattle.call_answers.specs.declared.Done.the-variants.{Accepted, Refused}
 use Rattle.call_answers.specs.AnswerMeaning.{refusalOf, dueOf, doneOf}
 use Rattle.theory_forms.specs.Logic.{and-split}
 use Rattle.call_laws.specs.Books.{GoodHead, accepted-book}
-use Rattle.theory_formats.specs.Bytes.{length-words}
-use Rattle.theory_forms.specs.Scan.{literals-within}
+use Rattle.common_weight.specs.Sums.{most-sum}
 
 -- The head: the first number over its limit makes it bad.
 module _ (b : List ℕ) (n m t : ℕ) (pn : n ≡ word b 0) (pm : m ≡ word b 2) (pt : t ≡ word b 4) where
@@ -55,12 +54,6 @@ module _ (b : List ℕ) (n m t : ℕ) (pn : n ≡ word b 0) (pm : m ≡ word b 2
   unfolding bodies-of
   bodies-are = rw (contents-are, numbers-are)
 
-  pub weight-is : weight (book-nodes b) ≡ 1 + t + literals (map node-of (words t (drop (8 + 13 * n + 4 * m) b)))
-  unfolding weight book-nodes literals
-  weight-is =
-      rw numbers-are
-      (omega (arith, length-map (words t (drop (8 + 13 * n + 4 * m) b)) node-of, length-words t (drop (8 + 13 * n + 4 * m) b)))
-
   -- A head within its limits.
   pub head-limits : head-in-limits b ≡ true → (n ≤ most-options) × (m ≤ most-rules) × (t ≤ most-nodes)
   head-limits h =
@@ -73,7 +66,7 @@ module _ (b : List ℕ) (n m t : ℕ) (pn : n ≡ word b 0) (pm : m ≡ word b 2
 abbrev pub rest : List ℕ → ℕ → List ℕ
 rest b a = take (length b - a) (drop a b)
 
--- The four tests as they are made, on the parts that are lent: the codes, the contents, the bodies, the weight.
+-- The four tests as they are made: the codes, the contents and the bodies on the parts that are lent, and the weight.
 module _ {b : List ℕ} {n m t : ℕ} (s : GoodHead b n m t) where
   pub codes-test : {x : Bool} → x ≡ codes-ok (pieces 13 n (rest b 8)) → has-good-codes b ≡ x
   codes-test e =
@@ -93,10 +86,12 @@ module _ {b : List ℕ} {n m t : ℕ} (s : GoodHead b n m t) where
       rw (bodies-are b n m t (s .options) (s .rules) (s .nodes), ← s .options)
       (sym (rw (part-to-end b (8 + 13 * n), part-to-end b (8 + 13 * n + 4 * m)) at e))
 
-  pub weight-test : {q : ℕ} → q ≡ literals (map node-of (words t (rest b (8 + 13 * n + 4 * m)))) → weight (book-nodes b) ≡ 1 + t + q
-  weight-test e =
-      weight-is b n m t (s .options) (s .rules) (s .nodes)
-      ∙ ap (λ q. 1 + t + q) (sym (rw (part-to-end b (8 + 13 * n + 4 * m)) at e))
+  -- The head's limits bound the sum, and what is summed is there.
+  pub weigh-test : (1 + 2 * size-of b ≤ most-sum) × (length-due b ≤ length b)
+  unfolding size-of
+  weigh-test =
+      let due = length-is b n m t (s .options) (s .rules) (s .nodes) in
+      (omega (arith, s .nodes, s .few-nodes), omega (arith, due, s .long))
 
 -- The refusal by their answers.
 module _ (b : List ℕ) where
@@ -122,11 +117,6 @@ module _ (b : List ℕ) where
         pub all-good : weight (book-nodes b) ≤ most-weight → none ≡ part-refusal b
         unfolding part-refusal first-of only-if
         all-good h = rw (codes, contents, bodies, le-leb (weight (book-nodes b)) most-weight h)
-
--- There are no more literals than nodes.
-pub few-literals : (t : ℕ) (l : List ℕ) {q : ℕ} → q ≡ literals (map node-of (words t l)) → q ≤ t
-few-literals t l e =
-    omega (arith, e, literals-within (map node-of (words t l)), length-map (words t l) node-of, length-words t l)
 
 -- The book check's answer, by the refusal that is due.
 pub refused-by : (b : List ℕ) (r : Refusal) → book-refusal b ≡ some r → refused r ≡ checkOf b

@@ -3,9 +3,7 @@ ghost use mathlib.Core.Path.{_≡_};
 ghost use Prim.Native.Nat.{_≤_};
 ghost use lib.ListN.{length};
 ghost use Rattle.model.specs.Limits.{«head-length»};
-ghost use Rattle.model.specs.Code.{weight};
-ghost use Rattle.model.specs.Book.{«head-in-limits», «book-nodes»};
-ghost use Rattle.theory_formats.specs.Loading.{Accepted};
+ghost use Rattle.model.specs.Book.{«head-in-limits»};
 ghost use Rattle.calls.specs.Calls.{checkOf, lookupOf};
 ghost use Rattle.calls.specs.Chains.{«part-refusal»};
 ghost use Rattle.call_laws.specs.Books.{GoodHead};
@@ -19,7 +17,7 @@ use common_limits::HEAD_LENGTH;
 use common_limits::MOST_NODES;
 use common_limits::MOST_OPTIONS;
 use common_limits::MOST_RULES;
-use common_limits::MOST_WEIGHT;
+use common_weight::MOST_WEIGHT;
 
 // The numbers of the head are within their limits, and the fourth is zero.
 fn is_head(book: &[u8]) -> bool
@@ -38,26 +36,6 @@ fn is_head(book: &[u8]) -> bool
     common_nodes::word_at(book, 6) == 0
 }
 
-// The weight of a book with a good head and the length due: the root, the nodes and the literals.
-fn weigh(book: &[u8], n: usize, m: usize, t: usize) -> usize
-    requires { ⌜ GoodHead (now book) n m t ⌝ }
-    ensures { λ r. ⌜ r ≡ weight («book-nodes» (now (book .entry))) ⌝ }
-{
-    let bodies = HEAD_LENGTH + CODE_LENGTH * n + 4 * m;
-    1 + t + book_body::count_literals(&book[bodies..], t)
-}
-
-// The weight of an accepted book.
-pub fn weight_of(book: &[u8]) -> usize
-    requires { ⌜ Accepted (now book) ⌝ }
-    ensures { λ r. ⌜ r ≡ weight («book-nodes» (now (book .entry))) ⌝ }
-{
-    let n = common_nodes::word_at(book, 0);
-    let m = common_nodes::word_at(book, 2);
-    let t = common_nodes::word_at(book, 4);
-    weigh(book, n, m, t)
-}
-
 // What a book with a good head and the length due is refused for: its codes, its contents, its bodies, its weight.
 fn check_parts(book: &[u8], n: usize, m: usize, t: usize) -> Done
     requires { ⌜ GoodHead (now book) n m t ⌝ }
@@ -74,7 +52,7 @@ fn check_parts(book: &[u8], n: usize, m: usize, t: usize) -> Done
     if !book_body::are_bodies(&book[contents..], m, &book[bodies..], t, n) {
         return Done::Refused(Refusal::Body);
     }
-    if MOST_WEIGHT < weigh(book, n, m, t) {
+    if MOST_WEIGHT < common_weight::weigh_book(book) {
         return Done::Refused(Refusal::Weight);
     }
     Done::Accepted

@@ -1,17 +1,15 @@
--- The weight as a keying counts it, and its answers in the order of its tests.
+-- The answers of a keying in the order of its tests.
 use mathlib.Core.Bool.{Bool, true, false}
-use mathlib.Core.List.{List, map}
+use mathlib.Core.List.{List}
 use mathlib.Core.Path.{_≡_, refl}
 use Prim.Native.Nat.{ℕ, _+_, _-_, _≤_, _<_}
-use native.Mathlib.Omega.{arith}
 use borrow.Author.Tests.{eq-eqb, ne-eqb, lt-ltb, le-ltb}
-use borrow.Rule.Slice.PartAt.{part-to-end}
-use lib.ListN.{length, getD, take, drop}
+use lib.ListN.{length, getD}
 use Rattle.model.specs.Base.{first-of, only-if}
 use Rattle.model.specs.Literal.{literal}
-use Rattle.model.specs.Code.{literals, weight, node-of}
+use Rattle.model.specs.Code.{weight}
 use Rattle.model.specs.Limits.{most-weight, literal-weight, sheet-length, sheet-room}
-use Rattle.model.specs.Sheet.{options-in, used-in, numbers-in, nodes-in, is-sheet}
+use Rattle.model.specs.Sheet.{options-in, used-in, nodes-in, is-sheet}
 use Rattle.model.specs.Results.{appended}
 use Rattle.calls.specs.Refusals.{sheet-refused, list-refused, option-refused, full-refused}
 use Rattle.calls.specs.Outcomes.{refused, accepted, outcome}
@@ -23,29 +21,6 @@ use Rattle.call_laws.specs.Accepted.{outcome-sheet}
 use Rattle.call_answers.specs.AnswerMeaning.{afterCall, onSheet}
 use Rattle.call_keying.specs.Marks.{mark-refusal, markedOf}
 use Rattle.theory_forms.specs.Sheets.{sheet-formed}
-
--- The weight, as a keying counts it: the used count and the literals of the lent nodes.
-pub weight-counted :
-    (s : List ℕ) →
-    is-sheet s ≡ true →
-    {u q : ℕ} →
-    u ≡ getD s 1 0 →
-    q ≡ literals (map node-of (take u (take (length s - 2) (drop 2 s)))) →
-    u + q ≡ weight (nodes-in s)
-unfolding weight used-in nodes-in numbers-in
-weight-counted s h {u} e f =
-    let facts = sheet-formed s h in
-    let count : literals (map node-of (take u (take (length s - 2) (drop 2 s)))) ≡ literals (nodes-in s) = counted s e in
-    omega (arith, facts .count, used-is s)
-  where
-    used-is : (s : List ℕ) → used-in s ≡ getD s 1 0
-    used-is s = refl
-
-    counted :
-        (s : List ℕ) {u : ℕ} →
-        u ≡ getD s 1 0 →
-        literals (map node-of (take u (take (length s - 2) (drop 2 s)))) ≡ literals (nodes-in s)
-    counted s e = rw (e, part-to-end s 2)
 
 -- The answers once the sheet and the lines are known to be good, in the order of the tests.
 module _ (s : List ℕ) (c v : ℕ) (negative : Bool) where
@@ -103,6 +78,6 @@ module _ (t : State) (v : ℕ) (negative : Bool) where
   key-in-order h o = rw (h, o) (outcome-sheet _ _ t _)
 
 -- What is known of a sheet's first numbers.
-pub sheet-first : (s : List ℕ) → is-sheet s ≡ true → (length s ≡ sheet-length) × (getD s 1 0 ≤ sheet-room) × (getD s 0 0 ≡ options-in s)
-unfolding used-in options-in
+pub sheet-first : (s : List ℕ) → is-sheet s ≡ true → (length s ≡ sheet-length) × (used-in s ≤ sheet-room) × (getD s 0 0 ≡ options-in s)
+unfolding options-in
 sheet-first s h = let facts = sheet-formed s h in (facts .whole, facts .used, refl)

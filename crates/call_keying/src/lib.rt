@@ -8,8 +8,8 @@ ghost use Rattle.order_lines.specs.LineMeaning.{order};
 ghost use Rattle.call_keying.specs.Marks.{markedOf};
 use call_answers::Done;
 use call_answers::Refusal;
-use common_limits::LITERAL_WEIGHT;
-use common_limits::MOST_WEIGHT;
+use common_weight::LITERAL_WEIGHT;
+use common_weight::MOST_WEIGHT;
 use order_lines::Line;
 use order_lines::MOST_LINES;
 use order_lines::SLOTS;
@@ -25,8 +25,8 @@ fn key_mark(sheet: &mut [u16], count: u16, option: u64, negative: bool) -> Done
     if common_nodes::wide16(sheet[0]) as u64 <= option {
         return Done::Refused(Refusal::Unknown);
     }
-    let used = common_nodes::wide16(sheet[1]);
-    if MOST_WEIGHT < used + sheet_check::count_literals(&sheet[2..], used) + LITERAL_WEIGHT {
+    let weight = common_weight::weigh_sheet(sheet);
+    if MOST_WEIGHT < common_weight::add_weights(weight, LITERAL_WEIGHT) {
         return Done::Refused(Refusal::Full);
     }
     sheet_append::append(sheet, option as u16, negative);

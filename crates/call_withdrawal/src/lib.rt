@@ -10,8 +10,8 @@ ghost use Rattle.order_lines.specs.LineMeaning.{order};
 ghost use Rattle.call_withdrawal.specs.LastTests.{«line-refusal»};
 use call_answers::Done;
 use call_answers::Refusal;
-use common_limits::LITERAL_WEIGHT;
-use common_limits::MOST_WEIGHT;
+use common_weight::LITERAL_WEIGHT;
+use common_weight::MOST_WEIGHT;
 use order_lines::Line;
 use order_lines::SLOTS;
 
@@ -20,11 +20,11 @@ fn refuse_line(book: &[u8], count: u16, k: u64) -> Done
     requires { ⌜ Accepted (now book) × (count ≤ «most-lines») ⌝ }
     ensures { λ r. ⌜ dueOf r ≡ «line-refusal» (now (book .entry)) count k ⌝ }
 {
-    let lines = common_nodes::wide16(count);
-    if lines as u64 <= k {
+    if count as u64 <= k {
         return Done::Refused(Refusal::Line);
     }
-    if MOST_WEIGHT < call_books::weight_of(book) + LITERAL_WEIGHT * (lines - 1) {
+    let weight = common_weight::weigh_book(book);
+    if MOST_WEIGHT < common_weight::add_weights(weight, LITERAL_WEIGHT * (count - 1)) {
         return Done::Refused(Refusal::Full);
     }
     Done::Accepted

@@ -1,10 +1,7 @@
-// The limits and sizes of books and sheets, by the names that `model::specs::Limits` gives them.
+// The limits and sizes of books and sheets, by the names that `model::specs::Limits` gives them. Those of weights stand in `common_weight`.
 
 // The options that a book or a sheet may have.
 pub const MOST_OPTIONS: usize = 512;
-
-// The nodes and the marks that a sheet may have together.
-pub const MOST_WEIGHT: usize = 4096;
 
 // The rules that a book may have: their number stands in the head.
 pub const MOST_RULES: usize = 4095;
@@ -39,9 +36,6 @@ pub const SHEET_LENGTH: usize = SHEET_ROOM + 2;
 
 // The literals of as many options as a sheet may have: each option plain and barred.
 pub const MOST_LITERALS: usize = 2 * MOST_OPTIONS;
-
-// A literal is a node and a mark.
-pub const LITERAL_WEIGHT: usize = 2;
 
 // Rules are numbered from 1.
 pub const LAST_RULE: usize = 14;

@@ -7,13 +7,13 @@ ghost use lib.Dec.{eqb};
 ghost use lib.ListN.{length, take};
 ghost use Rattle.model.specs.Base.{all};
 ghost use Rattle.model.specs.Limits.{«sheet-room»};
-ghost use Rattle.model.specs.Code.{literals, «node-of», «one-tree»};
+ghost use Rattle.model.specs.Code.{«node-of», «one-tree»};
 ghost use Rattle.model.specs.Sheet.{rooted, «is-sheet»};
 use common_limits::MOST_OPTIONS;
-use common_limits::MOST_WEIGHT;
 use common_limits::SHEET_LENGTH;
 use common_limits::SHEET_ROOM;
 use common_nodes::Trees;
+use common_weight::MOST_WEIGHT;
 
 // The first so many numbers are one tree with the root at its head and nowhere else, for n options.
 fn is_rooted_tree(s: &[u16], used: usize, n: usize) -> bool
@@ -57,25 +57,7 @@ fn is_clear(s: &[u16]) -> bool
     true
 }
 
-// The literals among the first so many numbers.
-pub fn count_literals(s: &[u16], used: usize) -> usize
-    requires { ⌜
-        (used ≤ «sheet-room»)
-        × (used ≤ length (now s)) ⌝ }
-    ensures { λ r. ⌜ r ≡ literals (map «node-of» (take used (now (s .entry)))) ⌝ }
-{
-    let mut sum = 0;
-    let mut i = 0;
-    while i < used {
-        if common_nodes::is_literal(common_nodes::wide16(s[i])) {
-            sum += 1;
-        }
-        i += 1;
-    }
-    sum
-}
-
-// Is it a sheet?
+// Is it a sheet? The used count is tested before anything is summed.
 pub fn is_sheet(s: &[u16]) -> bool
     ensures { λ r. ⌜ r ≡ «is-sheet» (now (s .entry)) ⌝ }
 {
@@ -93,12 +75,12 @@ pub fn is_sheet(s: &[u16]) -> bool
     if SHEET_ROOM < used {
         return false;
     }
+    if MOST_WEIGHT < common_weight::weigh_sheet(s) {
+        return false;
+    }
     if !is_rooted_tree(&s[2..], used, n) {
         return false;
     }
     let end = 2 + used;
-    if !is_clear(&s[end..]) {
-        return false;
-    }
-    used + count_literals(&s[2..], used) <= MOST_WEIGHT
+    is_clear(&s[end..])
 }

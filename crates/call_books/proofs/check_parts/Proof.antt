@@ -5,7 +5,7 @@ use native.Mathlib.Omega.{arith}
 use borrow.Author.Needs.{needs}
 use borrow.Author.Tests.{not-true, not-false}
 use Rattle.calls.specs.Conditions.{has-good-codes, has-good-contents, has-good-bodies}
-use Rattle.call_books.proofs.BookTests.{codes-test, contents-test, bodies-test, codes-bad, contents-bad}
+use Rattle.call_books.proofs.BookTests.{codes-test, contents-test, bodies-test, weigh-test, codes-bad, contents-bad}
 use Rattle.call_books.proofs.BookTests.{bodies-bad, weight-bad, all-good}
 use Rattle.call_books.proofs.check_parts.Statement.{statement}
 use Rattle.call_books.proofs.check_parts.Tie as tie
@@ -56,13 +56,16 @@ returns-3 c =
     (bodies-test (d .before .before .before .before .pre) (c .before .are-bodies .ensures)
     ∙ not-true (c .before .are-bodies .result) (c .if3 .taken))
 
+weigh-book-requires : tie.Need-weigh-book-requires
+weigh-book-requires c κs = weigh-test (c .before .before .before .before .before .before .before .before .before .before .before .pre)
+
 returns-4 : tie.Need-returns-4
 returns-4 c =
     let f = c .before .before in
     let e = f .before .before .before .before in
     let d = e .before .before .before in
     weight-bad _ (good-codes d) (good-contents e) (good-bodies f)
-    (omega (arith, c .if4 .taken, c .before .weigh .ensures))
+    (omega (arith, c .if4 .taken, c .before .weigh-book .ensures .0))
 
 returns-5 : tie.Need-returns-5
 returns-5 c =
@@ -70,7 +73,7 @@ returns-5 c =
     let e = f .before .before .before .before in
     let d = e .before .before .before in
     all-good _ (good-codes d) (good-contents e) (good-bodies f)
-    (omega (arith, c .if4 .left, c .before .weigh .ensures))
+    (omega (arith, c .if4 .left, c .before .weigh-book .ensures .0))
 
 pub check-parts-spec : {M : Type 1} → statement M
 check-parts-spec =
@@ -98,6 +101,6 @@ check-parts-spec =
     (λ c. search needs)
     are-bodies-requires
     returns-3
-    (λ c κs. search needs)
+    weigh-book-requires
     returns-4
     returns-5)

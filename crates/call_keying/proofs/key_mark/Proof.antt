@@ -3,12 +3,11 @@ use mathlib.Core.Path.{_≡_}
 use Prim.Native.Nat.{_+_, _<_}
 use native.Mathlib.Omega.{arith}
 use borrow.Author.Needs.{needs}
-use lib.ListN.{length-drop}
-use borrow.Rule.Slice.PartAt.{part-to-end}
+use Rattle.model.specs.Limits.{literal-weight}
 use Rattle.model.specs.Code.{weight}
 use Rattle.model.specs.Sheet.{options-in, nodes-in}
 use Rattle.theory_forms.specs.Sheets.{sheet-weight, sheet-formed}
-use Rattle.call_keying.proofs.KeyingAnswers.{weight-counted, list-full, no-option, no-room, mark-accepted, sheet-first}
+use Rattle.call_keying.proofs.KeyingAnswers.{list-full, no-option, no-room, mark-accepted, sheet-first}
 use Rattle.call_keying.proofs.key_mark.Statement.{statement}
 use Rattle.call_keying.proofs.key_mark.Tie as tie
 
@@ -19,11 +18,9 @@ known c =
     let f = sheet-first s (c .before .before .before .before .before .pre) in
     omega (arith, c .before .wide16 .ensures .0, c .if2 .left)
 
--- The weight as it was counted.
-counted :
-    (c : tie.After-count-literals) →
-    c .before .before .before .wide162 .result + c .count-literals .result ≡ weight (nodes-in (c .before .before .before .before .before .before .before .before .before .before .args .sheet .now))
-counted c = weight-counted _ (c .before .before .before .before .before .before .before .before .before .before .pre) (c .before .before .before .wide162 .ensures .0) (c .count-literals .ensures)
+-- The weight with the mark's, as it was summed.
+summed : (c : tie.After-add-weights) → c .add-weights .result ≡ weight (nodes-in (c .before .before .before .before .before .before .before .before .args .sheet .now)) + literal-weight
+summed c = omega (arith, c .add-weights .ensures .0, c .before .weigh-sheet .ensures .0)
 
 returns : tie.Need-returns
 returns c = list-full _ _ _ _ (c .if1 .taken)
@@ -36,49 +33,33 @@ returns-2 c =
     let f = sheet-first _ (c .before .before .before .before .before .pre) in
     no-option _ _ _ _ (c .before .before .before .if1 .left) (omega (arith, c .before .wide16 .ensures .0, c .if2 .taken))
 
-slice-read-wide16-2 : tie.Need-slice-read-wide16-2
-slice-read-wide16-2 c = let f = sheet-first _ (c .before .before .before .before .before .before .pre) in omega arith
+weigh-sheet-requires : tie.Need-weigh-sheet-requires
+weigh-sheet-requires c κs = let f = sheet-first _ (c .before .before .before .before .before .before .pre) in (omega arith, omega arith)
 
-sub-count-literals : tie.Need-sub-count-literals
-sub-count-literals c = let f = sheet-first _ (c .before .before .before .before .before .before .before .pre) in omega arith
-
-part-count-literals-start : tie.Need-part-count-literals-start
-part-count-literals-start c = let f = sheet-first _ (c .before .before .before .before .before .before .before .before .pre) in omega arith
-
-count-literals-requires : tie.Need-count-literals-requires
-count-literals-requires c κs =
-    let s = c .before .before .before .before .before .before .before .before .before .args .sheet .now in
-    let f = sheet-first s (c .before .before .before .before .before .before .before .before .before .pre) in
-    let u = c .before .before .wide162 .ensures .0 in
-    (omega arith, rw (part-to-end s 2, length-drop 2 s) (omega arith))
-
-add-if3 : tie.Need-add-if3
-add-if3 c = omega (arith, counted c, sheet-weight _ (c .before .before .before .before .before .before .before .before .before .before .pre))
-
-add-if3-2 : tie.Need-add-if3-2
-add-if3-2 c = omega (arith, counted c, sheet-weight _ (c .before .before .before .before .before .before .before .before .before .before .pre))
+add-weights-requires : tie.Need-add-weights-requires
+add-weights-requires c κs = omega (arith, c .weigh-sheet .ensures .0, sheet-weight _ (c .before .before .before .before .before .before .before .pre))
 
 returns-3 : tie.Need-returns-3
 returns-3 c =
-    let named = c .before .before .before .before .before .before in
-    no-room _ _ _ _ (named .before .before .before .if1 .left) (known named) (omega (arith, counted (c .before), c .if3 .taken))
+    let named = c .before .before .before .before in
+    no-room _ _ _ _ (named .before .before .before .if1 .left) (known named) (omega (arith, summed (c .before), c .if3 .taken))
 
 cast-append : tie.Need-cast-append
 cast-append c =
-    let named = c .before .before .before .before .before .before .before in
+    let named = c .before .before .before .before .before in
     record { fits = omega (arith, known named, sheet-formed _ (named .before .before .before .before .before .pre) .options) }
 
 append-requires : tie.Need-append-requires
 append-requires c κs =
-    let named = c .before .before .before .before .before .before .before in
-    (sheet-formed _ (named .before .before .before .before .before .pre), (known named, omega (arith, counted (c .before .before), c .before .if3 .left)))
+    let named = c .before .before .before .before .before in
+    (sheet-formed _ (named .before .before .before .before .before .pre), (known named, omega (arith, summed (c .before .before), c .before .if3 .left)))
 
 returns-4 : tie.Need-returns-4
 returns-4 c =
     let tests = c .before .before .before .before in
-    let named = tests .before .before .before .before .before .before in
+    let named = tests .before .before .before .before in
     rw (c .before .before .append .ensures)
-    (mark-accepted _ _ _ _ (named .before .before .before .if1 .left) (known named) (omega (arith, counted (tests .before), tests .if3 .left)))
+    (mark-accepted _ _ _ _ (named .before .before .before .if1 .left) (known named) (omega (arith, summed (tests .before), tests .if3 .left)))
 
 pub key-mark-spec : {M : Type 1} → statement M
 key-mark-spec =
@@ -88,14 +69,8 @@ key-mark-spec =
     slice-read-wide16
     (λ c κs. search needs)
     returns-2
-    slice-read-wide16-2
-    (λ c κs. search needs)
-    sub-count-literals
-    part-count-literals-start
-    (λ c. search needs)
-    count-literals-requires
-    add-if3
-    add-if3-2
+    weigh-sheet-requires
+    add-weights-requires
     (λ c. search needs)
     returns-3
     cast-append

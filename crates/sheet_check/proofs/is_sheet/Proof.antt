@@ -1,20 +1,19 @@
 -- `sheet_check::is_sheet` meets its contract: the tests of the definition in turn, where the two of a rooted tree are one.
-use mathlib.Core.Bool.{Bool, _&&_, and-false, and-assoc}
+use mathlib.Core.Bool.{Bool, _&&_, and-true, and-false, and-assoc}
 use mathlib.Core.List.{List, map}
 use mathlib.Core.Path.{_≡_, sym, _∙_}
-use Prim.Native.Nat.{ℕ, _+_, _-_, _≤_}
+use Prim.Native.Nat.{ℕ, _+_, _-_, _<_}
 use native.Mathlib.Omega.{arith}
 use borrow.Author.Needs.{needs}
 use borrow.Author.Tests.{eq-eqb, ne-eqb, le-leb, lt-leb, not-true, not-false}
 use borrow.Rule.Slice.PartAt.{part-to-end}
 use lib.Dec.{eqb, leb}
-use lib.ListN.{length, getD, take, drop, length-map, length-take, length-drop}
-use lib.Seq.{length-take-le, drop-drop}
+use lib.ListN.{length, getD, take, drop}
+use lib.Seq.{drop-drop}
 use Rattle.model.specs.Base.{all}
 use Rattle.model.specs.Limits.{most-options, most-weight, sheet-room, sheet-length}
-use Rattle.model.specs.Code.{literals, weight, node-of, one-tree}
+use Rattle.model.specs.Code.{weight, node-of, one-tree}
 use Rattle.model.specs.Sheet.{options-in, used-in, numbers-in, nodes-in, rest-in, rooted, is-sheet}
-use Rattle.theory_forms.specs.Scan.{literals-within}
 use Rattle.sheet_check.proofs.is_sheet.Statement.{statement}
 use Rattle.sheet_check.proofs.is_sheet.Tie as tie
 
@@ -23,7 +22,7 @@ abbrev tree-in : List ℕ → Bool
 tree-in s = rooted (options-in s) (numbers-in s) && one-tree (nodes-in s)
 
 module _ (s : List ℕ) where
-  -- A list is a sheet by six tests, in the order of the code.
+  -- A list is a sheet by six tests.
   sheet-is :
       is-sheet s
       ≡ (eqb (length s) sheet-length
@@ -57,38 +56,17 @@ module _ (s : List ℕ) where
   unfolding rest-in used-in
   clear-is {used} f e = rw (← f, drop-drop used 2 s) (sym (rw (part-to-end s (2 + used)) at e))
 
-  weight-is :
-      {used r : ℕ} →
-      used ≡ getD s 1 0 →
-      2 + used ≤ length s →
-      r ≡ literals (map node-of (take used (take (length s - 2) (drop 2 s)))) →
-      weight (nodes-in s) ≡ used + r
-  unfolding weight nodes-in numbers-in used-in
-  weight-is {used} f h e =
-      let long : length (take used (drop 2 s)) ≡ used = length-take-le used (drop 2 s) (omega (arith, length-drop 2 s)) in
-      rw (← f, e, part-to-end s 2, length-map, long)
-
--- Among so many nodes there are at most so many literals.
-few : (used : ℕ) (xs : List ℕ) → literals (map node-of (take used xs)) ≤ used
-few used xs = omega (arith, literals-within (map node-of (take used xs)), length-map (take used xs) node-of, length-take used xs)
-
 -- The sheet, from where its two first numbers were read on; and what the calls told of it.
 abbrev sheet : tie.After-wide162 → List ℕ
 sheet k = k .before .before .before .before .before .before .args .s .now
 
-told-tree : (c : tie.After-is-rooted-tree) → tree-in (sheet (c .before .before .before .before .before)) ≡ c .is-rooted-tree .result
+told-tree : (c : tie.After-is-rooted-tree) → tree-in (sheet (c .before .before .before .before .before .before .before)) ≡ c .is-rooted-tree .result
 told-tree c =
-    let k = c .before .before .before .before .before in
+    let k = c .before .before .before .before .before .before .before in
     tree-is (sheet k) (k .before .before .wide16 .ensures .0) (k .wide162 .ensures .0) (c .is-rooted-tree .ensures)
 
-told-clear :
-    (c : tie.After-is-clear) →
-    let tree = c .before .before .before in
-    all (eqb 0) (rest-in (sheet (tree .before .before .before .before .before))) ≡ c .is-clear .result
-told-clear c =
-    let tree = c .before .before .before in
-    let k = tree .before .before .before .before .before in
-    clear-is (sheet k) (k .wide162 .ensures .0) (c .is-clear .ensures)
+told-clear : (c : tie.After-is-clear) → all (eqb 0) (rest-in (sheet (c .before .before .before .before .before .before .before .before .before .before))) ≡ c .is-clear .result
+told-clear c = let k = c .before .before .before .before .before .before .before .before .before .before in clear-is (sheet k) (k .wide162 .ensures .0) (c .is-clear .ensures)
 
 returns : tie.Need-returns
 returns c =
@@ -112,43 +90,34 @@ returns-4 c =
     let s = sheet (c .before .before .before) in
     rw (sheet-is s, lt-leb (getD s 1 0) sheet-room (omega arith), and-false)
 
+-- The used count is tested before anything is summed, so that the sum is at most 8,192.
+weigh-sheet-requires : tie.Need-weigh-sheet-requires
+unfolding used-in
+weigh-sheet-requires c κs = (omega arith, omega arith)
+
 returns-5 : tie.Need-returns-5
 returns-5 c =
-    let s = sheet (c .before .before .before .before .before .before) in
-    rw (sheet-is s, told-tree (c .before), not-true (c .before .is-rooted-tree .result) (c .if5 .taken), and-false)
+    let s = sheet (c .before .before .before .before .before) in
+    let heavy : most-weight < weight (nodes-in s) = omega (arith, c .if5 .taken, c .before .weigh-sheet .ensures .0) in
+    rw (sheet-is s, lt-leb (weight (nodes-in s)) most-weight heavy, and-false)
 
 returns-6 : tie.Need-returns-6
 returns-6 c =
-    let tree = c .before .before .before .before in
-    let s = sheet (tree .before .before .before .before .before) in
-    rw (sheet-is s, told-clear (c .before), not-true (c .before .is-clear .result) (c .if6 .taken), and-false)
-
-add-result : tie.Need-add-result
-add-result c =
-    let tree = c .before .before .before .before .before .before in
-    let k = tree .before .before .before .before .before in
-    let part : List ℕ = take (length (sheet k) - 2) (drop 2 (sheet k)) in
-    omega (arith, c .count-literals .ensures, few (k .wide162 .result) part)
+    let s = sheet (c .before .before .before .before .before .before .before .before) in
+    rw (sheet-is s, told-tree (c .before), not-true (c .before .is-rooted-tree .result) (c .if6 .taken), and-false)
 
 returns-7 : tie.Need-returns-7
 returns-7 c =
-    let tree = c .before .before .before .before .before .before in
-    let k = tree .before .before .before .before .before in
+    let tree = c .before .before .before in
+    let weighed = tree .before .before .before in
+    let k = weighed .before .before .before .before in
     let s = sheet k in
     let whole = eq-eqb (length s) sheet-length (omega arith) in
     let few-options = le-leb (getD s 0 0) most-options (omega arith) in
     let room = le-leb (getD s 1 0) sheet-room (omega arith) in
-    let is-tree = told-tree tree ∙ not-false _ (c .before .before .before .before .before .if5 .left) in
-    let clear = told-clear (c .before .before .before) ∙ not-false _ (c .before .before .if6 .left) in
-    rw (
-      sheet-is s,
-      whole,
-      few-options,
-      room,
-      is-tree,
-      clear,
-      weight-is s (k .wide162 .ensures .0) (omega arith) (c .count-literals .ensures),
-    )
+    let is-tree = told-tree tree ∙ not-false _ (c .before .before .if6 .left) in
+    let light = le-leb (weight (nodes-in s)) most-weight (omega (arith, tree .before .before .if5 .left, weighed .weigh-sheet .ensures .0)) in
+    rw (sheet-is s, whole, few-options, room, is-tree, told-clear c, light, and-true)
 
 pub is-sheet-spec : {M : Type 1} → statement M
 is-sheet-spec =
@@ -162,13 +131,8 @@ is-sheet-spec =
     returns-2
     returns-3
     returns-4
-    (λ c. search needs)
-    (λ c. search needs)
-    (λ c. search needs)
-    (λ c κs. search needs)
+    weigh-sheet-requires
     returns-5
-    (λ c. search needs)
-    (λ c. search needs)
     (λ c. search needs)
     (λ c. search needs)
     (λ c. search needs)
@@ -177,6 +141,7 @@ is-sheet-spec =
     (λ c. search needs)
     (λ c. search needs)
     (λ c. search needs)
+    (λ c. search needs)
+    (λ c. search needs)
     (λ c κs. search needs)
-    add-result
     returns-7)
