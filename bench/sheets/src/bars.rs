@@ -1,7 +1,7 @@
 //! The bars that the times have to pass, and the worst case of each.
 
+use crate::figures::time;
 use crate::rows::Row;
-use crate::tables::time;
 
 /// The most that a sheet may weigh.
 pub const FULL: usize = 4096;

@@ -1,13 +1,12 @@
 //! The library against plain Rust: loads, runs and reports must be equal.
 
 use crate::answers::Ran;
-use crate::families::Filling;
 use crate::ffi;
-use crate::nests::Style;
-use crate::nodes::{book, LENGTH};
+use crate::nodes::LENGTH;
 use crate::plain::flat::used;
 use crate::plain::{bounds, load, parts, simple, sweep};
 use crate::random::Random;
+use crate::random_books::random_book;
 
 pub type Sheet = [u16; LENGTH];
 
@@ -73,22 +72,6 @@ pub fn ran(methods: [fn(&mut [u16], u64) -> Ran; 2], sheet: &Sheet, budget: u64)
         stop("the runs differ", sheet, &details);
     }
     one
-}
-
-/// A random book of a weight at most.
-pub fn random_book(random: &mut Random, weight: usize) -> Vec<u8> {
-    let few = random.below(5);
-    let many = weight.min(512);
-    let options = random.pick(&[few, many / 4, many]);
-    let style = Style::any(random, options);
-    let largest = random.within(1, weight);
-    let mut filling = Filling::new(weight);
-    let mut misses = 0;
-    while misses < 3 {
-        let body = style.rule(random, largest);
-        misses += usize::from(!filling.put(body) || random.one_in(4));
-    }
-    book(options, &filling.bodies)
 }
 
 /// A random sheet of a weight at most.

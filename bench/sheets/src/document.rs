@@ -2,29 +2,13 @@
 
 use crate::measure::Noise;
 use crate::rows::Row;
-use crate::tables::{self, time};
-use crate::{bars, toys};
-use std::fs;
+use crate::{bars, figures, tables, toys};
 
-/// The marks between which a file holds what was measured.
-const FROM: &str = "<!-- measured: from here -->\n";
-const TO: &str = "<!-- measured: to here -->\n";
+/// The name of the marks between which a file holds what was measured.
+pub const MARK: &str = "measured";
 
 /// The most conjunctions of the multiplied-out toy books.
 const TOYS: usize = 18;
-
-/// The machine's noise, as a sentence.
-fn noise_said(noise: &Noise) -> String {
-    let [low, middle, high, most] = noise.quantiles();
-    format!(
-        "The machine's noise: one fixed piece of work, timed between all measurements, took {} \
-         in the middle, {} at a tenth, {} at nine tenths and {} at most.",
-        time(middle),
-        time(low),
-        time(high),
-        time(most)
-    )
-}
 
 /// Which runs were stopped early, and why.
 fn stopped_said(rows: &[Row], patience: f64) -> String {
@@ -35,7 +19,7 @@ fn stopped_said(rows: &[Row], patience: f64) -> String {
             format!(
                 "{} at weight {}",
                 row.name,
-                tables::count(row.weight as u64)
+                figures::count(row.weight as u64)
             )
         })
         .collect();
@@ -53,7 +37,7 @@ fn stopped_said(rows: &[Row], patience: f64) -> String {
 pub fn measured(rows: &[Row], agreed: &[String], noise: &Noise, patience: f64) -> String {
     [
         agreed.join(" "),
-        noise_said(noise),
+        noise.said(),
         "### The bars".to_string(),
         bars::table(rows),
         "### Runs".to_string(),
@@ -70,12 +54,4 @@ pub fn measured(rows: &[Row], agreed: &[String], noise: &Noise, patience: f64) -
     ]
     .map(|part| part.trim_end().to_string())
     .join("\n\n")
-}
-
-/// Puts the text between the marks of a file.
-pub fn put(file: &str, text: &str) {
-    let old = fs::read_to_string(file).expect("the document is read");
-    let (before, rest) = old.split_once(FROM).expect("the first mark");
-    let (_, after) = rest.split_once(TO).expect("the last mark");
-    fs::write(file, format!("{before}{FROM}\n{text}\n\n{TO}{after}")).expect("it is written");
 }

@@ -20,7 +20,9 @@ mod compare;
 mod document;
 mod families;
 mod ffi;
+mod figures;
 mod keyings;
+mod marks;
 mod measure;
 mod nests;
 mod nodes;
@@ -30,6 +32,7 @@ mod plot;
 #[path = "../../../tests/rust/src/random.rs"]
 #[allow(dead_code)]
 mod random;
+mod random_books;
 mod rows;
 mod searches;
 mod tables;
@@ -37,7 +40,6 @@ mod toys;
 
 use random::Random;
 use rows::Row;
-use std::collections::BTreeMap;
 use std::fs;
 
 /// The desk's budget, and the comb that it stops at.
@@ -115,15 +117,15 @@ fn searches(seed: u64, sheets: usize) -> String {
         "Searches by bounds and by every place agree on {} steps (rules 1 to 14: {}) of random \
          sheets (seed {seed}) and small books of each family. After {} steps that need not be \
          the strategy's (rules 1 to 14: {}) every bound is right.",
-        tables::count(followed.iter().sum()),
+        figures::count(followed.iter().sum()),
         by_rule(followed),
-        tables::count(any.iter().sum()),
+        figures::count(any.iter().sum()),
         by_rule(any)
     )
 }
 
 fn by_rule(steps: searches::Steps) -> String {
-    let steps = steps[1..].iter().map(|&steps| tables::count(steps));
+    let steps = steps[1..].iter().map(|&steps| figures::count(steps));
     steps.collect::<Vec<String>>().join(" / ")
 }
 
@@ -136,7 +138,7 @@ fn answers_agree(seed: u64) -> String {
     }
     format!(
         "Loads, runs and reports agree on 530 random sheets and {} steps.",
-        tables::count(steps)
+        figures::count(steps)
     )
 }
 
@@ -150,21 +152,9 @@ fn orders_agree(seed: u64) -> String {
     keyings::full_orders(random, 300, seen);
     format!(
         "Keyings agree on random orders ({}), and so do withdrawals ({}).",
-        by_answer(&seen.keyings, &[0, 11, 14, 7, 8]),
-        by_answer(&seen.withdrawals, &[0, 1, 2, 3, 4, 5, 6, 11, 13, 8])
+        figures::by_answer(&seen.keyings, &[0, 11, 14, 7, 8]),
+        figures::by_answer(&seen.withdrawals, &[0, 1, 2, 3, 4, 5, 6, 11, 13, 8])
     )
-}
-
-/// How often each answer was given; each of those due must have been.
-fn by_answer(seen: &BTreeMap<u64, u64>, due: &[u64]) -> String {
-    let said = due.iter().map(|answer| {
-        let count = tables::count(*seen.get(answer).expect("an answer that is due"));
-        match answer {
-            0 => format!("accepted {count}"),
-            _ => format!("refused {answer} {count}"),
-        }
-    });
-    said.collect::<Vec<String>>().join(", ")
 }
 
 /// Every family at every weight, then the comb that the desk stops at.
@@ -188,7 +178,7 @@ fn all_rows(flags: &Flags, noise: &mut measure::Noise) -> Vec<Row> {
             eprintln!(
                 "{name}, {weight}: {} steps, run {}",
                 row.steps,
-                tables::time(row.run[0])
+                figures::time(row.run[0])
             );
             rows.push(row);
         }
@@ -223,7 +213,7 @@ fn main() {
     let text = document::measured(&rows, &agreed, noise, flags.patience);
     println!("{text}");
     if let Some(file) = &flags.doc {
-        document::put(file, &text);
+        marks::put(file, document::MARK, &text);
     }
     if let Some(file) = &flags.svg {
         fs::write(file, plot::svg(&rows)).expect("the plot is written");

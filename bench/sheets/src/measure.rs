@@ -1,6 +1,7 @@
 //! Times of calls: medians of several, the sides in turn, so that they share the machine's
 //! noise.
 
+use crate::figures::time;
 use std::hint::black_box;
 use std::time::Instant;
 
@@ -87,7 +88,20 @@ impl Noise {
     }
 
     /// The times at a tenth, at the middle, at nine tenths and at the end.
-    pub fn quantiles(&self) -> [f64; 4] {
+    fn quantiles(&self) -> [f64; 4] {
         [0.1, 0.5, 0.9, 1.0].map(|share| quantile(self.times.clone(), share))
+    }
+
+    /// The machine's noise, as a sentence.
+    pub fn said(&self) -> String {
+        let [low, middle, high, most] = self.quantiles();
+        format!(
+            "The machine's noise: one fixed piece of work, timed between all measurements, took {} \
+             in the middle, {} at a tenth, {} at nine tenths and {} at most.",
+            time(middle),
+            time(low),
+            time(high),
+            time(most)
+        )
     }
 }

@@ -1,32 +1,8 @@
 //! The measurements as Markdown.
 
+use crate::figures::{count, time};
 use crate::rows::{Growth, Row};
 use std::fmt::Write;
-
-/// A time with its unit, to two or three digits.
-pub fn time(seconds: f64) -> String {
-    let (number, unit) = match seconds {
-        s if s < 1e-6 => (s * 1e9, "ns"),
-        s if s < 1e-3 => (s * 1e6, "µs"),
-        s if s < 1.0 => (s * 1e3, "ms"),
-        s => (s, "s"),
-    };
-    let digits = if number < 9.95 { 1 } else { 0 };
-    format!("{number:.digits$} {unit}")
-}
-
-/// A whole number with commas.
-pub fn count(number: u64) -> String {
-    let digits = number.to_string();
-    let mut text = String::new();
-    for (at, digit) in digits.chars().enumerate() {
-        if at > 0 && (digits.len() - at).is_multiple_of(3) {
-            text.push(',');
-        }
-        text.push(digit);
-    }
-    text
-}
 
 fn ratio(number: f64) -> String {
     let digits = if number < 9.95 { 1 } else { 0 };

@@ -3,10 +3,10 @@
 use crate::clauses::{multiplied_out, report, toy};
 use crate::compare::{loaded, reported};
 use crate::ffi;
+use crate::figures::{count, time};
 use crate::measure::{medians, seconds};
 use crate::nodes::book;
 use crate::plain::flat::used;
-use crate::tables::{count, time};
 use std::fmt::Write;
 
 /// One line: k conjunctions of two literals in one disjunction.
