@@ -1,0 +1,137 @@
+//! What is timed: every call on every family's book of full size, and calls that are refused at
+//! the end of a weight's test.
+
+use crate::calls::{refusal, Call, Lent};
+use crate::families::{Family, Rules};
+use crate::library::Library;
+use crate::limits::{book_of, filled, sheet_of};
+use crate::nodes::LENGTH;
+use crate::orders::{Line, SLOTS};
+use crate::scenes::next_step;
+
+/// The most that a sheet may weigh.
+const FULL: usize = 4096;
+
+/// The report of a settled sheet, as the tables name it.
+pub const SETTLED: &str = "report after the run";
+
+/// A call that is timed, with what it is lent and the refusal that it gives.
+pub struct Case {
+    pub name: &'static str,
+    pub call: Call,
+    pub lent: Lent,
+    pub refusal: u64,
+}
+
+/// Whatever is lent with a book that is accepted: its sheet, no lines, its last code.
+fn lent(library: &Library, rules: &Rules) -> Lent {
+    let book = book_of(rules);
+    let end = 8 + 13 * rules.options;
+    let mut lent = Lent {
+        code: book[end - 13..end].to_vec(),
+        out: vec![0; book.len()],
+        book,
+        sheet: vec![0; LENGTH],
+        lines: vec![
+            Line {
+                option: 0,
+                negative: false
+            };
+            SLOTS
+        ],
+        count: 0,
+    };
+    accepted(library, Call::Load, &mut lent);
+    lent
+}
+
+fn accepted(library: &Library, call: Call, lent: &mut Lent) {
+    let answer = library.call(call, lent);
+    assert_eq!(refusal(answer), 0, "{call:?} is refused");
+}
+
+/// Keys lines until there are so many.
+fn key_up_to(library: &Library, lent: &mut Lent, count: usize) {
+    let options = u64::from(lent.sheet[0]);
+    for at in u64::from(lent.count)..count as u64 {
+        let (option, negative) = (at % options, at % 3 == 0);
+        accepted(library, Call::Key { option, negative }, lent);
+    }
+}
+
+/// Every call on a family's book of full size; keyings and withdrawals on its order of 64 lines.
+pub fn of_family(library: &Library, family: &Family) -> Vec<Case> {
+    let loaded = lent(library, &(family.make)(FULL));
+    let mut settled = loaded.clone();
+    let whole = Call::Run { budget: u64::MAX };
+    accepted(library, whole, &mut settled);
+    let mut nearly = lent(library, &(family.make)(FULL - 2 * SLOTS));
+    key_up_to(library, &mut nearly, SLOTS - 1);
+    let mut order = nearly.clone();
+    key_up_to(library, &mut order, SLOTS);
+
+    // Where nothing applies, the step is refused.
+    let [rule, place, i, j] = [1, 0, 0, 0];
+    let step = next_step(&loaded.sheet).unwrap_or(Call::Step { rule, place, i, j });
+    let last = Call::Key {
+        option: 0,
+        negative: true,
+    };
+    use Call::{Check, Complete, Load, Lookup, Report, Write};
+    let mut calls = vec![(last, &nearly), (Call::Withdraw { k: 0 }, &order)];
+    calls.extend([Check, Lookup, Load, Write].map(|call| (call, &loaded)));
+    calls.extend([step, whole, Report, Complete].map(|call| (call, &loaded)));
+    let mut cases: Vec<Case> = calls
+        .into_iter()
+        .map(|(call, lent)| case(library, call.name(), call, lent))
+        .collect();
+    cases.push(case(library, SETTLED, Report, &settled));
+    cases
+}
+
+fn case(library: &Library, name: &'static str, call: Call, lent: &Lent) -> Case {
+    let answer = library.call(call, &mut lent.clone());
+    Case {
+        name,
+        call,
+        lent: lent.clone(),
+        refusal: refusal(answer),
+    }
+}
+
+/// Calls that are refused for a weight: a book's, a sheet's, a keying's or a withdrawal's.
+pub fn refused_for_weight(library: &Library, family: &Family) -> Vec<Case> {
+    let of_weight = |weight| {
+        let rules = filled(family, weight);
+        Lent {
+            book: book_of(&rules),
+            sheet: sheet_of(&rules),
+            ..lent(library, &filled(family, FULL))
+        }
+    };
+    let [full, heavy] = [FULL, FULL + 1].map(of_weight);
+    // One line fits on the sheet, and the book has no room for it.
+    let mut order = lent(library, &filled(family, FULL - 4));
+    key_up_to(library, &mut order, 2);
+    order.book = full.book.clone();
+    let keying = Call::Key {
+        option: 0,
+        negative: true,
+    };
+    let whole = Call::Run { budget: u64::MAX };
+    [
+        ("check", Call::Check, &heavy, 6),
+        ("load", Call::Load, &heavy, 6),
+        ("report", Call::Report, &heavy, 11),
+        ("run", whole, &heavy, 11),
+        ("keying", keying, &heavy, 11),
+        ("keying", keying, &full, 8),
+        ("withdrawal", Call::Withdraw { k: 0 }, &order, 8),
+    ]
+    .map(|(name, call, lent, due)| {
+        let case = case(library, name, call, lent);
+        assert_eq!(case.refusal, due, "{call:?} is not refused as it is due");
+        case
+    })
+    .into()
+}

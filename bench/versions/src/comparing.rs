@@ -1,0 +1,121 @@
+//! Every call by both libraries: the answers and all that was lent must be the same.
+
+use crate::calls::{refusal, Call, Lent, ANSWERS};
+use crate::figures::{by_answer, count};
+use crate::library::Library;
+use crate::random::Random;
+use crate::scenes;
+use std::collections::BTreeMap;
+
+/// The libraries, and what was seen.
+pub struct Comparing<'a> {
+    before: &'a Library,
+    after: &'a Library,
+    /// How often each call gave each answer.
+    seen: BTreeMap<&'static str, BTreeMap<u64, u64>>,
+    /// How often a step of each rule was accepted.
+    steps: [u64; 15],
+}
+
+impl<'a> Comparing<'a> {
+    pub fn new(before: &'a Library, after: &'a Library) -> Comparing<'a> {
+        Comparing {
+            before,
+            after,
+            seen: BTreeMap::new(),
+            steps: [0; 15],
+        }
+    }
+
+    /// A call by both; stops with the case where they differ.
+    pub fn call(&mut self, call: Call, lent: &mut Lent) -> u64 {
+        let start = lent.clone();
+        let mut other = start.clone();
+        let answer = self.before.call(call, lent);
+        let answer_after = self.after.call(call, &mut other);
+        if answer != answer_after {
+            let said = format!("before answers {answer}, after {answer_after}");
+            stop(&said, call, &start);
+        }
+        if *lent != other {
+            stop("what they leave differs", call, &start);
+        }
+        if refusal(answer) != 0 && *lent != start {
+            stop("a refused call changed something", call, &start);
+        }
+        self.tally(call, answer);
+        answer
+    }
+
+    fn tally(&mut self, call: Call, answer: u64) {
+        let seen = self.seen.entry(call.name()).or_default();
+        *seen.entry(refusal(answer)).or_default() += 1;
+        if let (Call::Step { rule, .. }, 0) = (call, answer) {
+            self.steps[rule as usize] += 1;
+        }
+    }
+
+    /// Every call on what is lent, each on a copy of its own.
+    pub fn every_call(&mut self, random: &mut Random, lent: &Lent) {
+        for call in scenes::calls(random, lent) {
+            self.call(call, &mut lent.clone());
+        }
+    }
+
+    /// Every call, then one that may change what is lent, and so on.
+    pub fn follow(&mut self, random: &mut Random, mut lent: Lent, rounds: usize) {
+        for _ in 0..rounds {
+            self.every_call(random, &lent);
+            let call = scenes::change(random, &lent);
+            self.call(call, &mut lent);
+        }
+    }
+
+    /// What was compared, as a sentence; every answer that a call can give must have been given,
+    /// and every rule must have done a step.
+    pub fn said(&self) -> String {
+        assert!(
+            self.steps[1..].iter().all(|&steps| steps > 0),
+            "a rule did no step: {:?}",
+            self.steps
+        );
+        let calls = ANSWERS.map(|(name, answers)| {
+            let seen = &self.seen[name];
+            assert_eq!(seen.len(), answers.len(), "{name} answered {seen:?}");
+            format!("{name} ({})", by_answer(seen, answers))
+        });
+        let total: u64 = self.seen.values().flat_map(BTreeMap::values).sum();
+        format!(
+            "Both give the same answers, and leave the same in all that they are lent, in {} calls: \
+             {}. Steps of every rule are among them.",
+            count(total),
+            calls.join("; ")
+        )
+    }
+}
+
+/// Numbers in hexadecimal.
+fn hexadecimal<T: std::fmt::LowerHex>(numbers: &[T], digits: usize) -> String {
+    let numbers = numbers.iter().map(|number| format!("{number:0digits$x}"));
+    numbers.collect::<Vec<String>>().join(" ")
+}
+
+/// Stops with the case that differs.
+fn stop(what: &str, call: Call, lent: &Lent) -> ! {
+    let end = lent.sheet.iter().rposition(|&number| number != 0);
+    let sheet = &lent.sheet[..end.map_or(0, |end| end + 1)];
+    panic!(
+        "{what}\n{call:?}\nbook of {} bytes: {}\ncode: {}\nsheet of {}, zeros from {} on: {}\n\
+         {} slots, {} lines: {:?}\noutput of {} bytes",
+        lent.book.len(),
+        hexadecimal(&lent.book, 2),
+        hexadecimal(&lent.code, 2),
+        lent.sheet.len(),
+        sheet.len(),
+        hexadecimal(sheet, 4),
+        lent.lines.len(),
+        lent.count,
+        lent.lines,
+        lent.out.len()
+    );
+}

@@ -1,0 +1,127 @@
+//! A shared library of the ten calls, opened while the program runs, so that several builds of it
+//! stand side by side in one process.
+
+use crate::calls::{Call, Lent};
+use crate::orders::Line;
+use std::ffi::{c_char, c_int, c_void, CStr, CString};
+use std::mem::{size_of, transmute_copy};
+use std::path::Path;
+
+#[link(name = "dl")]
+extern "C" {
+    fn dlopen(file: *const c_char, flags: c_int) -> *mut c_void;
+    fn dlsym(library: *mut c_void, name: *const c_char) -> *mut c_void;
+    fn dlerror() -> *const c_char;
+}
+
+/// No library sees another's names, and every name is bound at once.
+const RTLD_LOCAL: c_int = 0;
+const RTLD_NOW: c_int = 2;
+
+type Bytes = *const u8;
+type Sheet = *const u16;
+type Changed = *mut u16;
+
+type Check = unsafe extern "C" fn(Bytes, usize) -> u64;
+type Lookup = unsafe extern "C" fn(Bytes, usize, Bytes, usize) -> u64;
+type Load = unsafe extern "C" fn(Bytes, usize, Changed, usize) -> u64;
+type Write = unsafe extern "C" fn(Sheet, usize, Bytes, usize, *mut u8, usize) -> u64;
+type Key = unsafe extern "C" fn(Changed, usize, *mut Line, usize, *mut u16, u64, bool) -> u64;
+type Withdraw =
+    unsafe extern "C" fn(Changed, usize, Bytes, usize, *mut Line, usize, *mut u16, u64) -> u64;
+type Step = unsafe extern "C" fn(Changed, usize, u64, u64, u64, u64) -> u64;
+type Run = unsafe extern "C" fn(Changed, usize, u64) -> u64;
+type Report = unsafe extern "C" fn(Sheet, usize, *mut u8, usize) -> u64;
+type Complete = unsafe extern "C" fn(Sheet, usize) -> u64;
+
+/// The calls of one library, which stays open.
+pub struct Library {
+    check: Check,
+    lookup: Lookup,
+    load: Load,
+    write: Write,
+    key: Key,
+    withdraw: Withdraw,
+    step: Step,
+    run: Run,
+    report: Report,
+    complete: Complete,
+}
+
+impl Library {
+    /// Opens a library that is not open yet: for one that is, the same would be given again.
+    pub fn open(file: &Path) -> Library {
+        let name = CString::new(file.as_os_str().as_encoded_bytes()).expect("a file's name");
+        // SAFETY: the name ends with a zero byte. The library has nothing that runs when it is
+        // opened, and the header that it is built with declares the calls as they are here.
+        unsafe {
+            let library = dlopen(name.as_ptr(), RTLD_NOW | RTLD_LOCAL);
+            assert!(!library.is_null(), "{}", fault());
+            Library {
+                check: symbol(library, c"nd_book_check"),
+                lookup: symbol(library, c"nd_code_lookup"),
+                load: symbol(library, c"nd_load"),
+                write: symbol(library, c"nd_write"),
+                key: symbol(library, c"nd_key"),
+                withdraw: symbol(library, c"nd_withdraw"),
+                step: symbol(library, c"nd_step"),
+                run: symbol(library, c"nd_run"),
+                report: symbol(library, c"nd_report"),
+                complete: symbol(library, c"nd_complete"),
+            }
+        }
+    }
+
+    /// Makes a call: its answer.
+    pub fn call(&self, call: Call, lent: &mut Lent) -> u64 {
+        let (book, book_len) = (lent.book.as_ptr(), lent.book.len());
+        let (code, code_len) = (lent.code.as_ptr(), lent.code.len());
+        let (sheet, sheet_len) = (lent.sheet.as_mut_ptr(), lent.sheet.len());
+        let (lines, slots) = (lent.lines.as_mut_ptr(), lent.lines.len());
+        let (out, out_len) = (lent.out.as_mut_ptr(), lent.out.len());
+        let count = &mut lent.count;
+        // SAFETY: every pointer is good for as many elements as its length says, no two overlap,
+        // and the library touches nothing else; every line's truth value is one.
+        unsafe {
+            match call {
+                Call::Check => (self.check)(book, book_len),
+                Call::Lookup => (self.lookup)(book, book_len, code, code_len),
+                Call::Load => (self.load)(book, book_len, sheet, sheet_len),
+                Call::Write => (self.write)(sheet, sheet_len, book, book_len, out, out_len),
+                Call::Key { option, negative } => {
+                    (self.key)(sheet, sheet_len, lines, slots, count, option, negative)
+                }
+                Call::Withdraw { k } => {
+                    (self.withdraw)(sheet, sheet_len, book, book_len, lines, slots, count, k)
+                }
+                Call::Step { rule, place, i, j } => {
+                    (self.step)(sheet, sheet_len, rule, place, i, j)
+                }
+                Call::Run { budget } => (self.run)(sheet, sheet_len, budget),
+                Call::Report => (self.report)(sheet, sheet_len, out, out_len),
+                Call::Complete => (self.complete)(sheet, sheet_len),
+            }
+        }
+    }
+}
+
+/// The function of a name.
+///
+/// # Safety
+///
+/// The library is open, and `Function` is the type of a pointer to that function.
+unsafe fn symbol<Function>(library: *mut c_void, name: &CStr) -> Function {
+    assert_eq!(size_of::<Function>(), size_of::<*mut c_void>());
+    let address = dlsym(library, name.as_ptr());
+    assert!(!address.is_null(), "{}", fault());
+    transmute_copy(&address)
+}
+
+/// What the last of these functions says went wrong.
+///
+/// # Safety
+///
+/// The last of them failed.
+unsafe fn fault() -> String {
+    CStr::from_ptr(dlerror()).to_string_lossy().into_owned()
+}

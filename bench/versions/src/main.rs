@@ -1,0 +1,198 @@
+//! An earlier build of the library beside the one of now, in one process: first every answer is
+//! compared, and a difference stops the benchmark with the case printed; then every call is timed,
+//! the two in turn, with a copy of the earlier one as a third, whose time tells the noise.
+//!
+//!     tools/build-library                                         at the repository's top
+//!     bench/before COMMIT [FLAGS]                                 runs this with the first three
+//!
+//!     --before FILE       the earlier library
+//!     --name TEXT         what the text calls it
+//!     --after FILE        the library of now
+//!     --doc FILE          put the text between the marks of this file too
+//!     --bar NUMBER        how many times slower a call may be (1.1)
+//!     --only TEXT         time only the families whose names hold this text
+//!     --seed NUMBER       of the random books, sheets and orders (1)
+
+#[path = "../../sheets/src/answers.rs"]
+#[allow(dead_code)]
+mod answers;
+#[path = "../../../tests/rust/src/books.rs"]
+#[allow(dead_code)]
+mod books;
+mod calls;
+mod cases;
+mod comparing;
+mod damage;
+#[path = "../../sheets/src/families.rs"]
+#[allow(dead_code)]
+mod families;
+#[path = "../../sheets/src/figures.rs"]
+mod figures;
+mod library;
+mod limits;
+#[path = "../../sheets/src/marks.rs"]
+mod marks;
+#[path = "../../sheets/src/measure.rs"]
+#[allow(dead_code)]
+mod measure;
+#[path = "../../sheets/src/nests.rs"]
+mod nests;
+#[path = "../../sheets/src/nodes.rs"]
+#[allow(dead_code)]
+mod nodes;
+#[path = "../../sheets/src/orders.rs"]
+#[allow(dead_code)]
+mod orders;
+#[path = "../../sheets/src/plain/mod.rs"]
+#[allow(dead_code)]
+mod plain;
+#[path = "../../../tests/rust/src/random.rs"]
+#[allow(dead_code)]
+mod random;
+#[path = "../../sheets/src/random_books.rs"]
+mod random_books;
+mod scenes;
+mod text;
+mod timing;
+
+use cases::Case;
+use comparing::Comparing;
+use families::{families, Family};
+use library::Library;
+use measure::Noise;
+use random::Random;
+use std::path::Path;
+use std::{env, fs, process};
+use text::{Cell, Measured};
+use timing::Sides;
+
+/// The families whose books are made too heavy: flat rules, and nests.
+const TOO_HEAVY: [&str; 2] = ["clauses of 3", "random nests, plain"];
+
+struct Flags {
+    before: String,
+    name: String,
+    after: String,
+    doc: Option<String>,
+    bar: f64,
+    only: String,
+    seed: u64,
+}
+
+fn flags() -> Flags {
+    let mut flags = Flags {
+        before: String::new(),
+        name: String::from("an earlier build"),
+        after: String::new(),
+        doc: None,
+        bar: 1.1,
+        only: String::new(),
+        seed: 1,
+    };
+    let mut words = env::args().skip(1);
+    while let Some(flag) = words.next() {
+        let word = words
+            .next()
+            .unwrap_or_else(|| panic!("{flag} wants a value"));
+        match flag.as_str() {
+            "--before" => flags.before = word,
+            "--name" => flags.name = word,
+            "--after" => flags.after = word,
+            "--doc" => flags.doc = Some(word),
+            "--bar" => flags.bar = word.parse().expect("a number of times"),
+            "--only" => flags.only = word,
+            "--seed" => flags.seed = word.parse().expect("a whole number"),
+            _ => panic!("no flag {flag}"),
+        }
+    }
+    flags
+}
+
+/// Opens the libraries, each from a fresh copy of its file: all are loaded alike, and the earlier
+/// one can be opened twice.
+fn opened(flags: &Flags) -> Sides {
+    let folder = env::temp_dir().join(format!("nibdrumlin-versions-{}", process::id()));
+    fs::create_dir(&folder).expect("a folder for the copies");
+    let open = |name: &str, file: &String| {
+        let copy = folder.join(name);
+        let copied = fs::copy(Path::new(file), &copy);
+        copied.unwrap_or_else(|fault| panic!("no library {file}: {fault}"));
+        Library::open(&copy)
+    };
+    let sides = Sides {
+        before: open("before.so", &flags.before),
+        after: open("after.so", &flags.after),
+        copy: open("copy.so", &flags.before),
+    };
+    fs::remove_dir_all(&folder).expect("the copies are removed");
+    sides
+}
+
+/// Compares every call on random books, sheets and orders, on those of the families, and at the
+/// limits; what was seen, as a sentence.
+fn compared(sides: &Sides, seed: u64) -> String {
+    let random = &mut Random::new(seed);
+    let comparing = &mut Comparing::new(&sides.before, &sides.after);
+    for (weight, count) in [(12, 4000), (40, 2000), (150, 600), (600, 150)] {
+        for _ in 0..count {
+            let lent = scenes::random_lent(random, weight);
+            comparing.follow(random, lent, 4);
+        }
+    }
+    limits::random_weights(comparing, random, 300);
+    for family in families() {
+        limits::sizes(comparing, random, &family);
+        limits::weights(comparing, random, &family);
+        limits::room(comparing, random, &family);
+        for weight in [64, 4096] {
+            limits::counts(comparing, random, &family, weight);
+        }
+    }
+    comparing.said()
+}
+
+/// Times some cases of a family.
+fn cells(sides: &Sides, bar: f64, family: &Family, cases: Vec<Case>) -> Vec<Cell> {
+    let cell = |case: Case| Cell {
+        call: case.name,
+        family: family.name.clone(),
+        refusal: case.refusal,
+        times: timing::times(sides, case.call, &case.lent, bar),
+    };
+    eprintln!("{}: {} calls", family.name, cases.len());
+    cases.into_iter().map(cell).collect()
+}
+
+fn measured(sides: &Sides, flags: &Flags, noise: &mut Noise) -> Measured {
+    let (mut in_families, mut refused) = (Vec::new(), Vec::new());
+    for family in families() {
+        noise.sample();
+        if family.name.contains(&flags.only) {
+            let cases = cases::of_family(&sides.before, &family);
+            in_families.extend(cells(sides, flags.bar, &family, cases));
+        }
+        if TOO_HEAVY.contains(&family.name.as_str()) {
+            let cases = cases::refused_for_weight(&sides.before, &family);
+            refused.extend(cells(sides, flags.bar, &family, cases));
+        }
+    }
+    noise.sample();
+    Measured {
+        families: in_families,
+        refused,
+    }
+}
+
+fn main() {
+    let flags = flags();
+    let sides = opened(&flags);
+    let compared = compared(&sides, flags.seed);
+    eprintln!("{compared}");
+    let noise = &mut Noise::new();
+    let measured = measured(&sides, &flags, noise);
+    let text = text::whole(&flags.name, &compared, &noise.said(), &measured, flags.bar);
+    println!("{text}");
+    if let Some(file) = &flags.doc {
+        marks::put(file, text::MARK, &text);
+    }
+}

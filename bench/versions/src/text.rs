@@ -1,0 +1,185 @@
+//! What was compared and timed, as Markdown.
+
+use crate::cases::SETTLED;
+use crate::figures::time;
+use crate::timing::{Pair, Times, AGAIN};
+
+/// The name of the marks between which a file holds this.
+pub const MARK: &str = "before and after";
+
+/// The calls of each table of families; a page is not wide enough for all.
+const TABLES: [&[&str]; 2] = [
+    &["check", "lookup", "load", "write", "keying", "withdrawal"],
+    &["step", "run", "report", SETTLED, "complete"],
+];
+
+/// The times of one call on one family's book.
+pub struct Cell {
+    pub call: &'static str,
+    pub family: String,
+    /// What the call is refused, 0 where it is accepted.
+    pub refusal: u64,
+    pub times: Times,
+}
+
+impl Cell {
+    fn said(&self) -> String {
+        match self.refusal {
+            0 => format!("{}, {}", self.call, self.family),
+            refusal => format!("{} refused {refusal}, {}", self.call, self.family),
+        }
+    }
+}
+
+/// All that was timed.
+pub struct Measured {
+    pub families: Vec<Cell>,
+    /// Calls that are refused for a weight.
+    pub refused: Vec<Cell>,
+}
+
+/// Which of a call's two pairs of times is meant.
+type Side = fn(&Cell) -> Pair;
+
+fn after(cell: &Cell) -> Pair {
+    cell.times.after
+}
+
+fn copy(cell: &Cell) -> Pair {
+    cell.times.copy
+}
+
+/// The geometric mean of the ratios.
+fn mean(cells: &[&Cell], side: Side) -> f64 {
+    let sum: f64 = cells.iter().map(|cell| side(cell).ratio().ln()).sum();
+    (sum / cells.len() as f64).exp()
+}
+
+/// The cell with the greatest ratio.
+fn worst<'a>(cells: &[&'a Cell], side: Side) -> &'a Cell {
+    let ratio = |cell: &Cell| side(cell).ratio();
+    let greatest = cells
+        .iter()
+        .max_by(|one, other| ratio(one).total_cmp(&ratio(other)));
+    greatest.expect("a cell")
+}
+
+/// Whether any call is slower than the bar allows.
+fn bar_said(measured: &Measured, bar: f64) -> String {
+    let cells: Vec<&Cell> = measured.families.iter().chain(&measured.refused).collect();
+    let over = cells
+        .iter()
+        .filter(|cell| after(cell).ratio() > bar)
+        .count();
+    let again = cells.iter().filter(|cell| cell.times.again > 0).count();
+    let verdict = match over {
+        0 => "met".to_string(),
+        _ => format!("not met by {over} of {}", cells.len()),
+    };
+    let (slowest, noisiest) = (worst(&cells, after), worst(&cells, copy));
+    format!(
+        "**No measured call slower than {bar} times before: {verdict}.** Of {} calls the worst is {} \
+         ({:.2} times); of the earlier library's copy it is {} ({:.2} times). Measured again, at \
+         most {AGAIN} times, because one of the two was over {bar}: {again} of them. The least \
+         ratio counts, for a slow while of the machine is not the call's.",
+        cells.len(),
+        slowest.said(),
+        after(slowest).ratio(),
+        noisiest.said(),
+        copy(noisiest).ratio()
+    )
+}
+
+/// A row of the table of calls.
+fn call_row(name: &str, cells: &[&Cell], said: fn(&Cell) -> String) -> String {
+    let (slowest, noisiest) = (worst(cells, after), worst(cells, copy));
+    let Pair { before, other } = after(slowest);
+    format!(
+        "| {name} | {:.2} | {:.2} | {} | {} → {} | {:.2} | {:.2} | {} |\n",
+        mean(cells, after),
+        other / before,
+        said(slowest),
+        time(before),
+        time(other),
+        mean(cells, copy),
+        copy(noisiest).ratio(),
+        said(noisiest)
+    )
+}
+
+/// A row a call: the mean and the worst of its families.
+fn calls_table(measured: &Measured) -> String {
+    let mut text = String::from(
+        "| call | mean | worst | family | before → after | copy: mean | worst | family |\n\
+         |---|--:|--:|---|--:|--:|--:|---|\n",
+    );
+    for name in TABLES.concat() {
+        let is_of_call = |cell: &&Cell| cell.call == name;
+        let cells: Vec<&Cell> = measured.families.iter().filter(is_of_call).collect();
+        text += &call_row(name, &cells, |cell| cell.family.clone());
+    }
+    let refused: Vec<&Cell> = measured.refused.iter().collect();
+    text + &call_row("refused for a weight", &refused, Cell::said)
+}
+
+/// A row a family: for each of these calls the time before, times the ratio.
+fn families_table(cells: &[Cell], calls: &[&str]) -> String {
+    let mut text = format!("| family | {} |\n|---|", calls.join(" | "));
+    text += &"--:|".repeat(calls.len());
+    for first in cells.iter().filter(|cell| cell.call == calls[0]) {
+        text += &format!("\n| {} |", first.family);
+        for call in calls {
+            let is_meant = |cell: &&Cell| cell.call == *call && cell.family == first.family;
+            let pair = after(cells.iter().find(is_meant).expect("every call was timed"));
+            text += &format!(" {} × {:.2} |", time(pair.before), pair.ratio());
+        }
+    }
+    text
+}
+
+/// Which families' steps are refused.
+fn steps_said(cells: &[Cell]) -> String {
+    let is_refused = |cell: &&Cell| cell.call == "step" && cell.refusal != 0;
+    let names = cells.iter().filter(is_refused).map(|cell| &*cell.family);
+    let refused = names.collect::<Vec<&str>>().join("; ");
+    let else_refused = match &*refused {
+        "" => String::new(),
+        names => format!(" Where no rule applies, one is refused 10: {names}."),
+    };
+    format!(
+        "Each time is the earlier library's, then comes the ratio: 10 µs × 1.02 is 10 µs before \
+         and 10.2 µs after. A step is the strategy's first.{else_refused}"
+    )
+}
+
+fn refused_table(cells: &[Cell]) -> String {
+    let rows = cells.iter().map(|cell| {
+        let Pair { before, other } = after(cell);
+        format!(
+            "\n| {} | {} → {} | {:.2} | {:.2} |",
+            cell.said(),
+            time(before),
+            time(other),
+            other / before,
+            copy(cell).ratio()
+        )
+    });
+    let head = "| refused for a weight | before → after | ratio | copy |\n|---|--:|--:|--:|";
+    head.to_string() + &rows.collect::<String>()
+}
+
+/// The whole part of the document.
+pub fn whole(name: &str, compared: &str, noise: &str, measured: &Measured, bar: f64) -> String {
+    let named = format!("Before: `{name}`. After: the library of this checkout.");
+    let mut parts = vec![
+        format!("{named} {compared}"),
+        noise.to_string(),
+        bar_said(measured, bar),
+        calls_table(measured),
+        steps_said(&measured.families),
+    ];
+    parts.extend(TABLES.map(|calls| families_table(&measured.families, calls)));
+    parts.push(refused_table(&measured.refused));
+    let parts = parts.iter().map(|part| part.trim_end());
+    parts.collect::<Vec<&str>>().join("\n\n")
+}

@@ -1,0 +1,133 @@
+//! The time of one call by three libraries in turn: the earlier one, the one of now, and a copy
+//! of the earlier one, whose time tells the noise.
+
+use crate::calls::{Call, Lent};
+use crate::library::Library;
+use crate::measure::{quantile, seconds};
+use std::hint::black_box;
+
+/// The most samples of a side.
+const SAMPLES: usize = 601;
+
+/// A side with so many samples has enough after so many seconds.
+const FEW: usize = 7;
+const ENOUGH: f64 = 0.4;
+
+/// The least time of a sample, where a call can be made again and again.
+const SAMPLE: f64 = 5e-5;
+
+/// How often a call that is over the bar is measured again.
+pub const AGAIN: usize = 3;
+
+/// The orders of the sides; each is followed by its reverse.
+const TURNS: [[usize; 3]; 6] = [
+    [0, 1, 2],
+    [2, 1, 0],
+    [1, 2, 0],
+    [0, 2, 1],
+    [2, 0, 1],
+    [1, 0, 2],
+];
+
+/// The libraries, in the order in which their times are given.
+pub struct Sides {
+    pub before: Library,
+    pub after: Library,
+    pub copy: Library,
+}
+
+/// The seconds of the earlier library, and of another one in turn with it.
+#[derive(Clone, Copy)]
+pub struct Pair {
+    pub before: f64,
+    pub other: f64,
+}
+
+impl Pair {
+    pub fn ratio(self) -> f64 {
+        self.other / self.before
+    }
+
+    fn lesser(self, pair: Pair) -> Pair {
+        if pair.ratio() < self.ratio() {
+            pair
+        } else {
+            self
+        }
+    }
+}
+
+/// The times of one call.
+#[derive(Clone, Copy)]
+pub struct Times {
+    /// The library of now beside the earlier one.
+    pub after: Pair,
+    /// The earlier one's copy beside it.
+    pub copy: Pair,
+    /// How often they were taken again.
+    pub again: usize,
+}
+
+/// Times a call; where a ratio is over the bar, again, and the least ratio counts.
+pub fn times(sides: &Sides, call: Call, lent: &Lent, bar: f64) -> Times {
+    let mut times = once(sides, call, lent);
+    let is_over = |times: Times| times.after.ratio() > bar || times.copy.ratio() > bar;
+    while is_over(times) && times.again < AGAIN {
+        let next = once(sides, call, lent);
+        times = Times {
+            after: times.after.lesser(next.after),
+            copy: times.copy.lesser(next.copy),
+            again: times.again + 1,
+        };
+    }
+    times
+}
+
+/// The medians of one measurement.
+fn once(sides: &Sides, call: Call, start: &Lent) -> Times {
+    let libraries = [&sides.before, &sides.after, &sides.copy];
+    let mut lent = start.clone();
+    let calls = calls_for_sample(&sides.before, call, start, &mut lent);
+    let mut times = [(); 3].map(|()| Vec::new());
+    let mut turns = TURNS.iter().cycle();
+    while !has_enough(&times[0], calls) {
+        for &side in turns.next().expect("they come again and again") {
+            times[side].push(sample(libraries[side], call, calls, start, &mut lent));
+        }
+    }
+    let [before, after, copy] = times.map(|times| quantile(times, 0.5));
+    let beside = |other| Pair { before, other };
+    Times {
+        after: beside(after),
+        copy: beside(copy),
+        again: 0,
+    }
+}
+
+fn has_enough(times: &[f64], calls: u32) -> bool {
+    let spent: f64 = times.iter().sum::<f64>() * f64::from(calls);
+    times.len() == SAMPLES || times.len() >= FEW && spent > ENOUGH
+}
+
+/// As many calls as take the least time of a sample; one where a call changes what it reads.
+fn calls_for_sample(library: &Library, call: Call, start: &Lent, lent: &mut Lent) -> u32 {
+    let mut calls = 1;
+    while call.repeats() && sample(library, call, calls, start, lent) * f64::from(calls) < SAMPLE {
+        calls *= 2;
+    }
+    calls
+}
+
+/// The seconds of one of so many calls. All sides are lent the same memory, and a call that
+/// changes what it reads finds it as it was: this is done before the clock starts.
+fn sample(library: &Library, call: Call, calls: u32, start: &Lent, lent: &mut Lent) -> f64 {
+    if !call.repeats() {
+        lent.restore(start);
+    }
+    let took = seconds(|| {
+        for _ in 0..calls {
+            black_box(library.call(call, black_box(lent)));
+        }
+    });
+    took / f64::from(calls)
+}
