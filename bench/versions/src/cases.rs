@@ -61,6 +61,7 @@ fn key_up_to(library: &Library, lent: &mut Lent, count: usize) {
 
 /// Every call on a family's book of full size; keyings and withdrawals on its order of 64 lines.
 pub fn of_family(library: &Library, family: &Family) -> Vec<Case> {
+    use Call::{Check, Complete, Load, Lookup, Report, Write};
     let loaded = lent(library, &(family.make)(FULL));
     let mut settled = loaded.clone();
     let whole = Call::Run { budget: u64::MAX };
@@ -77,7 +78,6 @@ pub fn of_family(library: &Library, family: &Family) -> Vec<Case> {
         option: 0,
         negative: true,
     };
-    use Call::{Check, Complete, Load, Lookup, Report, Write};
     let mut calls = vec![(last, &nearly), (Call::Withdraw { k: 0 }, &order)];
     calls.extend([Check, Lookup, Load, Write].map(|call| (call, &loaded)));
     calls.extend([step, whole, Report, Complete].map(|call| (call, &loaded)));
@@ -110,7 +110,8 @@ pub fn refused_for_weight(library: &Library, family: &Family) -> Vec<Case> {
         }
     };
     let [full, heavy] = [FULL, FULL + 1].map(of_weight);
-    // One line fits on the sheet, and the book has no room for it.
+    // Two lines are on the sheet of a lighter book; on the full book the one that would remain has
+    // no room.
     let mut order = lent(library, &filled(family, FULL - 4));
     key_up_to(library, &mut order, 2);
     order.book = full.book.clone();

@@ -86,8 +86,8 @@ impl<'a> Comparing<'a> {
         });
         let total: u64 = self.seen.values().flat_map(BTreeMap::values).sum();
         format!(
-            "Both give the same answers, and leave the same in all that they are lent, in {} calls: \
-             {}. Steps of every rule are among them.",
+            "Both give the same answers, and leave the same in all that they are lent, in {} \
+             calls: {}. Steps of every rule are among them.",
             count(total),
             calls.join("; ")
         )

@@ -111,12 +111,14 @@ fn flags() -> Flags {
 /// Opens the libraries, each from a fresh copy of its file: all are loaded alike, and the earlier
 /// one can be opened twice.
 fn opened(flags: &Flags) -> Sides {
+    for file in [&flags.before, &flags.after] {
+        assert!(Path::new(file).is_file(), "no library {file:?}");
+    }
     let folder = env::temp_dir().join(format!("nibdrumlin-versions-{}", process::id()));
     fs::create_dir(&folder).expect("a folder for the copies");
     let open = |name: &str, file: &String| {
         let copy = folder.join(name);
-        let copied = fs::copy(Path::new(file), &copy);
-        copied.unwrap_or_else(|fault| panic!("no library {file}: {fault}"));
+        fs::copy(file, &copy).expect("the library is copied");
         Library::open(&copy)
     };
     let sides = Sides {
@@ -177,6 +179,7 @@ fn measured(sides: &Sides, flags: &Flags, noise: &mut Noise) -> Measured {
         }
     }
     noise.sample();
+    assert!(!in_families.is_empty(), "no family is named so");
     Measured {
         families: in_families,
         refused,

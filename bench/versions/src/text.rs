@@ -78,9 +78,9 @@ fn bar_said(measured: &Measured, bar: f64) -> String {
     };
     let (slowest, noisiest) = (worst(&cells, after), worst(&cells, copy));
     format!(
-        "**No measured call slower than {bar} times before: {verdict}.** Of {} calls the worst is {} \
-         ({:.2} times); of the earlier library's copy it is {} ({:.2} times). Measured again, at \
-         most {AGAIN} times, because one of the two was over {bar}: {again} of them. The least \
+        "**No measured call slower than {bar} times before: {verdict}.** Of {} calls the worst is \
+         {} ({:.2} times); of the earlier library's copy it is {} ({:.2} times). Measured again, \
+         at most {AGAIN} times, because one of the two was over {bar}: {again} of them. The least \
          ratio counts, for a slow while of the machine is not the call's.",
         cells.len(),
         slowest.said(),

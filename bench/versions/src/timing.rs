@@ -6,12 +6,12 @@ use crate::library::Library;
 use crate::measure::{quantile, seconds};
 use std::hint::black_box;
 
-/// The most samples of a side.
-const SAMPLES: usize = 601;
+/// The most samples of a side; odd, so that one of them is the median.
+const SAMPLES: usize = 1001;
 
 /// A side with so many samples has enough after so many seconds.
-const FEW: usize = 7;
-const ENOUGH: f64 = 0.4;
+const FEW: usize = 15;
+const ENOUGH: f64 = 1.0;
 
 /// The least time of a sample, where a call can be made again and again.
 const SAMPLE: f64 = 5e-5;
