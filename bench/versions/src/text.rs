@@ -51,13 +51,13 @@ fn copy(cell: &Cell) -> Pair {
 
 /// The geometric mean of the ratios.
 fn mean(cells: &[&Cell], side: Side) -> f64 {
-    let sum: f64 = cells.iter().map(|cell| side(cell).ratio().ln()).sum();
+    let sum: f64 = cells.iter().map(|cell| side(cell).ratio.ln()).sum();
     (sum / cells.len() as f64).exp()
 }
 
 /// The cell with the greatest ratio.
 fn worst<'a>(cells: &[&'a Cell], side: Side) -> &'a Cell {
-    let ratio = |cell: &Cell| side(cell).ratio();
+    let ratio = |cell: &Cell| side(cell).ratio;
     let greatest = cells
         .iter()
         .max_by(|one, other| ratio(one).total_cmp(&ratio(other)));
@@ -67,10 +67,7 @@ fn worst<'a>(cells: &[&'a Cell], side: Side) -> &'a Cell {
 /// Whether any call is slower than the bar allows.
 fn bar_said(measured: &Measured, bar: f64) -> String {
     let cells: Vec<&Cell> = measured.families.iter().chain(&measured.refused).collect();
-    let over = cells
-        .iter()
-        .filter(|cell| after(cell).ratio() > bar)
-        .count();
+    let over = cells.iter().filter(|cell| after(cell).ratio > bar).count();
     let again = cells.iter().filter(|cell| cell.times.again > 0).count();
     let verdict = match over {
         0 => "met".to_string(),
@@ -84,25 +81,25 @@ fn bar_said(measured: &Measured, bar: f64) -> String {
          ratio counts, for a slow while of the machine is not the call's.",
         cells.len(),
         slowest.said(),
-        after(slowest).ratio(),
+        after(slowest).ratio,
         noisiest.said(),
-        copy(noisiest).ratio()
+        copy(noisiest).ratio
     )
 }
 
 /// A row of the table of calls.
 fn call_row(name: &str, cells: &[&Cell], said: fn(&Cell) -> String) -> String {
     let (slowest, noisiest) = (worst(cells, after), worst(cells, copy));
-    let Pair { before, other } = after(slowest);
+    let pair = after(slowest);
     format!(
         "| {name} | {:.2} | {:.2} | {} | {} → {} | {:.2} | {:.2} | {} |\n",
         mean(cells, after),
-        other / before,
+        pair.ratio,
         said(slowest),
-        time(before),
-        time(other),
+        time(pair.before),
+        time(pair.other),
         mean(cells, copy),
-        copy(noisiest).ratio(),
+        copy(noisiest).ratio,
         said(noisiest)
     )
 }
@@ -131,7 +128,7 @@ fn families_table(cells: &[Cell], calls: &[&str]) -> String {
         for call in calls {
             let is_meant = |cell: &&Cell| cell.call == *call && cell.family == first.family;
             let pair = after(cells.iter().find(is_meant).expect("every call was timed"));
-            text += &format!(" {} × {:.2} |", time(pair.before), pair.ratio());
+            text += &format!(" {} × {:.2} |", time(pair.before), pair.ratio);
         }
     }
     text
@@ -154,14 +151,14 @@ fn steps_said(cells: &[Cell]) -> String {
 
 fn refused_table(cells: &[Cell]) -> String {
     let rows = cells.iter().map(|cell| {
-        let Pair { before, other } = after(cell);
+        let pair = after(cell);
         format!(
             "\n| {} | {} → {} | {:.2} | {:.2} |",
             cell.said(),
-            time(before),
-            time(other),
-            other / before,
-            copy(cell).ratio()
+            time(pair.before),
+            time(pair.other),
+            pair.ratio,
+            copy(cell).ratio
         )
     });
     let head = "| refused for a weight | before → after | ratio | copy |\n|---|--:|--:|--:|";

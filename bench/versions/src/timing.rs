@@ -36,20 +36,32 @@ pub struct Sides {
     pub copy: Library,
 }
 
-/// The seconds of the earlier library, and of another one in turn with it.
+/// The earlier library, and another one in turn with it.
 #[derive(Clone, Copy)]
 pub struct Pair {
+    /// The median seconds of each.
     pub before: f64,
     pub other: f64,
+    /// The median of the ratios, one a turn. A slow while of the machine is longer than a turn, so
+    /// it is in both times of a ratio; beside other work the ratio of the medians is far noisier.
+    pub ratio: f64,
 }
 
 impl Pair {
-    pub fn ratio(self) -> f64 {
-        self.other / self.before
+    fn of(before: &[f64], other: &[f64]) -> Pair {
+        let ratios = other
+            .iter()
+            .zip(before)
+            .map(|(other, before)| other / before);
+        Pair {
+            before: quantile(before.to_vec(), 0.5),
+            other: quantile(other.to_vec(), 0.5),
+            ratio: quantile(ratios.collect(), 0.5),
+        }
     }
 
     fn lesser(self, pair: Pair) -> Pair {
-        if pair.ratio() < self.ratio() {
+        if pair.ratio < self.ratio {
             pair
         } else {
             self
@@ -71,7 +83,7 @@ pub struct Times {
 /// Times a call; where a ratio is over the bar, again, and the least ratio counts.
 pub fn times(sides: &Sides, call: Call, lent: &Lent, bar: f64) -> Times {
     let mut times = once(sides, call, lent);
-    let is_over = |times: Times| times.after.ratio() > bar || times.copy.ratio() > bar;
+    let is_over = |times: Times| times.after.ratio > bar || times.copy.ratio > bar;
     while is_over(times) && times.again < AGAIN {
         let next = once(sides, call, lent);
         times = Times {
@@ -83,7 +95,7 @@ pub fn times(sides: &Sides, call: Call, lent: &Lent, bar: f64) -> Times {
     times
 }
 
-/// The medians of one measurement.
+/// One measurement: turn after turn, in each of which every library has a sample.
 fn once(sides: &Sides, call: Call, start: &Lent) -> Times {
     let libraries = [&sides.before, &sides.after, &sides.copy];
     let mut lent = start.clone();
@@ -95,11 +107,10 @@ fn once(sides: &Sides, call: Call, start: &Lent) -> Times {
             times[side].push(sample(libraries[side], call, calls, start, &mut lent));
         }
     }
-    let [before, after, copy] = times.map(|times| quantile(times, 0.5));
-    let beside = |other| Pair { before, other };
+    let [before, after, copy] = &times;
     Times {
-        after: beside(after),
-        copy: beside(copy),
+        after: Pair::of(before, after),
+        copy: Pair::of(before, copy),
         again: 0,
     }
 }
