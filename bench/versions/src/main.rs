@@ -1,13 +1,14 @@
 //! An earlier build of the library beside the one of now, in one process: first every answer is
 //! compared, and a difference stops the benchmark with the case printed; then every call is timed,
-//! the two in turn, with a copy of the earlier one as a third, whose time tells the noise.
+//! the two in turn, with a copy of the earlier one as a third, whose time tells the noise, and each
+//! at several places in memory.
 //!
 //!     tools/build-library                                         at the repository's top
 //!     bench/before COMMIT [FLAGS]                                 runs this with the first three
 //!
-//!     --before FILE       the earlier library
+//!     --before FILE       the earlier library, an archive
 //!     --name TEXT         what the text calls it
-//!     --after FILE        the library of now
+//!     --after FILE        the library of now, an archive
 //!     --doc FILE          put the text between the marks of this file too
 //!     --bar NUMBER        how many times slower a call may be (1.1)
 //!     --only TEXT         time only the families whose names hold this text
@@ -43,6 +44,7 @@ mod nodes;
 #[path = "../../sheets/src/orders.rs"]
 #[allow(dead_code)]
 mod orders;
+mod places;
 #[path = "../../sheets/src/plain/mod.rs"]
 #[allow(dead_code)]
 mod plain;
@@ -58,10 +60,9 @@ mod timing;
 use cases::Case;
 use comparing::Comparing;
 use families::{families, Family};
-use library::Library;
 use measure::Noise;
+use places::placed;
 use random::Random;
-use std::path::Path;
 use std::{env, fs, process};
 use text::{Cell, Measured};
 use timing::Sides;
@@ -108,25 +109,16 @@ fn flags() -> Flags {
     flags
 }
 
-/// Opens the libraries, each from a fresh copy of its file: all are loaded alike, and the earlier
-/// one can be opened twice.
+/// Links and opens the libraries, all in the same way, and the earlier one twice.
 fn opened(flags: &Flags) -> Sides {
-    for file in [&flags.before, &flags.after] {
-        assert!(Path::new(file).is_file(), "no library {file:?}");
-    }
     let folder = env::temp_dir().join(format!("nibdrumlin-versions-{}", process::id()));
-    fs::create_dir(&folder).expect("a folder for the copies");
-    let open = |name: &str, file: &String| {
-        let copy = folder.join(name);
-        fs::copy(file, &copy).expect("the library is copied");
-        Library::open(&copy)
-    };
+    fs::create_dir(&folder).expect("a folder to link in");
     let sides = Sides {
-        before: open("before.so", &flags.before),
-        after: open("after.so", &flags.after),
-        copy: open("copy.so", &flags.before),
+        before: placed(&folder, "before", &flags.before),
+        after: placed(&folder, "after", &flags.after),
+        copy: placed(&folder, "copy", &flags.before),
     };
-    fs::remove_dir_all(&folder).expect("the copies are removed");
+    fs::remove_dir_all(&folder).expect("the folder is removed");
     sides
 }
 
@@ -134,7 +126,7 @@ fn opened(flags: &Flags) -> Sides {
 /// limits; what was seen, as a sentence.
 fn compared(sides: &Sides, seed: u64) -> String {
     let random = &mut Random::new(seed);
-    let comparing = &mut Comparing::new(&sides.before, &sides.after);
+    let comparing = &mut Comparing::new(&sides.before[0], &sides.after[0]);
     for (weight, count) in [(12, 4000), (40, 2000), (150, 600), (600, 150)] {
         for _ in 0..count {
             let lent = scenes::random_lent(random, weight);
@@ -170,11 +162,11 @@ fn measured(sides: &Sides, flags: &Flags, noise: &mut Noise) -> Measured {
     for family in families() {
         noise.sample();
         if family.name.contains(&flags.only) {
-            let cases = cases::of_family(&sides.before, &family);
+            let cases = cases::of_family(&sides.before[0], &family);
             in_families.extend(cells(sides, flags.bar, &family, cases));
         }
         if TOO_HEAVY.contains(&family.name.as_str()) {
-            let cases = cases::refused_for_weight(&sides.before, &family);
+            let cases = cases::refused_for_weight(&sides.before[0], &family);
             refused.extend(cells(sides, flags.bar, &family, cases));
         }
     }

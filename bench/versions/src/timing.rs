@@ -4,10 +4,11 @@
 use crate::calls::{Call, Lent};
 use crate::library::Library;
 use crate::measure::{quantile, seconds};
+use crate::places::{Placed, PLACES};
 use std::hint::black_box;
 
 /// The most samples of a side; odd, so that one of them is the median.
-const SAMPLES: usize = 1001;
+const SAMPLES: usize = 301;
 
 /// A side with so many samples has enough after so many seconds.
 const FEW: usize = 15;
@@ -31,9 +32,9 @@ const TURNS: [[usize; 3]; 6] = [
 
 /// The libraries, in the order in which their times are given.
 pub struct Sides {
-    pub before: Library,
-    pub after: Library,
-    pub copy: Library,
+    pub before: Placed,
+    pub after: Placed,
+    pub copy: Placed,
 }
 
 /// The earlier library, and another one in turn with it.
@@ -99,12 +100,12 @@ pub fn times(sides: &Sides, call: Call, lent: &Lent, bar: f64) -> Times {
 fn once(sides: &Sides, call: Call, start: &Lent) -> Times {
     let libraries = [&sides.before, &sides.after, &sides.copy];
     let mut lent = start.clone();
-    let calls = calls_for_sample(&sides.before, call, start, &mut lent);
+    let calls = calls_for_sample(&sides.before[0], call, start, &mut lent);
     let mut times = [(); 3].map(|()| Vec::new());
     let mut turns = TURNS.iter().cycle();
     while !has_enough(&times[0], calls) {
         for &side in turns.next().expect("they come again and again") {
-            times[side].push(sample(libraries[side], call, calls, start, &mut lent));
+            times[side].push(everywhere(libraries[side], call, calls, start, &mut lent));
         }
     }
     let [before, after, copy] = &times;
@@ -116,7 +117,7 @@ fn once(sides: &Sides, call: Call, start: &Lent) -> Times {
 }
 
 fn has_enough(times: &[f64], calls: u32) -> bool {
-    let spent: f64 = times.iter().sum::<f64>() * f64::from(calls);
+    let spent: f64 = times.iter().sum::<f64>() * f64::from(calls) * PLACES as f64;
     times.len() == SAMPLES || times.len() >= FEW && spent > ENOUGH
 }
 
@@ -127,6 +128,14 @@ fn calls_for_sample(library: &Library, call: Call, start: &Lent, lent: &mut Lent
         calls *= 2;
     }
     calls
+}
+
+/// A sample at each place of a library: the mean of them.
+fn everywhere(placed: &Placed, call: Call, calls: u32, start: &Lent, lent: &mut Lent) -> f64 {
+    let took = placed
+        .each_ref()
+        .map(|library| sample(library, call, calls, start, lent));
+    took.iter().sum::<f64>() / PLACES as f64
 }
 
 /// The seconds of one of so many calls. All sides are lent the same memory, and a call that
