@@ -43,18 +43,19 @@ fn is_rooted_tree(s: &[u16], used: usize, n: usize) -> bool
     }
 }
 
-// Every number is zero.
+// Every number is zero. All are read, with no way out before the last, so that the machine can take many at a time.
 fn is_clear(s: &[u16]) -> bool
     ensures { λ r. ⌜ r ≡ all (eqb 0) (now (s .entry)) ⌝ }
 {
+    let mut clear = true;
     let mut i = 0;
     while i < s.len() {
         if s[i] != 0 {
-            return false;
+            clear = false;
         }
         i += 1;
     }
-    true
+    clear
 }
 
 // Is it a sheet? The used count is tested before anything is summed.
@@ -78,9 +79,9 @@ pub fn is_sheet(s: &[u16]) -> bool
     if MOST_WEIGHT < common_weight::weigh_sheet(s) {
         return false;
     }
-    if !is_rooted_tree(&s[2..], used, n) {
+    let end = 2 + used;
+    if !is_clear(&s[end..]) {
         return false;
     }
-    let end = 2 + used;
-    is_clear(&s[end..])
+    is_rooted_tree(&s[2..], used, n)
 }

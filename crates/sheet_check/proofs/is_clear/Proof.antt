@@ -1,6 +1,7 @@
--- `sheet_check::is_clear` meets its contract. Invariant: what is left of the numbers decides.
-use mathlib.Core.Bool.{true, _&&_}
+-- `sheet_check::is_clear` meets its contract. Invariant: what was read and what is left of the numbers decide.
+use mathlib.Core.Bool.{Bool, true, false, _&&_, and-true, and-false}
 use mathlib.Core.List.{List}
+use mathlib.Core.Logic.{⊎-elim}
 use mathlib.Core.Path.{_≡_, refl, sym, _∙_}
 use Prim.Native.Nat.{ℕ, _+_, _-_, _≤_, _<_}
 use native.Mathlib.Numerals.{add-one}
@@ -14,32 +15,37 @@ use Rattle.model.specs.Base.{all}
 use Rattle.sheet_check.proofs.is_clear.Statement.{statement}
 use Rattle.sheet_check.proofs.is_clear.Tie as tie
 
-clear-more : (i : ℕ) (s : List ℕ) → i < length s → all (eqb 0) (drop i s) ≡ (eqb 0 (getD s i 0) && all (eqb 0) (drop (i + 1) s))
-unfolding all
-clear-more i s h = rw (drop-cons s i 0, add-one)
+-- All numbers from a place on are zero; by the first of them, and where none is left.
+abbrev clear-from : ℕ → List ℕ → Bool
+clear-from i s = all (eqb 0) (drop i s)
 
-clear-end : (i : ℕ) (s : List ℕ) → length s ≤ i → all (eqb 0) (drop i s) ≡ true
-unfolding all
-clear-end i s h = rw (drop-of-length-le s h)
+module _ (i : ℕ) (s : List ℕ) where
+  clear-more : i < length s → clear-from i s ≡ (eqb 0 (getD s i 0) && clear-from (i + 1) s)
+  unfolding all
+  clear-more h = rw (drop-cons s i 0, add-one)
+
+  clear-end : length s ≤ i → clear-from i s ≡ true
+  unfolding all
+  clear-end h = rw (drop-of-length-le s h)
+
+  module _ (h : i < length s) (clear : Bool) where
+    other-read : (getD s i 0 ≡ 0 → ⊥) → (clear && clear-from i s) ≡ false
+    other-read n = rw (clear-more h, ne-eqb 0 (getD s i 0) (λ e. n (sym e)), and-false)
+
+    zero-read : getD s i 0 ≡ 0 → (clear && clear-from i s) ≡ (clear && clear-from (i + 1) s)
+    zero-read e = rw (clear-more h, eq-eqb 0 (getD s i 0) (sym e))
 
 abbrev Inv-loop : tie.InvT-loop
-Inv-loop s i₀ i = (i ≤ length s) × (all (eqb 0) s ≡ all (eqb 0) (drop i s))
+Inv-loop s clear₀ i₀ clear i = (i ≤ length s) × (all (eqb 0) s ≡ (clear && clear-from i s))
 
 abbrev μ-loop : tie.MeasureT-loop
-μ-loop s i₀ i = length s - i
+μ-loop s clear₀ i₀ clear i = length s - i
 
 loop-holds : tie.Need-loop-holds Inv-loop μ-loop
 loop-holds c = (omega arith, refl)
 
 shared-slice-read-if1 : tie.Need-shared-slice-read-if1 Inv-loop μ-loop
 shared-slice-read-if1 c = omega arith
-
-returns : tie.Need-returns Inv-loop μ-loop
-returns c =
-    let n = c .before .before .before in
-    let s = n .before .args .s .now in
-    let i = n .loop .i in
-    sym (n .loop .inv .1 ∙ rw (clear-more i s (omega arith), ne-eqb 0 (getD s i 0) (λ e. c .if1 .taken (sym e))))
 
 add-i : tie.Need-add-i Inv-loop μ-loop
 add-i c = omega arith
@@ -52,12 +58,20 @@ loop-again c =
     let n = c .before .before .before in
     let s = n .before .args .s .now in
     let i = n .loop .i in
-    (omega arith, n .loop .inv .1 ∙ rw (clear-more i s (omega arith), eq-eqb 0 (getD s i 0) (sym (c .if1 .left))))
+    let here : i < length s = omega arith in
+    let so-far = n .loop .inv .1 in (
+      omega arith,
+      ⊎-elim
+          (λ w. rw (w .1) (so-far ∙ other-read i s here (n .loop .clear) (w .0 .taken)))
+          (λ w. rw (w .1) (so-far ∙ zero-read i s here (n .loop .clear) (w .0 .left)))
+          (c .if1 .came),
+    )
 
-returns-2 : tie.Need-returns-2 Inv-loop μ-loop
-returns-2 c =
+returns : tie.Need-returns Inv-loop μ-loop
+returns c =
     let n = c .before in
-    sym (n .loop .inv .1 ∙ clear-end (n .loop .i) (n .before .args .s .now) (omega arith))
+    let s = n .before .args .s .now in
+    sym (n .loop .inv .1 ∙ rw (clear-end (n .loop .i) s (omega arith), and-true))
 
 pub is-clear-spec : {M : Type 1} → statement M
 is-clear-spec =
@@ -68,8 +82,7 @@ is-clear-spec =
     loop-holds
     (λ c. search needs)
     shared-slice-read-if1
-    returns
     add-i
     loop-less
     loop-again
-    returns-2)
+    returns)

@@ -60,13 +60,13 @@ module _ (s : List ℕ) where
 abbrev sheet : tie.After-wide162 → List ℕ
 sheet k = k .before .before .before .before .before .before .args .s .now
 
-told-tree : (c : tie.After-is-rooted-tree) → tree-in (sheet (c .before .before .before .before .before .before .before)) ≡ c .is-rooted-tree .result
-told-tree c =
-    let k = c .before .before .before .before .before .before .before in
-    tree-is (sheet k) (k .before .before .wide16 .ensures .0) (k .wide162 .ensures .0) (c .is-rooted-tree .ensures)
+told-clear : (c : tie.After-is-clear) → all (eqb 0) (rest-in (sheet (c .before .before .before .before .before .before .before))) ≡ c .is-clear .result
+told-clear c = let k = c .before .before .before .before .before .before .before in clear-is (sheet k) (k .wide162 .ensures .0) (c .is-clear .ensures)
 
-told-clear : (c : tie.After-is-clear) → all (eqb 0) (rest-in (sheet (c .before .before .before .before .before .before .before .before .before .before))) ≡ c .is-clear .result
-told-clear c = let k = c .before .before .before .before .before .before .before .before .before .before in clear-is (sheet k) (k .wide162 .ensures .0) (c .is-clear .ensures)
+told-tree : (c : tie.After-is-rooted-tree) → tree-in (sheet (c .before .before .before .before .before .before .before .before .before .before)) ≡ c .is-rooted-tree .result
+told-tree c =
+    let k = c .before .before .before .before .before .before .before .before .before .before in
+    tree-is (sheet k) (k .before .before .wide16 .ensures .0) (k .wide162 .ensures .0) (c .is-rooted-tree .ensures)
 
 returns : tie.Need-returns
 returns c =
@@ -104,20 +104,20 @@ returns-5 c =
 returns-6 : tie.Need-returns-6
 returns-6 c =
     let s = sheet (c .before .before .before .before .before .before .before .before) in
-    rw (sheet-is s, told-tree (c .before), not-true (c .before .is-rooted-tree .result) (c .if6 .taken), and-false)
+    rw (sheet-is s, told-clear (c .before), not-true (c .before .is-clear .result) (c .if6 .taken), and-false)
 
 returns-7 : tie.Need-returns-7
 returns-7 c =
-    let tree = c .before .before .before in
-    let weighed = tree .before .before .before in
+    let cleared = c .before .before .before in
+    let weighed = cleared .before .before .before in
     let k = weighed .before .before .before .before in
     let s = sheet k in
     let whole = eq-eqb (length s) sheet-length (omega arith) in
     let few-options = le-leb (getD s 0 0) most-options (omega arith) in
     let room = le-leb (getD s 1 0) sheet-room (omega arith) in
-    let is-tree = told-tree tree ∙ not-false _ (c .before .before .if6 .left) in
-    let light = le-leb (weight (nodes-in s)) most-weight (omega (arith, tree .before .before .if5 .left, weighed .weigh-sheet .ensures .0)) in
-    rw (sheet-is s, whole, few-options, room, is-tree, told-clear c, light, and-true)
+    let clear = told-clear cleared ∙ not-false _ (c .before .before .if6 .left) in
+    let light = le-leb (weight (nodes-in s)) most-weight (omega (arith, cleared .before .before .if5 .left, weighed .weigh-sheet .ensures .0)) in
+    rw (sheet-is s, whole, few-options, room, told-tree c, clear, and-true, light, and-true)
 
 pub is-sheet-spec : {M : Type 1} → statement M
 is-sheet-spec =
@@ -136,10 +136,10 @@ is-sheet-spec =
     (λ c. search needs)
     (λ c. search needs)
     (λ c. search needs)
+    (λ c. search needs)
+    (λ c. search needs)
     (λ c κs. search needs)
     returns-6
-    (λ c. search needs)
-    (λ c. search needs)
     (λ c. search needs)
     (λ c. search needs)
     (λ c. search needs)
