@@ -4,11 +4,12 @@
 //! at several places in memory.
 //!
 //!     tools/build-library                                         at the repository's top
-//!     bench/before COMMIT [FLAGS]                                 runs this with the first three
+//!     bench/before COMMIT [FLAGS]                                 runs this with the first four
 //!
 //!     --before FILE       the earlier library, an archive
-//!     --name TEXT         what the text calls it
+//!     --earlier TEXT      what the text calls it
 //!     --after FILE        the library of now, an archive
+//!     --now TEXT          what the text calls it
 //!     --doc FILE          put the text between the marks of this file too
 //!     --bar NUMBER        how many times slower a call may be (1.1)
 //!     --only TEXT         time only the families whose names hold this text
@@ -72,8 +73,9 @@ const TOO_HEAVY: [&str; 2] = ["clauses of 3", "random nests, plain"];
 
 struct Flags {
     before: String,
-    name: String,
+    earlier: String,
     after: String,
+    now: String,
     doc: Option<String>,
     bar: f64,
     only: String,
@@ -83,8 +85,9 @@ struct Flags {
 fn flags() -> Flags {
     let mut flags = Flags {
         before: String::new(),
-        name: String::from("an earlier build"),
+        earlier: String::from("an earlier build"),
         after: String::new(),
+        now: String::from("the build of now"),
         doc: None,
         bar: 1.1,
         only: String::new(),
@@ -97,8 +100,9 @@ fn flags() -> Flags {
             .unwrap_or_else(|| panic!("{flag} wants a value"));
         match flag.as_str() {
             "--before" => flags.before = word,
-            "--name" => flags.name = word,
+            "--earlier" => flags.earlier = word,
             "--after" => flags.after = word,
+            "--now" => flags.now = word,
             "--doc" => flags.doc = Some(word),
             "--bar" => flags.bar = word.parse().expect("a number of times"),
             "--only" => flags.only = word,
@@ -185,7 +189,8 @@ fn main() {
     eprintln!("{compared}");
     let noise = &mut Noise::new();
     let measured = measured(&sides, &flags, noise);
-    let text = text::whole(&flags.name, &compared, &noise.said(), &measured, flags.bar);
+    let names = [&*flags.earlier, &*flags.now];
+    let text = text::whole(names, &compared, &noise.said(), &measured, flags.bar);
     println!("{text}");
     if let Some(file) = &flags.doc {
         marks::put(file, text::MARK, &text);

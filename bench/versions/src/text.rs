@@ -166,8 +166,14 @@ fn refused_table(cells: &[Cell]) -> String {
 }
 
 /// The whole part of the document.
-pub fn whole(name: &str, compared: &str, noise: &str, measured: &Measured, bar: f64) -> String {
-    let named = format!("Before: `{name}`. After: the library of this checkout.");
+pub fn whole(
+    [earlier, now]: [&str; 2],
+    compared: &str,
+    noise: &str,
+    measured: &Measured,
+    bar: f64,
+) -> String {
+    let named = format!("Before: `{earlier}`. After: `{now}`.");
     let mut parts = vec![
         format!("{named} {compared}"),
         noise.to_string(),
