@@ -11,8 +11,12 @@
  * A code is 1 to 13 characters from A-Z, a-z, 0-9 and hyphen, then zero bytes
  * up to 13.  Kind 1 is an option (value its number, 0 to N - 1), kind 2 the
  * same option barred, kinds 3 and 4 are all-of and any-of (value the number of
- * children).  A body is one tree, a node before its children.  The weight of a
- * book is 1 + T + the number of its nodes of kind 1 or 2.
+ * children).  Kind 6 is at-least: k of its members hold, or more (value
+ * members * 64 + k, both 0 to 63).  Its members are its children, each one node:
+ * an option, plain or barred, no option twice; 12288 (true, the empty all-of) or
+ * 16384 (false, the empty any-of).  A body is one tree, a node before its
+ * children.  The weight of a book is 1 + T + the number of its nodes of kind 1
+ * or 2.
  *
  * Both functions answer one number.  Its low 8 bits are the refusal, 0 where
  * the call is accepted; the rest is the value.  nd_refusal and nd_value, below,
@@ -27,8 +31,9 @@
  *   4  contents: a pair whose first node is not the sum of the counts before it
  *      or whose count is 0, or counts whose sum is not T (the sum is 0 where M
  *      is 0); the sums are exact, they do not wrap at 16 bits
- *   5  body: not one tree of exactly its node count, a kind other than 1 to 4,
- *      or an option number of N or more
+ *   5  body: not one tree of exactly its node count, a kind other than 1 to 4
+ *      and 6, an option number of N or more, or a kind 6 with another member
+ *      than those above
  *   6  weight: over 4096
  *   7  no such code (lookup only)
  *

@@ -8,8 +8,9 @@
  *   sheet[0]     N, the number of options (0 to 512)
  *   sheet[1]     the count of nodes used, the root among them (1 to 4,096)
  *   sheet[2..]   the nodes from the root on as one tree, a node before its children, each
- *                kind * 4096 + value as in a book; kind 5 is the root, at the head and nowhere
- *                else, and its value is the number of its children
+ *                kind * 4096 + value as in a book, with the same members of kind 6; kind 5 is
+ *                the root, at the head and nowhere else, and its value is the number of its
+ *                children
  *   the rest     zeros
  *
  * The root's children are the rules in book order, then the choices.  The weight of a sheet is
@@ -37,7 +38,7 @@
  *    7       no such option number
  *    8       sheet full: its weight + 2 is over 4,096; in a withdrawal, the book's weight + twice
  *            the remaining lines is
- *    9       rule not 1 to 14
+ *    9       rule not 1 to 17
  *   10       the step does not apply
  *   11       not a sheet; in writing and in a withdrawal also a book whose N is not the sheet's;
  *            in a keying and in a withdrawal also lines that are not in order; in loading only a
@@ -187,8 +188,9 @@ uint64_t nd_withdraw(uint16_t *sheet, size_t sheet_len, const uint8_t *book, siz
                      struct nd_line *lines, size_t slots, uint16_t *count, uint64_t k);
 
 /*
- * Does one step of the fourteen rules: rule 1 to 14, at a place (nodes counted from the root, 0),
- * child i and inner child j, from 0.  An index that the rule has no use for must be 0.
+ * Does one step of the seventeen rules: rule 1 to 17, at a place (nodes counted from the root, 0),
+ * child i and inner child j, from 0.  An index that the rule has no use for must be 0: so must i
+ * and j for rules 16 and 17, also where the node has no child.
  *
  * The value is always 0.
  *

@@ -44,7 +44,7 @@ MEANINGS = {
     6: "the book's weight is over 4,096",
     7: "no such option number or code",
     8: "the sheet is full, or would be with the remaining lines",
-    9: "the rule is not 1 to 14",
+    9: "the rule is not 1 to 17",
     10: "the step does not apply",
     11: "not a sheet, a book whose number of options is not the sheet's, or lines not in order",
     12: "the output is too short",
@@ -248,7 +248,7 @@ def nd_withdraw(sheet: Lent, book: Lent, lines: Any, count: Any, k: int) -> None
 
 
 def nd_step(sheet: Lent, rule: int, place: int, i: int, j: int) -> None:
-    """One step of the fourteen rules. Refused 11, 9, 10."""
+    """One step of the seventeen rules. Refused 11, 9, 10."""
     _call("nd_step", sheet, rule, place, i, j)
 
 
@@ -341,7 +341,7 @@ class Order:
         self.book = book
 
     def step(self, rule: int, place: int, i: int = 0, j: int = 0) -> None:
-        """One step of the fourteen rules; refused 9, 10."""
+        """One step of the seventeen rules; refused 9, 10."""
         nd_step(self.numbers, rule, place, i, j)
 
     def run(self, budget: int = BUDGET_MOST) -> Ran:

@@ -1,26 +1,44 @@
-"""docs/third-case.svg: document 01's third starred case, the sheet before each step and after the last as
-a small tree, from the checker's trace. Run from anywhere: python3 tests/picture.py"""
+"""Pictures in docs/: the sheet before each step and after the last, each as a small tree, from the checker's trace.
+third-case.svg is document 01's third starred case; at-least.svg is two of four options, two of which are barred.
+Run from anywhere: python3 tests/picture.py"""
 from pathlib import Path
+from typing import NamedTuple
 
 from checker import rules
 from checker.books import build
 from checker.cases import CASES, CODES
 from checker.sheets import LENGTH, load, root_of
-from checker.trees import CONJUNCTION, DISJUNCTION, ROOT
+from checker.trees import CONJUNCTION, DISJUNCTION, ROOT, forest
 
 WORDS = {7: "an all-of with one child: the child replaces it",
          8: "an any-of with one child: the child replaces it",
+         10: "a bare mark: its option is a constant elsewhere",
          12: "a mark in an all-of moves up to the root",
-         14: "the mark that the all-ofs share is taken out"}
+         14: "the mark that the all-ofs share is taken out",
+         15: "a false member goes; as many are asked for",
+         17: "all members are asked for: an all-of"}
+AT_LEAST, ASKED = 6, 64  # its kind, and the factor beside what it asks for
 LABELS = {ROOT: "root", CONJUNCTION: "all of", DISJUNCTION: "any of"}
-COLOURS = {ROOT: "#d9d9d9", CONJUNCTION: "#cfe3f7", DISJUNCTION: "#fbe3c0"}
-ACROSS, DOWN, WIDE, HIGH, PER_ROW = 58, 46, 310, 340, 4
+COLOURS = {ROOT: "#d9d9d9", CONJUNCTION: "#cfe3f7", DISJUNCTION: "#fbe3c0", AT_LEAST: "#eadff5"}
+ACROSS, DOWN, NARROWEST, HEADING, PER_ROW = 58, 46, 310, 110, 4
 
 
-def trace():
+class Picture(NamedTuple):
+    name: str
+    rules: list  # trees
+    options: int
+    settled: str  # what the last panel says
+
+
+def pictures():
+    two_of_four = [AT_LEAST * 4096 + 4 * ASKED + 2, 4096, 4097, 4098, 4099]
+    return [Picture("third-case.svg", CASES[2][0], 3, "no rule applies; P is forced, Q and R are open"),
+            Picture("at-least.svg", forest(two_of_four + [8192, 8193], 4), 4, "no rule applies; R and S are forced")]
+
+
+def trace(picture):
     """[(root, the step to come or None)]"""
-    trees = CASES[2][0]
-    sheet = load([0] * LENGTH, build(CODES[:3], trees))
+    sheet = load([0] * LENGTH, build(CODES[:picture.options], picture.rules))
     states = []
     while True:
         step = rules.house_step(sheet)
@@ -46,16 +64,32 @@ class Box:
 def label(node):
     if node.literal:
         return ("" if node.literal.positive else "not ") + "PQRS"[node.literal.option]
+    if node.kind == AT_LEAST:
+        return "%d of %d" % (node.number() % ASKED, len(node.children))
     if node.kind != ROOT and not node.children:
         return "true" if node.kind == CONJUNCTION else "false"
     return LABELS[node.kind]
 
 
-def drawn(root, step, left, top):
-    """One tree: its lines, then its boxes. Where the step to come takes place the edge is red."""
-    boxes, leaves, lines, shapes = [], [], [], []
+def boxed(root):
+    """(the boxes of a tree, how many leaves it has)"""
+    boxes, leaves = [], []
     Box(root, 0, boxes, leaves)
-    shift = left + (WIDE - ACROSS * (len(leaves) - 1)) / 2
+    return boxes, len(leaves)
+
+
+def panel_size(states):
+    """(the width, the height) that every tree fits in."""
+    trees = [boxed(root) for root, _ in states]
+    deepest = max(box.y for boxes, _ in trees for box in boxes)
+    return max([NARROWEST] + [ACROSS * leaves + 20 for _, leaves in trees]), HEADING + DOWN * deepest
+
+
+def drawn(root, step, left, top, wide):
+    """One tree: its lines, then its boxes. Where the step to come takes place the edge is red."""
+    lines, shapes = [], []
+    boxes, leaves = boxed(root)
+    shift = left + (wide - ACROSS * (leaves - 1)) / 2
     for place, box in enumerate(boxes):
         x, y = shift + ACROSS * box.x, top + 74 + DOWN * box.y
         for child in box.below:
@@ -78,10 +112,10 @@ def drawn(root, step, left, top):
     return lines + shapes
 
 
-def title(number, step, left, top):
+def title(number, step, settled, left, top):
     """What is about to happen at the red node."""
     if step is None:
-        words = ["after %d steps: settled" % number, "no rule applies; P is forced, Q and R are open"]
+        words = ["after %d steps: settled" % number, settled]
     else:
         words = ["step %d: rule %d at place %d, i %d, j %d" % (number + 1, *step), WORDS[step[0]]]
     styles = 'font-weight="bold"', 'fill="#444444"'
@@ -89,20 +123,26 @@ def title(number, step, left, top):
             for at, (line, style) in enumerate(zip(words, styles))]
 
 
-def main():
-    states = trace()
-    width, height = WIDE * PER_ROW, HIGH * -(-len(states) // PER_ROW)
+def draw(picture):
+    states = trace(picture)
+    wide, high = panel_size(states)
+    width, height = wide * PER_ROW, high * -(-len(states) // PER_ROW)
     parts = ['<svg xmlns="http://www.w3.org/2000/svg" viewBox="0 0 %d %d" width="%d" height="%d" '
              'font-family="sans-serif" font-size="12">' % (width, height, width, height),
              '<rect width="%d" height="%d" fill="#ffffff"/>' % (width, height)]
     for number, (root, step) in enumerate(states):
-        left, top = WIDE * (number % PER_ROW), HIGH * (number // PER_ROW)
-        parts += title(number, step, left, top)
-        parts += drawn(root, step, left, top)
-    target = Path(__file__).resolve().parent.parent / "docs/third-case.svg"
+        left, top = wide * (number % PER_ROW), high * (number // PER_ROW)
+        parts += title(number, step, picture.settled, left, top)
+        parts += drawn(root, step, left, top, wide)
+    target = Path(__file__).resolve().parent.parent / "docs" / picture.name
     target.write_text("\n".join(parts + ["</svg>"]) + "\n")
     print("%s: %d trees, rules %s" % (
         target.name, len(states), [step[0] for _, step in states if step]))
+
+
+def main():
+    for picture in pictures():
+        draw(picture)
 
 
 if __name__ == "__main__":

@@ -1,8 +1,9 @@
-"""Random accepted books: codes that look like words of the notation, groups without and with one part, marks twice over."""
-from bookfile.books import ALL_OF, ANY_OF, BARRED, MARKS, PLAIN, Book, node, taken_apart
+"""Random accepted books: codes that look like words of the notation, groups without and with one part, marks twice over; at-leasts
+of no members and of 63, which ask for none, for some, and for more than there are."""
+from bookfile.books import ALL_OF, ANY_OF, FALSE, MARKS, MOST_MEMBERS, TRUE, Book, at_least, node, weight_of
 
 WORDS = ["all", "any", "not", "true", "false", "option", "rule", "-", "--", "A-1", "A-", "-A", "0", "ALL", "Not", "all-", "-not",
-         "ABCDEFGHIJKLM", "ABCDEFGHIJKLN", "one-of", "rule-", "p", "P"]
+         "ABCDEFGHIJKLM", "ABCDEFGHIJKLN", "one-of", "rule-", "p", "P", "exactly", "at-least", "2", "63", "64"]
 CHARACTERS = "ABCXYZabcxyz0189-"
 HEAVIEST = 400  # most books; a few are made as heavy as can be
 
@@ -25,6 +26,10 @@ def random_body(rng, options, room):
         if options and left > 1 and rng.random() < 0.55:
             found.append(node(rng.choice(MARKS), rng.randrange(options)))
             room, due = room - 2, due - 1
+        elif rng.random() < 0.2:
+            whole = random_at_least(rng, options, max(left, 0))
+            found += whole
+            room, due = room - weight_of(whole), due - 1
         else:
             count = min(rng.choice((0, 1, 1, 2, 2, 3, 4)), max(left, 0))
             found.append(node(rng.choice((ALL_OF, ANY_OF)), count))
@@ -32,12 +37,23 @@ def random_body(rng, options, room):
     return found
 
 
+def random_at_least(rng, options, room):
+    """An at-least with its members, which take at most `room` of weight."""
+    count = min(rng.choice((0, 1, 2, 3, 4, 9, MOST_MEMBERS)), room // 2)
+    named = rng.sample(range(options), min(options, rng.randint(0, count)))
+    members = [node(rng.choice(MARKS), option) for option in named]
+    members += [rng.choice((TRUE, FALSE)) for _ in range(count - len(named))]
+    rng.shuffle(members)
+    asked = rng.choice((0, 1, 2, count // 2, count, min(count + 1, MOST_MEMBERS), MOST_MEMBERS))
+    return [at_least(asked, count)] + members
+
+
 def random_book(rng):
     codes = random_codes(rng)
     bodies, room = [], 4095 if rng.random() < 0.002 else HEAVIEST
     for _ in range(rng.choice((0, 1, 2, 3, 6, 12))):
         body = random_body(rng, len(codes), min(room, rng.choice((1, 2, 3, 10, 40, 4095))))
-        room -= sum(2 if taken_apart(number)[0] in (PLAIN, BARRED) else 1 for number in body)
+        room -= weight_of(body)
         bodies.append(body)
         if room < 1:
             break

@@ -14,10 +14,11 @@ option B-1
 rule one_of(A, "not", B-1)
 rule A -> any(B-1,
               all(not A, "not"))
-rule not (A <-> at_most_one(B-1, true)) # the last
+rule not (A <-> at_most_one(B-1, true))
+rule any(at_least(2, A, not B-1, true), exactly(1, "not", B-1)) # the last
 """
 PIECES = (b"(", b")", b",", b"->", b"<->", b"not", b"all(", b"any(", b"one_of(", b"A", b"B-1", b'"', b"#", b"\n", b" ", b"rule", b"option",
-          b"true", b"-", b">", b"_", b"\xff", b"\0", b"\r", b"\t", b"\xc3\xa4")
+          b"at_least(", b"exactly(", b"2", b"64, ", b"true", b"-", b">", b"_", b"\xff", b"\0", b"\r", b"\t", b"\xc3\xa4")
 
 
 def mangled(rng):

@@ -18,13 +18,18 @@ def round_trip(data, accepted):
 
 
 def run(accepted):
-    rng, longest = random.Random(SEED), 0
+    rng, longest, met = random.Random(SEED), 0, set()
     for _ in range(BOOKS):
-        data = books.to_bytes(random_book(rng))
-        longest = max(longest, len(round_trip(data, accepted)))
+        book = random_book(rng)
+        longest = max(longest, len(round_trip(books.to_bytes(book), accepted)))
+        met |= {number for body in book.bodies for number in body}
     check(longest > 4000, "no book of some size was met")
+    for asked, members in ((0, 0), (1, 0), (1, 1), (2, 4), (5, 4), (0, 63), (63, 63)):
+        check(books.at_least(asked, members) in met, "no at-least of", asked, "of", members, "was met")
     full = books.Book(["P"], [[books.node(books.ANY_OF, 2047)] + [books.node(books.PLAIN, 0)] * 2047])
     many = books.Book(["C%d" % number for number in range(512)], [[books.node(books.ALL_OF, 0)]] * 4095)
-    for book in (books.Book([], []), full, many):
+    wide = books.Book(["ABCDEFGHIJK%02d" % number for number in range(63)],
+                      [[books.at_least(32, 63)] + [books.node(books.BARRED, number) for number in range(63)]])
+    for book in (books.Book([], []), full, many, wide):
         round_trip(books.to_bytes(book), accepted)
-    return "%d books shown and made again" % (BOOKS + 3)
+    return "%d books shown and made again" % (BOOKS + 4)

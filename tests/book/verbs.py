@@ -25,18 +25,23 @@ def call(*arguments, status=0):
     return printed or told
 
 
-def sample_book(folder):
-    """The committed sample is the book of its text, and comes back from its own."""
+def sample_books(folder):
+    """The committed samples are the books of their texts, and come back from their own."""
     made, text = folder / "book.bin", folder / "shown.txt"
-    call("make", EXAMPLES / "meter.txt", made)
-    check(made.read_bytes() == (EXAMPLES / "book.bin").read_bytes(), "examples/book.bin is not the book of examples/meter.txt")
-    text.write_text(call("show", made))
-    call("make", text, folder / "again.bin")
-    check((folder / "again.bin").read_bytes() == made.read_bytes(), "the sample shown and made again is another book")
-    check("one_of" in call("--help") and "no room for comments" in call("make", "--help"), "the help lacks the notation")
-    due = ["options    13 of 512", "rules      10 of 4,095", "nodes      60 of 4,095", "weight     97 of 4,096"]
-    told = call("check", made)
-    check(told.split("\n")[1:5] == due, "the sample's room is told wrong:", told)
+    for source, book, due in (
+            ("meter.txt", "book.bin",
+             ["options    13 of 512", "rules      10 of 4,095", "nodes      60 of 4,095", "weight     97 of 4,096"]),
+            ("seals/seals.txt", "seals/book.bin",
+             ["options     7 of 512", "rules       4 of 4,095", "nodes      22 of 4,095", "weight     38 of 4,096"])):
+        call("make", EXAMPLES / source, made)
+        check(made.read_bytes() == (EXAMPLES / book).read_bytes(), "examples/%s is not the book of examples/%s" % (book, source))
+        text.write_text(call("show", made))
+        call("make", text, folder / "again.bin")
+        check((folder / "again.bin").read_bytes() == made.read_bytes(), "the sample shown and made again is another book:", source)
+        told = call("check", made)
+        check(told.split("\n")[1:5] == due, "the sample's room is told wrong:", told)
+    for words in ("one_of(A, B, ..)", "at_least(k, A, B, ..)", "exactly(k, A, B, ..)", "no room for comments"):
+        check(words in call("--help") and words in call("make", "--help"), "the help lacks the notation:", words)
 
 
 def refused_files(folder):
@@ -108,18 +113,42 @@ def changes(folder):
         "+ rule 1: A"], "added and removed")
     check(report(ab + "rule any(A, all(A, B))", ab + "rule any(all(B, A), A)")[2:] == [
         "= rule 0, now rule 0: the same parts in another order: any(all(B, A), A)", only], "order inside a rule")
+    counted = ab + "rule at_least(%d, %s)\n"
+    check(report(counted % (1, "A, B"), counted % (1, "B, A"))[2:] == [
+        "= rule 0, now rule 0: the same parts in another order: at_least(1, B, A)", only], "order inside an at_least")
+    for before, after in (((1, "A, B"), (2, "B, A")), ((1, "A, B"), (1, "not B, A")), ((1, "A, true"), (1, "A"))):
+        told = report(counted % before, counted % after)
+        check(told[1].startswith("1 rule: 1 added, 1 removed"), "at_least", before, "to", after, "is told as", told)
+    check(report(ab + "rule at_least(1, A, B)", ab + "rule any(A, B)")[2:] == [
+        "- rule 0: at_least(1, A, B)", "+ rule 0: any(A, B)"], "an any-of in place of an at_least")
 
 
 def pictures(folder):
-    printed = call("draw", EXAMPLES / "book.bin")
-    boxes = [each for each in ElementTree.fromstring(printed).iter() if each.tag.endswith("rect") and each.get("class")]
-    check(len(boxes) == 60, "the sample's picture has", len(boxes), "boxes")
+    for book, boxes in ((EXAMPLES / "book.bin", 60), (EXAMPLES / "seals/book.bin", 22)):
+        printed = call("draw", book)
+        check_boxes(printed, boxes)
+        call("draw", book, "-o", folder / "book.svg")
+        check((folder / "book.svg").read_text() == printed, "-o writes another picture")
+    check(printed.count(">at least 2 of 4<") == 1 and printed.count(">at least 1 of 2<") == 2, "the seals' at-leasts are not drawn")
+    members = ", ".join("C%d" % number for number in range(63))
+    text = "".join("option C%d\n" % number for number in range(63)) + "rule any(at_least(32, %s), all(at_least(1), C0))\n" % members
+    (folder / "wide.txt").write_text(text)
+    call("make", folder / "wide.txt", folder / "wide.bin")
+    drawn = call("draw", folder / "wide.bin")
+    check_boxes(drawn, 68)
+    check(">at least 32 of 63<" in drawn and ">at least 1 of 0<" in drawn, "a wide at-least is not drawn")
+
+
+def check_boxes(drawn, count):
+    """A picture has so many boxes; none is over another, and none beyond the right edge."""
+    picture = ElementTree.fromstring(drawn)
+    boxes = [each for each in picture.iter() if each.tag.endswith("rect") and each.get("class")]
+    check(len(boxes) == count, "a picture has", len(boxes), "boxes and not", count)
     places = [[float(box.get(name)) for name in ("x", "y", "width", "height")] for box in boxes]
     for (left, top, width, height), (other_left, other_top, other_width, other_height) in combinations(places, 2):
         check(left + width <= other_left or other_left + other_width <= left or top + height <= other_top
               or other_top + other_height <= top, "two boxes of the picture overlap")
-    call("draw", EXAMPLES / "book.bin", "-o", folder / "book.svg")
-    check((folder / "book.svg").read_text() == printed, "-o writes another picture")
+    check(all(left + width <= float(picture.get("width")) for left, _, width, _ in places), "a box is cut off at the right")
 
 
 def deep_files(folder):
@@ -135,7 +164,7 @@ def deep_files(folder):
 
 def run(accepted):
     with tempfile.TemporaryDirectory() as name:
-        for part in (sample_book, refused_files, written_files, changes, pictures, deep_files):
+        for part in (sample_books, refused_files, written_files, changes, pictures, deep_files):
             folder = Path(name) / part.__name__
             folder.mkdir()
             part(folder)

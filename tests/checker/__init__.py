@@ -7,9 +7,11 @@ literal (barred = negative), all-of = conjunction, any-of = disjunction; where a
 redex, what it leaves there the contractum.
 
 trees: node numbers to trees and back. books: the book file. sheets: the order sheet. keying: the
-lines of an order, keyed and taken back. meaning: clauses and facts. rules: the fourteen rules.
+lines of an order, keyed and taken back. meaning: clauses and facts. counting: the same meaning,
+where the clauses are too many to build. models: what a step keeps. rules: the seventeen rules.
 calls: every call in one form. desk: the desk program. cases: the papers' cases as tables. demands:
-the parts of demand 3. selftest and its two parts: all of it against the papers.
+the parts of demand 3. random_trees: marks and at-leasts for random books. selftest and its parts:
+all of it against the papers.
 """
 
 

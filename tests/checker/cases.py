@@ -1,23 +1,54 @@
-"""Document 01's books to try, as tables; single steps that show what each rule does; and orders
-whose lines are keyed and taken back, as document 02 says."""
-from .trees import (FALSE, TRUE, conjunction as all_of, disjunction as any_of, negative, positive)
+"""Document 01's books to try and those of document 02's "at least k of these", as tables; single
+steps that show what each rule does; and orders whose lines are keyed and taken back, as document 02
+says."""
+from .trees import (FALSE, TRUE, at_least, conjunction as all_of, disjunction as any_of, negative,
+                    positive)
 
-P, Q, R = positive(0), positive(1), positive(2)
-NOT_P, NOT_Q, NOT_R = negative(0), negative(1), negative(2)
+P, Q, R, S = (positive(option) for option in range(4))
+NOT_P, NOT_Q, NOT_R, NOT_S = (negative(option) for option in range(4))
 CODES = [b"P", b"Q", b"R", b"S"]
 BAD = None  # contradictory
+BARRED = [(0, True), (1, True), (2, True)]  # choices: not P, not Q, not R
 
-# rules; choice; report; rules of the house steps; rules left (... where the paper gives none)
+# rules; choices; report; rules of the house steps; rules left (... where document 01 gives none;
+# document 02 gives no steps: those of kind 6 follow from its wording)
 CASES = [
-    ([any_of(P, all_of(P, Q))], (), [1, 0], [9, 1, 7, 5, 8], [P]),
-    ([P, any_of(all_of(NOT_P, Q), FALSE)], (), BAD, [5, 8, 10, 1, 7, 3], [FALSE]),
-    ([any_of(all_of(P, Q), all_of(P, R))], (), [1, 0, 0], [14, 7, 7, 8, 12, 7], [P, any_of(Q, R)]),
-    ([NOT_P, any_of(P, NOT_Q), any_of(P, NOT_R), any_of(Q, R)], (), BAD, ..., [FALSE]),
-    ([any_of(P, Q), any_of(NOT_P, Q)], (), [0, 0], ..., ...),
-    ([any_of(all_of(P, NOT_P), Q)], (), [0, 0], ..., ...),
-    ([any_of(P, Q)], (1, True), [1, 2], ..., [P, NOT_Q]),
-    ([FALSE], (), BAD, [], [FALSE]),
-    ([TRUE], (), [], [6], []),
+    ([any_of(P, all_of(P, Q))], [], [1, 0], [9, 1, 7, 5, 8], [P]),
+    ([P, any_of(all_of(NOT_P, Q), FALSE)], [], BAD, [5, 8, 10, 1, 7, 3], [FALSE]),
+    ([any_of(all_of(P, Q), all_of(P, R))], [], [1, 0, 0], [14, 7, 7, 8, 12, 7], [P, any_of(Q, R)]),
+    ([NOT_P, any_of(P, NOT_Q), any_of(P, NOT_R), any_of(Q, R)], [], BAD, ..., [FALSE]),
+    ([any_of(P, Q), any_of(NOT_P, Q)], [], [0, 0], ..., ...),
+    ([any_of(all_of(P, NOT_P), Q)], [], [0, 0], ..., ...),
+    ([any_of(P, Q)], [(1, True)], [1, 2], ..., [P, NOT_Q]),
+    ([FALSE], [], BAD, [], [FALSE]),
+    ([TRUE], [], [], [6], []),
+    # document 02: "two of these four seals", with none, two and three of them not wanted
+    ([at_least(2, P, Q, R, S)], [], [0, 0, 0, 0], [], [at_least(2, P, Q, R, S)]),
+    ([at_least(2, P, Q, R, S)], BARRED[:2], [2, 2, 1, 1], [10, 10, 15, 15, 17, 12, 7],
+     [R, S, NOT_P, NOT_Q]),
+    ([at_least(2, P, Q, R, S)], BARRED, BAD, [10, 10, 10, 15, 15, 15, 16, 3], [FALSE]),
+    ([at_least(3, P, Q, R, S)], BARRED[:1], [2, 1, 1, 1], [10, 15, 17, 12, 12, 7],
+     [Q, R, S, NOT_P]),
+    ([at_least(1, P, Q)], BARRED[:1], [2, 1], [10, 15, 17, 8], [Q, NOT_P]),
+    # "16 turns k = 0 into true and k over the members into false"
+    ([at_least(0, P, Q)], [], [0, 0], [16, 6], []),
+    ([at_least(3, P, Q)], [], BAD, [16], [FALSE]),
+    ([at_least(0)], [], [], [16, 6], []),
+    ([at_least(1)], [], BAD, [16], [FALSE]),
+    ([at_least(63, P, NOT_Q)], [], BAD, [16], [FALSE]),
+    # "15 removes member i that is true (k less one, not below 0) or false"
+    ([at_least(2, P, TRUE, Q, FALSE)], [], [0, 0], [15, 15, 17], [any_of(P, Q)]),
+    ([at_least(1, TRUE, P)], [], [0], [15, 16, 6], []),
+    ([at_least(0, TRUE, TRUE)], [], [], [15, 15, 16, 6], []),
+    ([at_least(2, FALSE, NOT_P, FALSE)], [], BAD, [15, 15, 16], [FALSE]),
+    # house order: 15 at a later place goes before 16, and 16 before 17
+    ([at_least(0, P), at_least(1, TRUE)], [], [0], [15, 16, 6, 16, 6], []),
+    ([at_least(1, P, Q), at_least(0, R)], [], [0, 0, 0], [16, 6, 17], [any_of(P, Q)]),
+    # inside other groups, and beside what it names
+    ([any_of(P, at_least(2, P, Q, R))], [], [0, 0, 0], [9, 15, 17], [any_of(P, all_of(Q, R))]),
+    ([any_of(P, at_least(2, NOT_P, Q, R))], [], [0, 0, 0], [9, 15, 17],
+     [any_of(P, any_of(Q, R))]),
+    ([P, at_least(2, NOT_P, Q, R)], [], [1, 1, 1], [10, 15, 17, 12, 7], [P, Q, R]),
 ]
 
 # rules; (rule, place, i, j); rules after, or None where the step does not apply
@@ -53,6 +84,55 @@ STEPS = [
     ([any_of(all_of(P), all_of(NOT_P))], (14, 1, 0, 0), None),
     ([any_of(all_of(P), all_of(P), all_of(Q))], (14, 1, 0, 0), None),
     ([any_of(all_of(P), all_of(P), FALSE)], (14, 1, 0, 0), None),
+    # with kind 6 below: 7 and 8 put it in its parent's place, 9 and 10 put constants in place of
+    # its marks, and for 13 and 14 it is no all-of
+    ([all_of(at_least(2, P, Q, R))], (7, 1, 0, 0), [at_least(2, P, Q, R)]),
+    ([any_of(at_least(1, NOT_P))], (8, 1, 0, 0), [at_least(1, NOT_P)]),
+    ([any_of(at_least(2, P, Q, NOT_R), NOT_P, at_least(0))], (9, 1, 1, 0),
+     [any_of(at_least(2, TRUE, Q, NOT_R), NOT_P, at_least(0))]),
+    ([any_of(at_least(2, P, Q, NOT_R), R)], (9, 1, 1, 0),
+     [any_of(at_least(2, P, Q, TRUE), R)]),
+    ([at_least(1, P, Q), all_of(at_least(3, R, NOT_P)), P], (10, 0, 2, 0),
+     [at_least(1, TRUE, Q), all_of(at_least(3, R, FALSE)), P]),
+    ([all_of(P, at_least(2, Q, R))], (11, 1, 1, 0), None),
+    ([at_least(2, Q, R)], (12, 0, 0, 0), None),
+    ([all_of(P, at_least(2, Q, R))], (13, 1, 1, 0), None),
+    ([all_of(at_least(1, P), all_of(Q))], (13, 1, 1, 0), None),
+    ([any_of(all_of(P), at_least(1, P), all_of(P))], (14, 1, 0, 0), None),
+    ([any_of(all_of(at_least(1, P), Q), all_of(Q))], (14, 1, 0, 1),
+     [any_of(all_of(Q, any_of(all_of(at_least(1, P)), TRUE)))]),
+    # document 02's own three
+    ([P, at_least(2, P, TRUE, NOT_Q)], (15, 2, 1, 0), [P, at_least(1, P, NOT_Q)]),
+    ([at_least(2, P, FALSE, NOT_Q)], (15, 1, 1, 0), [at_least(2, P, NOT_Q)]),
+    ([at_least(0, TRUE)], (15, 1, 0, 0), [at_least(0)]),
+    ([at_least(3, FALSE, FALSE)], (15, 1, 1, 0), [at_least(3, FALSE)]),
+    ([at_least(2, P, FALSE)], (15, 1, 0, 0), None),
+    ([at_least(2, P, FALSE)], (15, 1, 2, 0), None),
+    ([at_least(2, P, FALSE)], (15, 1, 1, 1), None),
+    ([at_least(2)], (15, 1, 0, 0), None),
+    ([all_of(FALSE)], (15, 1, 0, 0), None),
+    ([P, at_least(0, P, TRUE), Q], (16, 2, 0, 0), [P, TRUE, Q]),
+    ([at_least(3, P, TRUE), Q], (16, 1, 0, 0), [FALSE, Q]),
+    ([at_least(1)], (16, 1, 0, 0), [FALSE]),
+    ([at_least(0)], (16, 1, 0, 0), [TRUE]),
+    ([at_least(0, P, Q)], (16, 1, 1, 0), None),
+    ([at_least(0, P)], (16, 1, 1, 0), None),
+    ([at_least(0, P)], (16, 1, 0, 1), None),
+    ([at_least(2, P, Q)], (16, 1, 0, 0), None),
+    ([at_least(1, P, Q)], (16, 1, 0, 0), None),
+    ([any_of(at_least(1, P, NOT_Q, FALSE), R)], (17, 2, 0, 0),
+     [any_of(any_of(P, NOT_Q, FALSE), R)]),
+    ([at_least(2, TRUE, NOT_P)], (17, 1, 0, 0), [all_of(TRUE, NOT_P)]),
+    ([at_least(1, P)], (17, 1, 0, 0), [any_of(P)]),
+    ([at_least(0)], (17, 1, 0, 0), [TRUE]),
+    ([at_least(1)], (17, 1, 0, 0), [FALSE]),
+    ([at_least(1, P, Q)], (17, 1, 1, 0), None),
+    ([at_least(1, P, Q)], (17, 1, 0, 1), None),
+    ([at_least(2, P, Q, R)], (17, 1, 0, 0), None),
+    ([at_least(0, P)], (17, 1, 0, 0), None),
+    ([at_least(2, P)], (17, 1, 0, 0), None),
+    ([all_of(P)], (17, 1, 0, 0), None),
+    ([any_of(P)], (16, 1, 0, 0), None),
 ]
 
 # Document 02's orders, each on a book with the options P, Q and R. Rules; first lines, which nobody

@@ -1,7 +1,7 @@
 """What demand 3 reckons with, and what it says of a settled sheet and of the steps in a stretch."""
 from . import meaning, rules, sheets
 from .keying import with_marks
-from .trees import ROOT, Tree, preorder
+from .trees import AT_LEAST, ROOT, Tree, preorder
 
 
 class Account:
@@ -30,9 +30,15 @@ class Account:
 
 
 def cube(sheet):
-    """ "the cube of n + 2l, for n nodes and l option marks" """
-    nodes = preorder(sheets.root_of(sheet))
-    return (len(nodes) + 2 * sum(node.literal is not None for node in nodes)) ** 3
+    return cube_of(sheets.root_of(sheet))
+
+
+def cube_of(root):
+    """ "the cube of n + 2l, for n nodes and l option marks". Document 02: "The step bound counts
+    each kind 6 node twice." """
+    nodes = preorder(root)
+    twice = sum(node.kind == AT_LEAST for node in nodes)
+    return (len(nodes) + twice + 2 * sum(node.literal is not None for node in nodes)) ** 3
 
 
 def is_settled(sheet, due):

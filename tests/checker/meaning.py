@@ -1,9 +1,13 @@
-"""Meaning: the rules really multiplied out into clauses, then unit propagation."""
-from . import Refused
-from .sheets import read
-from .trees import DISJUNCTION, Literal, fold
+"""Meaning: the rules really multiplied out into clauses, then unit propagation. (Where the clauses
+are too many for that: counting.)"""
+from itertools import combinations
+from math import comb
 
-LIMIT = 50_000  # most unions that one more child of a disjunction may make
+from . import Refused, counting
+from .sheets import read
+from .trees import AT_LEAST, DISJUNCTION, Literal, fold
+
+LIMIT = 50_000  # most unions that one more child may make, and most members in all choices of them
 
 
 class TooManyClauses(Exception):
@@ -19,15 +23,43 @@ def clauses(tree):
     def multiplied_out(node, parts):
         if node.literal:
             return {frozenset((node.literal,))}
-        if node.kind != DISJUNCTION:
-            return set().union(*parts)
-        unions = {frozenset()}
-        for part in parts:
-            if len(unions) * len(part) > LIMIT:
-                raise TooManyClauses
-            unions = {union | clause for union in unions for clause in part}
-        return unions
+        if node.kind == AT_LEAST:
+            return over_choices(node.asked, parts)
+        return unions(parts) if node.kind == DISJUNCTION else set().union(*parts)
     return fold(tree, multiplied_out)
+
+
+def unions(parts):
+    """ "every union that takes one clause from each" part"""
+    made = {frozenset()}
+    for part in parts:
+        if len(made) * len(part) > LIMIT:
+            raise TooManyClauses
+        made = {union | clause for union in made for clause in part}
+    return made
+
+
+def over_choices(asked, parts):
+    """Document 02, of kind 6: "every union of members' clauses over members - k + 1 of them; none
+    if k is 0; the empty clause if k exceeds the members." """
+    members = len(parts)
+    if asked == 0:
+        return set()
+    if asked > members:
+        return {frozenset()}
+    chosen = members - asked + 1
+    if comb(members, chosen) * chosen > LIMIT:
+        raise TooManyClauses
+    return set().union(*map(unions, combinations(parts, chosen)))
+
+
+def is_too_much(tree):
+    """Whether the tree is no toy."""
+    try:
+        clauses(tree)
+    except TooManyClauses:
+        return True
+    return False
 
 
 def facts(all_clauses):
@@ -52,7 +84,10 @@ def contradictory(all_clauses, known):
 
 def meaning(tree):
     """The set of facts, or None when contradictory."""
-    all_clauses = clauses(tree)
+    try:
+        all_clauses = clauses(tree)
+    except TooManyClauses:
+        return counting.meaning(tree)
     known = facts(all_clauses)
     return None if contradictory(all_clauses, known) else known
 

@@ -1,14 +1,16 @@
-"""The fourteen rules, single steps, the house step and runs."""
+"""The seventeen rules, single steps, the house step and runs."""
 from . import Refused
 from .sheets import fill, read
-from .trees import (CONJUNCTION, DISJUNCTION, FALSE, ROOT, TRUE, Tree, conjunction, disjunction,
-                    fold, numbers, preorder)
+from .trees import (AT_LEAST, CONJUNCTION, DISJUNCTION, FALSE, ROOT, TRUE, Tree, at_least,
+                    conjunction, disjunction, fold, numbers, preorder)
 
-# "Node kind and fewest children of each rule stand as one fixed table of 14 rows"
+# "Node kind and fewest children of each rule stand as one fixed table of 14 rows"; document 02:
+# "House order and 01's table go on to 17".
 TABLE = {1: (CONJUNCTION, 2), 2: (DISJUNCTION, 2), 3: (ROOT, 2),
          4: (CONJUNCTION, 1), 5: (DISJUNCTION, 1), 6: (ROOT, 1),
          7: (CONJUNCTION, 1), 8: (DISJUNCTION, 1), 9: (DISJUNCTION, 2), 10: (ROOT, 2),
-         11: (CONJUNCTION, 1), 12: (ROOT, 1), 13: (CONJUNCTION, 1), 14: (DISJUNCTION, 2)}
+         11: (CONJUNCTION, 1), 12: (ROOT, 1), 13: (CONJUNCTION, 1), 14: (DISJUNCTION, 2),
+         15: (AT_LEAST, 1), 16: (AT_LEAST, 0), 17: (AT_LEAST, 0)}
 
 
 def contractum(rule, node, i, j):
@@ -16,7 +18,11 @@ def contractum(rule, node, i, j):
     "An index that a rule has no use for must be 0." """
     kind, fewest = TABLE[rule]
     k = len(node.children)
-    if node.kind != kind or k < fewest or not 0 <= i < k:
+    if node.kind != kind or k < fewest:
+        return None
+    if rule in (16, 17):  # these have no use for a child, and there may be none
+        return ended(rule, node) if i == j == 0 else None
+    if not 0 <= i < k:
         return None
     child = node.children[i]
     if rule in (11, 12):
@@ -37,6 +43,8 @@ def contractum(rule, node, i, j):
         return propagated(node, i, FALSE, TRUE)
     if rule == 10:  # "likewise, but the same mark becomes true, its opposite false"
         return propagated(node, i, TRUE, FALSE)
+    if rule == 15:
+        return without_constant(node, i)
     # 13. "All-of, child i an all-of, all other children marks: child i's children replace it."
     found = child.kind == CONJUNCTION and all(other.literal for other in others(node, i))
     return replaced(node, i, *child.children) if found else None
@@ -48,7 +56,7 @@ def others(node, i):
 
 def replaced(node, i, *new):
     """The node with `new` in the place of child i. "All other order is kept." """
-    return Tree(node.kind, node.children[:i] + new + node.children[i + 1:])
+    return node.with_children(node.children[:i] + new + node.children[i + 1:])
 
 
 def propagated(node, i, same, opposite):
@@ -61,9 +69,9 @@ def propagated(node, i, same, opposite):
         if old.literal:
             return (same if old.literal == literal else
                     opposite if old.literal == literal.opposite() else old)
-        return Tree(old.kind, new_children)
-    return Tree(node.kind, [child if at == i else fold(child, substituted)
-                            for at, child in enumerate(node.children)])
+        return old.with_children(new_children)
+    return node.with_children(child if at == i else fold(child, substituted)
+                              for at, child in enumerate(node.children))
 
 
 def lifted(node, i, j):
@@ -96,16 +104,44 @@ def factored(node, i, j):
     return disjunction(*marks, conjunction(a, disjunction(*rests)))
 
 
+def without_constant(node, i):
+    """15. "removes member i that is true (k less one, not below 0) or false" """
+    member = node.children[i]
+    if not member.is_true() and not member.is_false():
+        return None
+    asked = max(0, node.asked - 1) if member.is_true() else node.asked
+    return at_least(asked, *others(node, i))
+
+
+def ended(rule, node):
+    """16. "turns k = 0 into true and k over the members into false". 17. "turns k = 1 into any-of,
+    else k = members into all-of"."""
+    members = len(node.children)
+    if rule == 16:
+        return TRUE if node.asked == 0 else FALSE if node.asked > members else None
+    if node.asked == 1:
+        return disjunction(*node.children)
+    return conjunction(*node.children) if node.asked == members else None
+
+
+def indices(node):
+    """Each i with each j that can name something below a node; 0 and 0 where nothing is below."""
+    if not node.children:
+        yield 0, 0
+    for i, child in enumerate(node.children):
+        for j in range(max(1, len(child.children))):
+            yield i, j
+
+
 def redexes(root):
     """Every applicable (rule, place, i, j), lowest first."""
     nodes = preorder(root)
     for rule, (kind, fewest) in TABLE.items():
         for place, node in enumerate(nodes):
             if node.kind == kind and len(node.children) >= fewest:
-                for i, child in enumerate(node.children):
-                    for j in range(max(1, len(child.children))):
-                        if contractum(rule, node, i, j) is not None:
-                            yield rule, place, i, j
+                for i, j in indices(node):
+                    if contractum(rule, node, i, j) is not None:
+                        yield rule, place, i, j
 
 
 def applicable(sheet):
@@ -118,18 +154,27 @@ def house_step(sheet):
     return next(redexes(read(sheet)[1]), None)
 
 
-def apply(sheet, rule, place, i, j):
-    """The sheet after. "9 rule not 1 to 14. 10 the step does not apply." "Every node before the
-    place stays." """
-    options, root = read(sheet)
-    if rule not in TABLE:
-        raise Refused(9)
+def rewritten(root, rule, place, i, j):
+    """The node numbers after a step of this rule; None where it does not apply. "A rule rewrites
+    the stretch of the sheet from its place onward ... and every node before the place stays." """
     nodes = preorder(root)
     new = contractum(rule, nodes[place], i, j) if 0 <= place < len(nodes) else None
     if new is None:
-        raise Refused(10)
+        return None
     old, after = numbers(root), place + len(preorder(nodes[place]))
-    return fill(options, old[:place] + numbers(new) + old[after:])
+    return old[:place] + numbers(new) + old[after:]
+
+
+def apply(sheet, rule, place, i, j):
+    """The sheet after. Document 02: "refusal 9 is for rules outside 1 to 17"; document 01: "10 the
+    step does not apply." """
+    options, root = read(sheet)
+    if rule not in TABLE:
+        raise Refused(9)
+    after = rewritten(root, rule, place, i, j)
+    if after is None:
+        raise Refused(10)
+    return fill(options, after)
 
 
 def run(sheet, budget):

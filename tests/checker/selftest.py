@@ -8,7 +8,8 @@ from pathlib import Path
 
 if not __package__:
     sys.path.insert(0, str(Path(__file__).resolve().parent.parent))
-from checker import calls, desk, keying, meaning, rules, selftest_keying, selftest_lists, sheets
+from checker import (calls, desk, keying, meaning, rules, selftest_at_least, selftest_every,
+                     selftest_keying, selftest_lists, sheets)
 from checker.books import build
 from checker.cases import BAD, CASES, CODES, ORDERS, P, Q, STEPS
 from checker.expecting import BLANK, MOST, done, expect, loaded
@@ -25,23 +26,28 @@ def keyed(sheet, option, barred):
 
 
 def books_to_try():
-    for trees, choice, expected, steps, left in CASES:
+    for trees, choices, expected, steps, left in CASES:
         options = len(Tree(ROOT, trees).options)
-        sheet = last = loaded(options, trees)
-        if choice:
+        sheet = loaded(options, trees)
+        for choice in choices:
             refusal, sheet = keyed(sheet, *choice)
             expect(refusal == 0, "a book to try: its choice")
-            last = sheet
-        taken = []
-        while rules.applicable(last):
-            taken.append(min(rules.applicable(last)))
-            last = done(calls.step(last, *taken[-1]))[1]
+        taken, after = [], [sheet]
+        while rules.applicable(after[-1]):
+            taken.append(min(rules.applicable(after[-1])))
+            after.append(done(calls.step(after[-1], *taken[-1]))[1])
         expect(steps in (..., [step[0] for step in taken]), "a book to try: its steps")
-        expect(left is ... or last == loaded(options, left), "a book to try: what is left")
+        expect(left is ... or after[-1] == loaded(options, left), "a book to try: what is left")
         due = (1, [3] * options) if expected is BAD else (0, expected)
-        for at in (sheet, last):
+        for at in (sheet, after[-1]):
             expect(done(calls.report(at, [9] * options)) == due, "a book to try: its report")
-        expect(done(calls.run(sheet, MOST)) == (2 * len(taken) + 1, last), "a book to try: its run")
+        for budget in (*range(len(after) + 1), MOST):
+            count = min(budget, len(taken))
+            expect(done(calls.run(sheet, budget)) == (2 * count + (count == len(taken)),
+                                                      after[count]), "a book to try: its run")
+
+
+def limits_to_try():
     # "Eight zero bytes: a book; the sheet is 0, 1, 20480, zeros."
     empty = done(calls.load(BLANK, bytes(8)))[1]
     expect(empty == [0, 1, 20480] + [0] * 4095, "eight zero bytes")
@@ -68,16 +74,8 @@ def books_to_try():
         nest = any_of(all_of(nest))
     expect(done(calls.report(loaded(1, [nest]), [0])) == (0, [1]), "a deep nest: its report")
     expect(done(calls.run(loaded(1, [nest]), 3))[0] == 6, "a deep nest: a run")
-    expect(is_too_much(any_of(*[all_of(positive(at), negative(at)) for at in range(20)])),
+    expect(meaning.is_too_much(any_of(*[all_of(positive(at), negative(at)) for at in range(20)])),
            "2 ^ 20 clauses")
-
-
-def is_too_much(tree):
-    try:
-        meaning.clauses(tree)
-    except meaning.TooManyClauses:
-        return True
-    return False
 
 
 def single_steps():
@@ -89,7 +87,7 @@ def single_steps():
             for wrong in [(place + more, i, j), (place, i + more, j), (place, i, j + more)]:
                 expect((rule, *wrong) in rules.applicable(sheet)
                        or calls.step(sheet, rule, *wrong) == (10, 0, (sheet,)), (rule, *wrong))
-        for wrong in (0, 15, 65536 + rule):
+        for wrong in (0, 18, 65536 + rule):
             expect(calls.step(sheet, wrong, place, i, j) == (9, 0, (sheet,)), (wrong, place, i, j))
 
 
@@ -116,16 +114,19 @@ def desk_program():
         expect(desk.output(case, stdin) == printed, (stdin, desk.output(case, stdin)))
 
 
-def refusals():
-    good = build([b"P", b"Q"], [P, any_of(P, Q)])
+GOOD = build([b"P", b"Q"], [P, any_of(P, Q)])
 
-    def with_bytes(*changes):
-        data = bytearray(good)
-        for at, value in changes:
-            data[at] = value
-        return bytes(data)
+
+def with_bytes(*changes):
+    data = bytearray(GOOD)
+    for at, value in changes:
+        data[at] = value
+    return bytes(data)
+
+
+def refusals_of_books():
     for due, data in [
-            (1, good[:7]), (1, good[:-1]), (1, good + b"\0"), (2, with_bytes((1, 3))),
+            (1, GOOD[:7]), (1, GOOD[:-1]), (1, GOOD + b"\0"), (2, with_bytes((1, 3))),
             (2, with_bytes((3, 16))), (2, with_bytes((5, 16))), (2, with_bytes((7, 1))[:8]),
             (3, with_bytes((8, 0))), (3, with_bytes((10, 65))), (3, with_bytes((8, 95))),
             (3, with_bytes((21, 80))), (4, with_bytes((34, 1))), (4, with_bytes((36, 0))),
@@ -139,7 +140,10 @@ def refusals():
         expect(calls.lookup(data, b"Z") == (due, 0, ()), (due, data))
     expect(calls.load(BLANK[1:], b"") == (11, 0, (BLANK[1:],)), "a target a number short")
     for code in (b"", b"P\0", b"p", b"P" * 14, b"Z"):
-        expect(calls.lookup(good, code) == (7, 0, ()), code)
+        expect(calls.lookup(GOOD, code) == (7, 0, ()), code)
+
+
+def refusals_of_sheets():
     sheet = loaded(2, [P, any_of(P, Q)])
     changes = [(0, 513), (0, 1), (1, 0), (1, 4), (1, 6), (1, 4097), (2, 20481), (2, 12290),
                (3, 20480), (3, 4098), (4, 16387), (4097, 1)]
@@ -159,29 +163,34 @@ def refusals():
                "a report with room to spare")
     expect(calls.write(sheet, bytes(8), []) == (11, 0, ([],)), "a book of another N")
     expect(calls.write(sheet, b"", []) == (1, 0, ([],)), "no book")
-    short = [9] * (len(good) - 1)
-    expect(calls.write(sheet, good, short) == (12, 0, (short,)), "an output a byte short")
-    expect(done(calls.write(sheet, good, short + [9] * 5)) == (len(good), list(good) + [9] * 4),
+    short = [9] * (len(GOOD) - 1)
+    expect(calls.write(sheet, GOOD, short) == (12, 0, (short,)), "an output a byte short")
+    expect(done(calls.write(sheet, GOOD, short + [9] * 5)) == (len(GOOD), list(GOOD) + [9] * 4),
            "an output with room to spare")
 
 
 def main(books=3000, seed=1):
     start, rng, met = time.time(), random.Random(seed), Counter()
     books_to_try()
+    limits_to_try()
     single_steps()
     desk_program()
-    refusals()
+    refusals_of_books()
+    refusals_of_sheets()
     selftest_keying.all_of_them()
+    selftest_at_least.all_of_them(rng)
+    every = selftest_every.all_of_them(rng)
     for number in range(books):
         sheet = selftest_lists.check_book(rng, met)
         if number % 100 == 0 and sheet[1] < 12:
             selftest_lists.check_listing(sheet)
     expect(all(met[what] for what in selftest_lists.TO_MEET), met)
     steps = [met[rule] for rule in rules.TABLE]
-    print("selftest: %d books and %d orders to try, %d steps, the refusals, and %d random books "
-          "with %d steps (each rule %d times or more), %d keyings and %d withdrawals all held, "
-          "%.0f s" % (len(CASES) + 5, len(ORDERS), len(STEPS), books, sum(steps), min(steps),
-                      met["key", 0], met["withdraw", 0], time.time() - start))
+    print("selftest: %d books and %d orders to try, %d steps, the refusals, %d small sheets with "
+          "every step from them (%d), and %d random books with %d steps (each rule %d "
+          "times or more), %d keyings and %d withdrawals all held, %.0f s" % (
+              len(CASES) + 5, len(ORDERS), len(STEPS), *every, books, sum(steps), min(steps),
+              met["key", 0], met["withdraw", 0], time.time() - start))
 
 
 if __name__ == "__main__":

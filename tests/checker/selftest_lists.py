@@ -5,7 +5,8 @@ from .books import build
 from .cases import CODES
 from .demands import Account, cube, is_settled
 from .expecting import BLANK, MOST, done, expect, loaded
-from .trees import CONJUNCTION, DISJUNCTION, NEGATIVE, POSITIVE, ROOT, Tree, weight
+from .random_trees import random_at_least, random_mark
+from .trees import CONJUNCTION, DISJUNCTION, ROOT, Tree, weight
 
 # What the random lists must have met: each rule, and each answer of a keying and of a withdrawal.
 # (8 needs a sheet that is nearly full: selftest_keying.)
@@ -14,8 +15,11 @@ TO_MEET = [*rules.TABLE, *(("key", due) for due in (0, 7, 11, 14)),
 
 
 def random_tree(rng, options, depth):
-    if depth == 0 or rng.random() < 0.4:
-        return Tree(rng.choice((POSITIVE, NEGATIVE)), option=rng.randrange(options))
+    way = rng.random()
+    if depth == 0 or way < 0.4:
+        return random_mark(rng, options)
+    if way < 0.49:
+        return random_at_least(rng, options)
     children = rng.choice((0, 1, 1, 2, 2, 2, 2, 3, 3))
     return Tree(rng.choice((CONJUNCTION, DISJUNCTION)),
                 [random_tree(rng, options, depth - 1) for _ in range(children)])
@@ -138,7 +142,7 @@ def check_book(rng, met):
 
 def check_listing(sheet):
     """The steps listed as applicable are those that are accepted, of all tried."""
-    tried = [(rule, place, i, j) for rule in range(16) for place in range(sheet[1] + 1)
-             for i in range(5) for j in range(5)]
+    tried = [(rule, place, i, j) for rule in range(19) for place in range(sheet[1] + 1)
+             for i in range(7) for j in range(5)]
     expect([step for step in tried if calls.step(sheet, *step)[0] == 0] == rules.applicable(sheet),
            "other steps are accepted than are listed")

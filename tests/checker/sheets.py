@@ -18,8 +18,13 @@ def root_of(sheet):
         return None
     if sheet[2 + used:].count(0) != LENGTH - 2 - used:
         return None
-    kind, count = divmod(sheet[2], 4096)
-    rules = forest(sheet[3:2 + used], options)
+    return root_in(sheet[2:2 + used], options)
+
+
+def root_in(nodes, options):
+    """The root that a sheet's used nodes, one or more, spell; None where they spell none."""
+    kind, count = divmod(nodes[0], 4096)
+    rules = forest(nodes[1:], options)
     if kind != ROOT or rules is None or len(rules) != count:
         return None
     root = Tree(ROOT, rules)

@@ -2,11 +2,11 @@
 
 "A node is one number: kind x 4,096 + value. Kind 1 is an option (value its number, 0 to N - 1),
 2 the same option barred, 3 all-of and 4 any-of (value the number of children, 0 to 4,095), 5 the
-root."
+root." Document 02: "A new node kind 6 has value members x 64 + k, both 0 to 63".
 """
 from typing import NamedTuple
 
-POSITIVE, NEGATIVE, CONJUNCTION, DISJUNCTION, ROOT = 1, 2, 3, 4, 5
+POSITIVE, NEGATIVE, CONJUNCTION, DISJUNCTION, ROOT, AT_LEAST = 1, 2, 3, 4, 5, 6
 
 
 class Literal(NamedTuple):
@@ -19,11 +19,12 @@ class Literal(NamedTuple):
 
 class Tree:
     """A node with its children, never changed once made."""
-    __slots__ = ("kind", "children", "literal", "options")
+    __slots__ = ("kind", "children", "literal", "options", "asked")
 
-    def __init__(self, kind, children=(), option=None):
+    def __init__(self, kind, children=(), option=None, asked=None):
         self.kind = kind
         self.children = tuple(children)
+        self.asked = asked  # kind 6: k, of so many members at least
         # "Kinds 1 and 2 are marks."
         self.literal = None if option is None else Literal(option, kind == POSITIVE)
         # every option that occurs in the tree, at any depth
@@ -37,8 +38,15 @@ class Tree:
     def is_false(self):
         return self.kind == DISJUNCTION and not self.children
 
+    def with_children(self, children):
+        """The same node with other children; of an at-least, k stays."""
+        return Tree(self.kind, children, asked=self.asked)
+
     def number(self):
-        return self.kind * 4096 + (self.literal.option if self.literal else len(self.children))
+        count = len(self.children)
+        value = (self.literal.option if self.literal else
+                 64 * count + self.asked if self.kind == AT_LEAST else count)
+        return self.kind * 4096 + value
 
 
 def positive(option):
@@ -57,7 +65,19 @@ def disjunction(*children):
     return Tree(DISJUNCTION, children)
 
 
+def at_least(asked, *members):
+    return Tree(AT_LEAST, members, asked=asked)
+
+
 TRUE, FALSE = conjunction(), disjunction()
+
+
+def are_members(trees):
+    """ "in book and sheet alike its members are true, false, or marks, the marks of distinct
+    options" """
+    named = [tree.literal.option for tree in trees if tree.literal]
+    return (len(set(named)) == len(named)
+            and all(tree.literal or tree.is_true() or tree.is_false() for tree in trees))
 
 
 def preorder(tree):
@@ -96,8 +116,12 @@ def forest(nodes, options):
         kind, value = divmod(number, 4096)
         if kind in (POSITIVE, NEGATIVE) and value < options:
             right.append(Tree(kind, option=value))
-        elif kind in (CONJUNCTION, DISJUNCTION) and value <= len(right):
-            right.append(Tree(kind, [right.pop() for _ in range(value)]))
-        else:
+            continue
+        count, asked = divmod(value, 64) if kind == AT_LEAST else (value, None)
+        if kind not in (CONJUNCTION, DISJUNCTION, AT_LEAST) or count > len(right):
             return None
+        children = [right.pop() for _ in range(count)]
+        if kind == AT_LEAST and not are_members(children):
+            return None
+        right.append(Tree(kind, children, asked=asked))
     return right[::-1]

@@ -32,14 +32,24 @@ def crate_cases():
         yield "document 01's book, choices %r" % choices, book, choices
 
 
-def sample_cases():
-    """The sample book of examples/, which is the one that its text describes."""
-    book = (EXAMPLES / "book.bin").read_bytes()
+def sample_book(name, text):
+    """A book of examples/, which must be the one that its text describes."""
+    book = (EXAMPLES / name).read_bytes()
     with tempfile.TemporaryDirectory() as folder:
         made = Path(folder) / "book.bin"
-        subprocess.run([sys.executable, str(TOP / "tools/book"), "make", str(EXAMPLES / "meter.txt"), str(made)], check=True)
+        subprocess.run([sys.executable, str(TOP / "tools/book"), "make", str(EXAMPLES / text), str(made)], check=True)
         if made.read_bytes() != book:
-            raise SystemExit("examples/book.bin is not the book of examples/meter.txt")
+            raise SystemExit("examples/%s is not the book of examples/%s" % (name, text))
+    return book
+
+
+def sample_cases():
+    """The sample books of examples/: the meter, and the seals, whose rules count."""
+    book, seals = sample_book("book.bin", "meter.txt"), sample_book("seals/book.bin", "seals/seals.txt")
+    yield "seals, no choices", seals, b""
+    yield "seals, their choices", seals, (EXAMPLES / "seals/choices.txt").read_bytes()
+    yield "seals, three of them", seals, b"+LID-STEEL\n+FOR-BILLING\n"
+    yield "seals, choices that clash", seals, b"+LID-STEEL\n+FOR-BILLING\n-SEAL-WIRE\n"
     yield "sample book, no choices", book, b""
     yield "sample book, its choices", book, (EXAMPLES / "choices.txt").read_bytes()
     yield "sample book, choices that clash", book, b"+LID-STEEL\n+BAND-868\n"

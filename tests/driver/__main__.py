@@ -9,13 +9,16 @@ import time
 from collections import Counter
 from pathlib import Path
 
-from . import Difference, cases, desks, lists, orders, refusals, refused_orders, theories
+from . import (Difference, at_least, cases, desks, lists, orders, refusals, refused_orders,
+               theories, wide)
 from .comparing import CAN_REFUSE, SAYS, Comparing
 from .library import Library
 
 TOP = Path(__file__).resolve().parent.parent.parent
 DESK = TOP / "target/bin/desk"
 LISTS, ORDERS, THEORIES, DESKS = 20_000, 300, 150, 2_000
+ALL = (*cases.ALL, *refusals.ALL, *refused_orders.ALL, *at_least.ALL, *wide.ALL)
+RANDOM = (*refusals.RANDOM, *refused_orders.RANDOM, *at_least.RANDOM, *wide.RANDOM)
 
 
 def numbered(seed, what, count, work, share=(0, 1)):
@@ -31,9 +34,9 @@ def numbered(seed, what, count, work, share=(0, 1)):
 
 def once(comparing, desk):
     """What is compared once, each part as a function of nothing."""
-    for part in (*cases.ALL, *refusals.ALL, *refused_orders.ALL):
+    for part in ALL:
         yield lambda part=part: part(comparing)
-    for part in (*refusals.RANDOM, *refused_orders.RANDOM):
+    for part in RANDOM:
         yield lambda part=part: part(comparing, random.Random(1))
     if desk:
         yield lambda: desks.long_orders(comparing, desk)
@@ -88,7 +91,7 @@ def soak(comparing, desk, seconds):
     print("soak: seed %d" % seed, flush=True)
     while time.time() < end:
         part = "%d.%d" % (seed, rounds)
-        for work in (*refusals.RANDOM, *refused_orders.RANDOM):
+        for work in RANDOM:
             work(comparing, random.Random(part))
         numbered(part, "list", 2000, lambda rng: lists.one_list(comparing, rng))
         numbered(part, "order", 50, lambda rng: orders.one_order(comparing, rng))
@@ -104,7 +107,9 @@ def due_counts(desk):
     least = {"lists": LISTS, "orders": ORDERS, "theories": THEORIES,
              "theories whose clauses fit": THEORIES // 2, "complete sheets with options": 1}
     least.update({"roomier reports, " + said: LISTS // 10 for said in SAYS["report"]})
-    least.update({"rule %d" % rule: 1 for rule in range(1, 15)})
+    least.update({"rule %d" % rule: 1 for rule in range(1, 18)})
+    least.update({lists.SETTLED_AT_LEASTS: LISTS // 400, wide.TOO_MANY: 1})
+    least.update({kind: 1 for kind in wide.FULL})
     least.update({kind: LISTS // 1000 for kind in lists.WITHDRAWALS})
     # Every answer of every call. (A code that is found is a lookup accepted, one that is not is 7.)
     least.update({(call, number): 1 for call in CAN_REFUSE for number in [0] + CAN_REFUSE[call]})

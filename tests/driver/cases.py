@@ -29,11 +29,11 @@ def report(comparing, sheet):
 
 
 def books_to_try(comparing):
-    for trees, choice, expected, steps, left in CASES:
+    for trees, choices, expected, steps, left in CASES:
         options = len(Tree(ROOT, trees).options)
-        sheet = loaded(comparing, options, trees)
-        if choice:
-            comparing.done("key", sheet, *lent_lines(), *choice)
+        sheet, lines = loaded(comparing, options, trees), lent_lines()
+        for choice in choices:
+            comparing.done("key", sheet, *lines, *choice)
         start, taken, after = list(sheet.values), [], [list(sheet.values)]
         due = (1, [3] * options) if expected is BAD else (0, expected)
         expect(report(comparing, sheet) == due, "a book to try: its report")

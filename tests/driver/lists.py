@@ -3,8 +3,8 @@ lines, a report after each call, and the three parts of demand 3 on each list.""
 from checker import books, rules
 from checker.books import build
 from checker.demands import Account, cube, is_settled
-from checker.sheets import LENGTH
-from checker.trees import Literal
+from checker.sheets import LENGTH, root_of
+from checker.trees import AT_LEAST, Literal, preorder
 
 from . import Difference, expect
 from .library import Lent, sheet as lent_sheet
@@ -23,6 +23,8 @@ NONE_LEFT = "withdrawals that leave no line"
 NOW_CHOICES = "withdrawals by which first lines become choices"
 WITHDRAWALS = (FROM_STOPPED, OTHER_RULES, NONE_LEFT, NOW_CHOICES)
 
+SETTLED_AT_LEASTS = "settled sheets with at-leasts"
+
 
 def random_step(rng, sheet):
     """An applicable step, of any of the rules that apply; or one a little beside it; or any."""
@@ -35,7 +37,7 @@ def random_step(rng, sheet):
         field = rng.randrange(4)
         moved = (step[field] + rng.choice((1, -1, 2, *WIDE))) % 2 ** 64
         return (*step[:field], moved, *step[field + 1:])
-    return (rng.choice((*range(16), *WIDE)), rng.choice((rng.randrange(sheet[1] + 2), *WIDE)),
+    return (rng.choice((*range(19), *WIDE)), rng.choice((rng.randrange(sheet[1] + 2), *WIDE)),
             rng.randrange(4), rng.randrange(4))
 
 
@@ -109,6 +111,8 @@ class Order:
         self.stopped = not settled
         if settled:
             expect(is_settled(self.sheet.values, self.due), "settled, but not as demand 3 says")
+            kinds = {node.kind for node in preorder(root_of(self.sheet.values))}
+            self.comparing.seen[SETTLED_AT_LEASTS] += AT_LEAST in kinds
 
     def report(self, room):
         """ "the sheet reports what the loaded rules with all accepted choices mean", into an output

@@ -1,13 +1,10 @@
-"""Small random books: nested, with constants, duplicates, and marks beside their opposites."""
+"""Small random books: nested, with constants, duplicates, marks beside their opposites, and
+at-leasts."""
 from checker.books import build
-from checker.trees import (CONJUNCTION, DISJUNCTION, NEGATIVE, POSITIVE, Tree, conjunction,
-                           disjunction)
+from checker.random_trees import random_at_least, random_mark
+from checker.trees import CONJUNCTION, DISJUNCTION, Tree, conjunction, disjunction
 
 CODES = [b"P", b"Q", b"R", b"S"]
-
-
-def random_mark(rng, options):
-    return Tree(rng.choice((POSITIVE, NEGATIVE)), option=rng.randrange(options))
 
 
 def random_tree(rng, options, depth):
@@ -17,6 +14,8 @@ def random_tree(rng, options, depth):
         return rng.choice((conjunction(), disjunction()))
     if options and rng.random() < 0.07:
         return factorable(rng, options, depth)
+    if rng.random() < 0.15:
+        return random_at_least(rng, options)
     children = [random_tree(rng, options, depth - 1)
                 for _ in range(rng.choice((0, 1, 1, 2, 2, 2, 2, 3, 3)))]
     return Tree(rng.choice((CONJUNCTION, DISJUNCTION)), children)

@@ -6,12 +6,13 @@ from checker.books import build
 from checker.calls import load
 from checker.cases import NOT_P, NOT_Q, P, Q
 from checker.sheets import LENGTH
-from checker.trees import TRUE, conjunction as all_of, disjunction as any_of, positive
+from checker.trees import TRUE, at_least, conjunction as all_of, disjunction as any_of, positive
 
 from .library import Lent, sheet as lent_sheet
 from .lines import lent_lines
 
-BOOK = build([b"P", b"Q-7"], [P, any_of(P, all_of(NOT_P, Q)), all_of(Q, TRUE)])
+BOOK = build([b"P", b"Q-7"], [P, any_of(P, all_of(NOT_P, Q)), at_least(2, NOT_Q, TRUE, P),
+                              all_of(Q, TRUE)])
 OTHER_BOOK = build([b"P"], [P])  # another number of options
 BLANK = [7] * LENGTH
 SHEET = load(BLANK, BOOK)[2][0]
@@ -35,7 +36,8 @@ def on_sheet(comparing, values):
     options = min(values[0], 600) if values else 0
     for option, barred in ((0, False), (1, True), (options, False), (65535, True)):
         comparing.call("key", lent_sheet(values), *lent_lines(LINES), option, barred)
-    for step in ((10, 0, 0, 0), (4, 6, 1, 0), (0, 0, 0, 0), (15, 0, 0, 0), (9, 9, 9, 9)):
+    for step in ((10, 0, 0, 0), (4, 11, 1, 0), (15, 7, 1, 0), (0, 0, 0, 0), (18, 0, 0, 0),
+                 (9, 9, 9, 9)):
         comparing.call("step", lent_sheet(values), *step)
     for budget in (0, 1, 2 ** 64 - 1):
         comparing.call("run", lent_sheet(values), budget)
@@ -67,7 +69,8 @@ def damaged_sheets(comparing, rng, pairs=60):
     for at in fields:
         old = SHEET[at]
         kinds = {kind * 4096 + old % 4096 for kind in range(16)}
-        near = {0, 1, 2, old + 1, abs(old - 1), 512, 513, 4095, 4096, 4097, 65535}
+        near = {0, 1, 2, old + 1, abs(old - 1), old + 64, abs(old - 64), 512, 513, 4095, 4096, 4097,
+                65535}
         for value in kinds | near:
             on_sheet(comparing, SHEET[:at] + [value] + SHEET[at + 1:])
     for length in (0, 1, 2, 3, 2 + SHEET[1], LENGTH - 1, LENGTH + 1):

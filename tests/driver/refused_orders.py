@@ -4,9 +4,9 @@ answered in the order that documents 01 and 02 give. What is due is the checker'
 nothing lent was written is compared with every call."""
 from checker.books import build
 from checker.calls import load
-from checker.cases import P, Q
+from checker.cases import NOT_P, P, Q
 from checker.keying import SLOTS
-from checker.trees import TRUE, disjunction as any_of
+from checker.trees import TRUE, at_least, disjunction as any_of
 
 from .library import Count, Lent, Lines, sheet as lent_sheet
 from .lines import SPARE, any_slots, lent_lines
@@ -28,6 +28,7 @@ BAD_BOOKS = [b"", BOOK[:7], BOOK[:-1], BOOK + b"\0", changed(BOOK, 6, 1), change
              build([b"P", b"P"], [P]), build([b"P", b"P", b"Q"], [P]),
              changed(BOOK, 8 + 2 * 13, 1), changed(OTHER_BOOK, 8 + 13, 1),
              changed(BOOK, len(BOOK) - 1, 0x50), build([b"P"], [Q]),
+             build([b"P", b"Q"], [at_least(1, P, NOT_P)]),
              build([b"P", b"Q"], [TRUE, TRUE, any_of(*[P] * 2047)]),
              build([b"P"], [any_of(*[P] * 2048)])]
 

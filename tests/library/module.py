@@ -12,7 +12,7 @@ from checker.books import build
 from checker.cases import CASES, CODES, NOT_P, ORDERS, P, Q
 from checker.keying import SLOTS
 from checker.sheets import LENGTH
-from checker.trees import TRUE, conjunction as all_of, disjunction as any_of
+from checker.trees import TRUE, at_least, conjunction as all_of, disjunction as any_of
 from driver.comparing import CAN_REFUSE
 from driver.making import random_book
 from library.lending import SPARE, Count, Lent, Lines, lend, slots
@@ -25,14 +25,17 @@ MOST = 2 ** 64 - 1
 RANDOM_BOOKS = 150
 SECONDS = 2
 
-BOOK = build([b"P", b"Q-7"], [P, any_of(P, all_of(NOT_P, Q)), all_of(Q, TRUE)])
+BOOK = build([b"P", b"Q-7"], [P, any_of(P, all_of(NOT_P, Q)), at_least(2, NOT_P, TRUE, Q),
+                              all_of(Q, TRUE)])
 OTHER_BOOK = build([b"P"], [P])  # another number of options
 FULL_BOOK = build([b"P"], [any_of(*[P] * 2047)])
 BLANK = [7] * LENGTH
 SHEET = calls.load(BLANK, BOOK)[2][0]
 FULL_SHEET = calls.load(BLANK, FULL_BOOK)[2][0]
+AT = SHEET.index(at_least(2, NOT_P, TRUE, Q).number())  # where the at-least stands
 NO_SHEETS = [SHEET[:-1], SHEET + [0], [], [513] + SHEET[1:], SHEET[:-1] + [1],
-             SHEET[:2] + [SHEET[2] + 1] + SHEET[3:]]
+             SHEET[:2] + [SHEET[2] + 1] + SHEET[3:],
+             SHEET[:AT + 1] + [Q.number()] + SHEET[AT + 2:]]  # a member's option a second time
 LINES = [(1, True), (0, False)]
 SYMBOLS = {"check": "nd_book_check", "lookup": "nd_code_lookup"}
 
@@ -58,6 +61,7 @@ BAD_BOOKS = [
     (3, build([b"P", b"P"], [P])),
     (4, changed(BOOK, 8 + 2 * 13, 1)), (4, changed(BOOK, 8 + 2 * 13 + 2, 0)),
     (5, changed(BOOK, len(BOOK) - 1, 0x50)), (5, build([b"P"], [Q])),
+    (5, build([b"P"], [at_least(1, P, NOT_P)])), (5, build([b"P"], [at_least(1, any_of(P))])),
     (6, build([b"P"], [any_of(*[P] * 2048)]))]
 
 
@@ -108,10 +112,10 @@ def sheet_refusals():
     yield "write", 12, (SHEET, BOOK, bytes(len(BOOK) - 1))
     for length in (0, 1):
         yield "report", 12, (SHEET, bytes(length))
-    for rule in (0, 15, 2 ** 64 + 10, -1):
+    for rule in (0, 18, 2 ** 64 + 10, -1):
         yield "step", 9, (SHEET, rule, 99, 99, 99)
     for step in ((9, 0, 0, 0), (10, 0, 0, 1), (10, 2 ** 64, 0, 0), (10, 0, 2 ** 64, 0),
-                 (10, 0, 0, -1)):
+                 (10, 0, 0, -1), (15, AT - 2, 0, 0), (16, AT - 2, 0, 0), (17, AT - 2, 0, 0)):
         yield "step", 10, (SHEET, *step)
 
 
@@ -206,7 +210,8 @@ def check_refused_orders():
             (13, order, order.withdraw, (2 ** 64,)), (13, full, full.withdraw, (0,)),
             (11, order, order.withdraw, (0, Book(OTHER_BOOK))),
             (8, long, long.withdraw, (0, Book(build([b"P", b"Q"], [any_of(*[P] * 2047)])))),
-            (9, order, order.step, (15, 0)), (10, order, order.step, (9, 0))]:
+            (9, order, order.step, (18, 0)), (10, order, order.step, (17, 0)),
+            (10, order, order.step, (9, 0))]:
         before = held.numbers.tobytes(), held.lines, held.book
         expect(number_of(work, *arguments) == number, "Order: refusal %d is due" % number)
         expect((held.numbers.tobytes(), held.lines, held.book) == before,
@@ -223,9 +228,11 @@ def check_kept_orders():
         expect(number_of(Order.from_numbers, Book(BOOK), SHEET, lines) == 11, "Order: bad lines")
     kept = Order.from_numbers(Book(BOOK), SHEET, LINES)
     expect(kept.lines == tuple(LINES) and kept.numbers.tolist() == SHEET, "Order: kept elsewhere")
-    kept.step(10, 0, 0)
-    due = calls.step(SHEET, 10, 0, 0, 0)[2][0]
-    expect(kept.numbers.tolist() == due, "Order: a step")
+    due = SHEET
+    for step in ((10, 0, 0, 0), (15, AT - 2, 0, 0), (15, AT - 2, 0, 0), (17, AT - 2, 0, 0)):
+        kept.step(*step)
+        due = calls.step(due, *step)[2][0]
+        expect(kept.numbers.tolist() == due, "Order: a step of rule %d" % step[0])
 
 
 def check_orders():
@@ -317,10 +324,10 @@ def compare_sheets(order, due, options, budget):
 
 
 def check_reports(rng):
-    """Document 01's cases, and small random books."""
-    for rules, choice, *_ in CASES:
+    """The papers' cases, and small random books."""
+    for rules, choices, *_ in CASES:
         options = 1 + max((max(rule.options, default=-1) for rule in rules), default=-1)
-        compare(build(CODES[:options], rules), options, [choice] if choice else [], MOST)
+        compare(build(CODES[:options], rules), options, choices, MOST)
     for _ in range(RANDOM_BOOKS):
         data, options, _ = random_book(rng)
         keyed = [(rng.randrange(options), rng.random() < 0.5)

@@ -20,7 +20,7 @@
 #define STACK_SIZE (128 * 1024)
 #define PATTERN 0xA5
 #define MARGIN 4096
-#define RULES 14
+#define RULES 17
 
 /* A line is four bytes, as the library lays it out. */
 typedef char line_is_four_bytes[sizeof(struct nd_line) == 4 ? 1 : -1];
@@ -287,6 +287,24 @@ static void constants(void)
     end_rule(3000);
 }
 
+/* As many at-leasts of 63 members as fit: one has a true member, one asks for none and one for one
+ * of them, the others for 32 (rules 15, 16 and 17). */
+static void at_leasts(void)
+{
+    for (size_t at = 0; at < 32; at++) {
+        static const size_t asked[] = {32, 0, 1};
+        size_t first = making.nodes;
+
+        add(6, 63 * 64 + (at < 3 ? asked[at] : 32));
+        for (size_t member = 0; member < 63; member++)
+            if (at == 0 && member == 0)
+                add(3, 0);
+            else
+                add(1 + member % 2, (63 * at + member) % 512);
+        end_rule(first);
+    }
+}
+
 /* The books, and the steps that are made on each as it was loaded: rule, place, i, j. */
 static const struct {
     void (*make)(void);
@@ -299,7 +317,8 @@ static const struct {
     {lifts, {{11, 1, 0, 1}, {13, 2, 0, 0}}},
     {chain, {{10, 0, 0, 0}}},
     {chain_inside, {{12, 0, 0, 0}}},
-    {constants, {{1, 1, 0, 0}, {2, 4, 0, 0}, {5, 8, 0, 0}, {4, 11, 0, 0}, {3, 0, 1000, 0}}}
+    {constants, {{1, 1, 0, 0}, {2, 4, 0, 0}, {5, 8, 0, 0}, {4, 11, 0, 0}, {3, 0, 1000, 0}}},
+    {at_leasts, {{15, 1, 0, 0}, {16, 65, 0, 0}, {17, 129, 0, 0}}}
 };
 
 static void measure_step(const uint64_t *which)

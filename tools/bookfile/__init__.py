@@ -1,4 +1,4 @@
-"""Option books as an engineer keeps them: a text in a small notation, the book file of document 01, and the way between both.
+"""Option books as an engineer keeps them: a text in a small notation, the book file of documents 01 and 02, and the way between both.
 
 books: the book file's limits and bytes. checking: the refusals 1 to 6, in words. words: a text cut into words. grammar: words to
 formulas. spelling: formulas to nodes. notation: a whole text to a book. showing: a book to a text. comparing: two books. drawing: a

@@ -1,11 +1,12 @@
-"""The book file of document 01: its limits, its nodes, and a book as bytes."""
+"""The book file of documents 01 and 02: its limits, its nodes, and a book as bytes."""
 from typing import NamedTuple
 
 MOST_OPTIONS, MOST_RULES, MOST_NODES, MOST_WEIGHT = 512, 4095, 4095, 4096
 HEAD_BYTES, CODE_BYTES, PAIR_BYTES, NODE_BYTES = 8, 13, 4, 2
 
-PLAIN, BARRED, ALL_OF, ANY_OF = 1, 2, 3, 4
-MARKS, GROUPS = (PLAIN, BARRED), (ALL_OF, ANY_OF)
+PLAIN, BARRED, ALL_OF, ANY_OF, AT_LEAST = 1, 2, 3, 4, 6  # 5 is the root of a sheet
+MARKS, GROUPS = (PLAIN, BARRED), (ALL_OF, ANY_OF, AT_LEAST)
+MOST_MEMBERS = 63  # of an at-least, and the most that it can ask for
 CODE_CHARACTERS = frozenset("ABCDEFGHIJKLMNOPQRSTUVWXYZabcdefghijklmnopqrstuvwxyz0123456789-")
 
 
@@ -21,6 +22,27 @@ def node(kind, value):
 def taken_apart(number):
     """(kind, value) of a node."""
     return divmod(number, 4096)
+
+
+TRUE, FALSE = node(ALL_OF, 0), node(ANY_OF, 0)
+
+
+def at_least(asked, members):
+    """The node of an at-least: so many of so many members."""
+    return node(AT_LEAST, members * (MOST_MEMBERS + 1) + asked)
+
+
+def asked_of(number):
+    """How many of its members an at-least asks for."""
+    return taken_apart(number)[1] % (MOST_MEMBERS + 1)
+
+
+def children_of(number):
+    """How many children a node has."""
+    kind, value = taken_apart(number)
+    if kind in MARKS:
+        return 0
+    return value // (MOST_MEMBERS + 1) if kind == AT_LEAST else value
 
 
 def count_nodes(book):
@@ -63,14 +85,12 @@ def numbers_in(data):
 
 def parents(body):
     """For each node of a body the index of the group that it hangs from, -1 for the topmost."""
-    above, waiting = [], []  # waiting: groups that lack children, as [index, how many]; the innermost last
+    above, waiting = [], []  # waiting: nodes with the children that they lack, as [index, how many]; the innermost last
     for index, number in enumerate(body):
         while waiting and waiting[-1][1] == 0:
             waiting.pop()
         above.append(waiting[-1][0] if waiting else -1)
         if waiting:
             waiting[-1][1] -= 1
-        kind, value = taken_apart(number)
-        if kind in GROUPS:
-            waiting.append([index, value])
+        waiting.append([index, children_of(number)])
     return above

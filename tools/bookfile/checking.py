@@ -1,11 +1,11 @@
-"""The check of a book: the refusals 1 to 6 of document 01, in its order, each with words that say what is wrong and where.
+"""The check of a book: the refusals 1 to 6 of documents 01 and 02, in order, each with words that say what is wrong and where.
 
 Bytes, options, rules and nodes are counted from 0, as document 01 counts them.
 """
 from . import Mistake, books
-from .books import ALL_OF, ANY_OF, BARRED, CODE_BYTES, CODE_CHARACTERS, HEAD_BYTES, MARKS, NODE_BYTES, PAIR_BYTES, PLAIN
+from .books import AT_LEAST, CODE_BYTES, CODE_CHARACTERS, FALSE, GROUPS, HEAD_BYTES, MARKS, NODE_BYTES, PAIR_BYTES, TRUE
 
-KINDS = (PLAIN, BARRED, ALL_OF, ANY_OF)
+KINDS = MARKS + GROUPS
 
 
 class Refused(Mistake):
@@ -116,13 +116,32 @@ def check_body(body, rule, start, options):
         if due == 0:
             raise Refused(5, where + " stands after the end of the rule's tree")
         if kind not in KINDS:
-            raise Refused(5, where + " is of kind %d; a rule has kinds 1 to 4 alone" % kind)
+            raise Refused(5, where + " is of kind %d; a rule has kinds 1 to 4 and 6 alone" % kind)
         if kind in MARKS and value >= options:
             raise Refused(5, where + " names option %d; the book has %s, counted from 0" % (value, counted(options, "option")))
-        due += -1 if kind in MARKS else value - 1
+        due += books.children_of(number) - 1
     if due > 0:
         raise Refused(5, "byte %d: rule %d ends here with %s missing" % (
             start + NODE_BYTES * len(body), rule, counted(due, "child", "children")))
+    for place, number in enumerate(body):
+        if books.taken_apart(number)[0] == AT_LEAST:
+            check_members(body, place, rule, start)
+
+
+def check_members(body, place, rule, start):
+    """What an at-least counts: marks of different options, true and false. Each is one node, so they stand right behind it."""
+    named = {}
+    for member in range(place + 1, place + 1 + books.children_of(body[place])):
+        where = "byte %d: node %d of rule %d" % (start + NODE_BYTES * member, member, rule)
+        if body[member] in (TRUE, FALSE):
+            continue
+        kind, value = books.taken_apart(body[member])
+        if kind not in MARKS:
+            raise Refused(5, where + " hangs from the at-least at node %d, which takes marks, true and false alone" % place)
+        if value in named:
+            raise Refused(5, where + " names option %d again in the at-least at node %d; node %d does already" % (
+                value, place, named[value]))
+        named[value] = member
 
 
 def counted(number, one, many=None):

@@ -21,6 +21,9 @@ the notation:
   A <-> B                   all(any(not A, B), any(A, not B))
   at_most_one(A, B, ..)     all(..) of any(not X, not Y) for each pair
   one_of(A, B, ..)          all(any(A, B, ..), and the same pairs)
+  at_least(k, A, B, ..)     k of the parts hold, or more
+  exactly(k, A, B, ..)      all(at_least(k, A, B, ..), at_least(m - k, not A, not B, ..))
+                            for m parts; 0 in place of m - k where k is over m
   true, false               all(), any()
   ( .. )                    holds a formula together, makes no node
 
@@ -30,9 +33,12 @@ the notation:
   parentheses. A code that is a word of the notation (all, any, not, true, false,
   option, rule) is written in quotes: "all". Any code may be.
 
-  A book has no room for comments, nor for ->, <->, one_of, at_most_one or a `not`
-  before a group: `show` writes the rules spelled out and without comments. So keep
-  the text; it is the source.
+  at_least and exactly begin with a number, 0 to 63. Then come at most 63 parts, each
+  an option, true or false, with or without `not`; no option stands there twice.
+
+  A book has no room for comments, nor for ->, <->, one_of, at_most_one, exactly or a
+  `not` before a group: `show` writes the rules spelled out and without comments. So
+  keep the text; it is the source.
 
 Options, rules, nodes and bytes are counted from 0, as document 01 counts them.
 Exit status: 0 done (of diff, whether or not there is a difference), 1 refused or not

@@ -6,7 +6,7 @@ from bisect import bisect_left
 from typing import NamedTuple
 
 from . import books
-from .books import GROUPS
+from .books import MARKS
 from .checking import counted
 from .showing import code_text, rule_text
 
@@ -60,7 +60,8 @@ def in_any_order(body, codes, names):
     right = []  # the names of the trees to the right, the nearest last
     for number in reversed(body):
         kind, value = books.taken_apart(number)
-        key = (kind, tuple(sorted(right.pop() for _ in range(value)))) if kind in GROUPS else (kind, codes[value])
+        # a group's number says its kind, how many children it has and, of an at-least, how many it asks for
+        key = (kind, codes[value]) if kind in MARKS else (number, tuple(sorted(right.pop() for _ in range(books.children_of(number)))))
         right.append(names.setdefault(key, len(names)))
     return right.pop()
 

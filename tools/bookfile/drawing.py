@@ -1,9 +1,9 @@
 """A book as a picture (SVG): each rule as a tree, its top at the left, the marks one below another as the rule names them."""
 from . import books
-from .books import ALL_OF, BARRED, GROUPS
+from .books import ALL_OF, AT_LEAST, BARRED, MARKS
 
 ROW, COLUMN, MARGIN, TITLE = 26, 96, 20, 34  # sizes in pixels
-BOX_HEIGHT, LETTER, PADDING = 20, 7.8, 8
+BOX_HEIGHT, LETTER, PADDING, GAP = 20, 7.8, 8, 33
 STYLE = """<style>
 text { font: 13px monospace; fill: #222; }
 .title { font-weight: bold; }
@@ -11,6 +11,7 @@ path { fill: none; stroke: #888; }
 rect { stroke: #555; }
 .all { fill: #dbe9f6; }
 .any { fill: #fdeccc; }
+.least { fill: #eadff5; }
 .plain { fill: #e4f2e0; }
 .barred { fill: #f8dcdc; stroke-dasharray: 4 2; }
 </style>"""
@@ -35,54 +36,61 @@ def picture(book):
 def tree(body, codes, top):
     """(the pieces of a rule's tree, its right edge, its lower edge)"""
     above = books.parents(body)
-    columns, rows, count = places(body, above)
-    pieces, right = [], 0
+    faces = [face(number, codes) for number in body]
+    widths = [len(label) * LETTER + 2 * PADDING for label, _ in faces]
+    lefts, (rows, count) = columns(above, widths), places(above)
+    middles = [top + ROW * row for row in rows]
+    pieces = []
     for index, parent in enumerate(above):
         if parent >= 0:
-            pieces.append(line(columns[parent], rows[parent], columns[index], rows[index], top))
-    for index, number in enumerate(body):
-        label, look = face(number, codes)
-        left, middle = MARGIN + COLUMN * columns[index], top + ROW * rows[index]
-        width = len(label) * LETTER + 2 * PADDING
+            pieces.append(line(lefts[parent] + round(widths[parent]) - GAP, middles[parent], lefts[index], middles[index]))
+    for (label, look), left, width, middle in zip(faces, lefts, widths, middles):
         pieces.append('<rect class="%s" x="%d" y="%.1f" width="%.1f" height="%d" rx="%d"/>' % (
             look, left, middle - BOX_HEIGHT / 2, width, BOX_HEIGHT, 10 if look == "any" else 2))
         pieces.append(text(left + PADDING, middle + 4.5, label))
-        right = max(right, left + width)
-    return pieces, right, top + ROW * count
+    return pieces, max(map(sum, zip(lefts, widths))), top + ROW * count
 
 
-def places(body, above):
-    """(columns, rows, number of rows): a node without children has a row of its own, any other stands midway between its outer children."""
-    columns, rows, count = [], [None] * len(body), 0
-    first, last = [None] * len(body), [None] * len(body)
+def columns(above, widths):
+    """The left edge of each box: children stand a column to the right of their group, further where its box is wide."""
+    lefts = []
+    for parent in above:
+        lefts.append(lefts[parent] + max(COLUMN, round(widths[parent]) + GAP) if parent >= 0 else MARGIN)
+    return lefts
+
+
+def places(above):
+    """(rows, number of rows): a node without children has a row of its own, any other stands midway between its outer children."""
+    rows, count = [None] * len(above), 0
+    first, last = [None] * len(above), [None] * len(above)
     for index, parent in enumerate(above):
-        columns.append(columns[parent] + 1 if parent >= 0 else 0)
         if parent >= 0:
             first[parent], last[parent] = index if first[parent] is None else first[parent], index
-    for index in range(len(body)):
+    for index in range(len(above)):
         if first[index] is None:
             rows[index], count = count, count + 1
-    for index in range(len(body) - 1, -1, -1):  # children stand behind their group
+    for index in range(len(above) - 1, -1, -1):  # children stand behind their group
         if first[index] is not None:
             rows[index] = (rows[first[index]] + rows[last[index]]) / 2
-    return columns, rows, count
+    return rows, count
 
 
 def face(number, codes):
     """(what is written in the box of a node, its look)"""
     kind, value = books.taken_apart(number)
-    if kind in GROUPS:
-        look = "all" if kind == ALL_OF else "any"
-        return (look + " of" if value else "true" if kind == ALL_OF else "false"), look
-    return ("not " + codes[value], "barred") if kind == BARRED else (codes[value], "plain")
+    if kind in MARKS:
+        return ("not " + codes[value], "barred") if kind == BARRED else (codes[value], "plain")
+    if kind == AT_LEAST:
+        return "at least %d of %d" % (books.asked_of(number), books.children_of(number)), "least"
+    look = "all" if kind == ALL_OF else "any"
+    return (look + " of" if value else "true" if kind == ALL_OF else "false"), look
 
 
-def line(column, row, to_column, to_row, top):
-    """From the middle of a group's box to the left edge of a child's."""
-    start, end = MARGIN + COLUMN * column + 30, MARGIN + COLUMN * to_column
-    middle = (start + 40 + end) / 2
+def line(left, middle, to_left, to_middle):
+    """From inside a group's box, which hides its start, to the left edge of a child's."""
+    bend = (left + 40 + to_left) / 2
     return '<path d="M%d %.1f C%.1f %.1f %.1f %.1f %d %.1f"/>' % (
-        start, top + ROW * row, middle, top + ROW * row, middle, top + ROW * to_row, end, top + ROW * to_row)
+        left, middle, bend, middle, bend, to_middle, to_left, to_middle)
 
 
 def text(left, line_, words, look=None):

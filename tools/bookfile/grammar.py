@@ -7,25 +7,31 @@
     side      = { "not" } item
     item      = CODE | "true" | "false" | "(" formula ")"
               | ("all" | "any" | "one_of" | "at_most_one") "(" [ formula { "," formula } ] ")"
+              | ("at_least" | "exactly") "(" NUMBER { "," member } ")"
+    member    = a formula that is an option, true or false, each with any number of "not" before it
     CODE      = a code as it is, or in quotes; in quotes where it is a word of the notation
+    NUMBER    = decimal digits, 0 to 63; without quotes
 """
 from typing import NamedTuple
 
-from .books import CODE_BYTES, CODE_CHARACTERS
+from .books import CODE_BYTES, CODE_CHARACTERS, MOST_MEMBERS
 from .words import NotationMistake, Word, shown
 
 STARTS = ("option", "rule")
-GROUP_WORDS = ("all", "any", "one_of", "at_most_one")
+COUNTED = ("at_least", "exactly")  # groups that begin with a number
+GROUP_WORDS = ("all", "any", "one_of", "at_most_one") + COUNTED
 CONSTANTS = {"true": "all", "false": "any"}  # as groups without parts
-# The words of the notation that could be codes too.
+# The words of the notation that could be codes too. `exactly` is none: before a parenthesis no code can stand, and anywhere else it is
+# a code, as it was before it became a group.
 RESERVED = STARTS + ("all", "any", "not", "true", "false")
-GROUPS_IN_WORDS = "all(..), any(..), one_of(..) and at_most_one(..)"
+GROUPS_IN_WORDS = "all(..), any(..), one_of(..), at_most_one(..), at_least(..) and exactly(..)"
 
 
 class Formula(NamedTuple):
     form: str  # code, not, ->, <-> or a word of GROUP_WORDS
     parts: tuple  # of formulas
     word: Word  # where it stands; of a code, the code
+    count: int = 0  # of a group that begins with a number, that number
 
 
 class Statement(NamedTuple):
@@ -85,6 +91,7 @@ class Level:
         self.form = form  # a word of GROUP_WORDS; "(" for parentheses alone; "rule" outside all
         self.start = start  # the word that opened it
         self.last = last  # the word that was read last
+        self.count = 0  # the number that the group begins with, if it does
         self.parts = []  # whole formulas, each with a comma behind it
         self.left = self.arrow = None  # the left side, once an arrow stands behind it
         self.value = None  # the side that was read last; None where one must come
@@ -105,8 +112,8 @@ class Level:
         return whole
 
     def is_empty(self):
-        """Whether nothing stands behind the opening parenthesis yet."""
-        return not self.parts and self.value is None and self.arrow is None and self.negation is None
+        """Whether no part stands behind the opening parenthesis yet, nor anything that wants one."""
+        return self.last.is_sign("(")
 
 
 def rule_formula(statement):
@@ -114,7 +121,7 @@ def rule_formula(statement):
     levels = [Level("rule", statement.start, statement.start)]  # the innermost last
     words, at = statement.words, 0
     while at < len(words):
-        at += take(levels, words[at], words[at + 1] if at + 1 < len(words) else None)
+        at += take(levels, words[at], words[at + 1:at + 4])
     if len(levels) > 1:
         raise NotationMistake(levels[-1].start, "the parenthesis of this %s is not closed where the rule ends" % (
             shown(levels[-1].start.text)))
@@ -122,17 +129,14 @@ def rule_formula(statement):
 
 
 def take(levels, word, following):
-    """Reads a word, or the word of a group with its parenthesis; answers how many words it read."""
+    """Reads a word, or the word of a group with what must follow it, up to three words; answers how many words it read."""
     level = levels[-1]
     if word.is_sign(")"):
         close(levels, word)
     elif level.value is not None:
         join(level, word)
-    elif word.is_bare(*GROUP_WORDS):
-        if following is None or not following.is_sign("("):
-            raise NotationMistake(word, no_parenthesis(word))
-        levels.append(Level(word.text, word, following))
-        return 2
+    elif opens_group(word, following):
+        return open_group(levels, word, following)
     elif word.is_sign("("):
         levels.append(Level("(", word, word))
     else:
@@ -140,9 +144,50 @@ def take(levels, word, following):
     return 1
 
 
+def opens_group(word, following):
+    """Whether a word is that of a group. `exactly` is so before a parenthesis alone: anywhere else it is a code."""
+    if not word.is_bare(*GROUP_WORDS):
+        return False
+    if following and following[0].is_sign("("):
+        return True
+    if word.text == "exactly":
+        return False
+    raise NotationMistake(word, no_parenthesis(word))
+
+
 def no_parenthesis(word):
     words = "no parenthesis follows %s" % shown(word.text)
     return words + '; for a code of that name write "%s"' % word.text if word.text in RESERVED else words
+
+
+def open_group(levels, word, following):
+    """Reads the word of a group, its parenthesis and, where it begins with one, its number with the comma behind it."""
+    parenthesis, *following = following
+    level = Level(word.text, word, parenthesis)
+    levels.append(level)
+    if word.text not in COUNTED or not following:
+        return 2
+    number, *following = following
+    level.count = count_in(number, word.text)
+    if not following or following[0].is_sign(")"):
+        return 3
+    if not following[0].is_sign(","):
+        raise NotationMistake(following[0], "a comma is missing before %s" % shown(following[0].text))
+    level.last = following[0]
+    return 4
+
+
+def count_in(word, group):
+    """The number that a group begins with."""
+    if word.sort != "bare" or not (word.text.isascii() and word.text.isdigit()):
+        raise NotationMistake(word, "%s begins with a number, as in %s(2, A, B, C); this is %s" % (group, group, spelled_as(word)))
+    if len(word.text.lstrip("0")) > 2 or int(word.text) > MOST_MEMBERS:
+        raise NotationMistake(word, "%s can ask for %d at most; this is %s" % (group, MOST_MEMBERS, shown(word.text)))
+    return int(word.text)
+
+
+def spelled_as(word):
+    return shown('"%s"' % word.text if word.sort == "quoted" else word.text)
 
 
 def begin(level, word, following):
@@ -153,7 +198,7 @@ def begin(level, word, following):
         level.negation, level.negated, level.last = level.negation or word, not level.negated, word
     elif word.is_bare(*CONSTANTS):
         level.put(Formula(CONSTANTS[word.text], (), word), word)
-    elif following is not None and following.is_sign("("):
+    elif following and following[0].is_sign("("):
         raise NotationMistake(word, "%s is no group; the groups are %s, in small letters" % (shown(word.text), GROUPS_IN_WORDS))
     else:
         check_code(word)
@@ -191,18 +236,38 @@ def close(levels, word):
     if not level.is_empty():
         level.parts.append(level.formula())
     if level.form in ("one_of", "at_most_one"):
-        check_repeats(level)
-    levels[-1].put(Formula(level.form, tuple(level.parts), level.start), word)
+        check_repeats(level, [part for part in level.parts if part.form == "code"])
+    if level.form in COUNTED:
+        check_members(level)
+    levels[-1].put(Formula(level.form, tuple(level.parts), level.start, level.count), word)
 
 
-def check_repeats(level):
-    """A code twice in one_of or at_most_one would bar its option for good: nobody means that."""
+def check_repeats(level, codes):
+    """A code twice in one_of or at_most_one would bar its option for good: nobody means that. In at_least and exactly a book has no
+    room for it."""
     seen = set()
-    for part in level.parts:
-        if part.form == "code":
-            if part.word.text in seen:
-                raise NotationMistake(part.word, "%s stands twice in this %s" % (shown(part.word.text), level.form))
-            seen.add(part.word.text)
+    for code in codes:
+        if code.word.text in seen:
+            raise NotationMistake(code.word, "%s stands twice in this %s" % (shown(code.word.text), level.form))
+        seen.add(code.word.text)
+
+
+def check_members(level):
+    """The parts of at_least and exactly: at most 63, each an option, true or false, negated or not, and no option twice."""
+    for place, part in enumerate(level.parts):
+        if place == MOST_MEMBERS:
+            raise NotationMistake(part.word, "one part too many: %s has at most %d" % (level.form, MOST_MEMBERS))
+        if without_not(part).form not in ("code", *CONSTANTS.values()) or without_not(part).parts:
+            raise NotationMistake(part.word, "a part of %s is an option, true or false, each with or without `not`" % level.form)
+    items = map(without_not, level.parts)
+    check_repeats(level, [item for item in items if item.form == "code"])
+
+
+def without_not(formula):
+    """What stands behind every `not`."""
+    while formula.form == "not":
+        formula, = formula.parts
+    return formula
 
 
 def code_words(formula):

@@ -1,6 +1,6 @@
 """A book as text. `make` gives the same bytes again: each node is written as it is, an all-of of one part too."""
 from . import books
-from .books import ALL_OF, BARRED, GROUPS
+from .books import ALL_OF, AT_LEAST, BARRED, MARKS
 from .grammar import RESERVED
 
 WIDTH = 110  # columns of a line, where a rule can be broken so short
@@ -19,21 +19,25 @@ def code_text(code):
 
 
 def head_text(number, codes):
-    """A mark, or the word of a group."""
+    """A mark, or the word of a group with its parenthesis and, of an at-least, the number that comes first."""
     kind, value = books.taken_apart(number)
-    if kind in GROUPS:
-        return "all" if kind == ALL_OF else "any"
-    return ("not " if kind == BARRED else "") + code_text(codes[value])
+    if kind in MARKS:
+        return ("not " if kind == BARRED else "") + code_text(codes[value])
+    if kind == AT_LEAST:
+        return "at_least(%d" % books.asked_of(number)
+    return "all(" if kind == ALL_OF else "any("
 
 
 def lengths(body, codes):
     """The length of each node's text with all its children, on one line."""
     found, right = [0] * len(body), []  # right: the lengths of the trees to the right, the nearest last
     for index in range(len(body) - 1, -1, -1):
-        kind, value = books.taken_apart(body[index])
-        length = len(head_text(body[index], codes))
-        if kind in GROUPS:
-            length += 2 + sum(right.pop() for _ in range(value)) + 2 * max(value - 1, 0)
+        number = body[index]
+        kind, children = books.taken_apart(number)[0], books.children_of(number)
+        length = len(head_text(number, codes))
+        if kind not in MARKS:
+            separators = children if kind == AT_LEAST else max(children - 1, 0)
+            length += sum(right.pop() for _ in range(children)) + 2 * separators + 1
         found[index] = length
         right.append(length)
     return found
@@ -52,6 +56,10 @@ class Writer:
         self.pieces.append(text)
         self.column += len(text)
 
+    def separate(self, broken):
+        """The comma before a child; a new line comes with the child."""
+        self.write("," if broken else ", ")
+
     def new_line(self):
         self.column = min(INDENT * len(self.open), DEEPEST_INDENT)
         self.pieces.append("\n" + " " * self.column)
@@ -69,7 +77,7 @@ class Writer:
         while self.open:
             self.open[-1][0] -= 1
             if self.open[-1][0] > 0:
-                self.write("," if self.open[-1][1] else ", ")
+                self.separate(self.open[-1][1])
                 return
             _, broken = self.open.pop()
             if broken:
@@ -81,15 +89,14 @@ def rule_text(body, codes, width=None):
     """The formula of a rule."""
     writer = Writer(width)
     for number, length in zip(body, lengths(body, codes)):
-        kind, value = books.taken_apart(number)
+        kind, children = books.taken_apart(number)[0], books.children_of(number)
         broken = writer.start(length)
         writer.write(head_text(number, codes))
-        if kind not in GROUPS:
-            writer.finish()
-        elif value == 0:
-            writer.write("()")
-            writer.finish()
+        if children > 0:
+            if kind == AT_LEAST:
+                writer.separate(broken)
+            writer.open.append([children, broken])
         else:
-            writer.write("(")
-            writer.open.append([value, broken])
+            writer.write("" if kind in MARKS else ")")
+            writer.finish()
     return "".join(writer.pieces)

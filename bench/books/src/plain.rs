@@ -1,6 +1,6 @@
 //! The book check and the code lookup in plain Rust by the library's methods: equal codes by
-//! a table of hashes with chains of places, each body from its end by a count of trees, and
-//! nothing allocated.
+//! a table of hashes with chains of places, each body from its end by a count of trees, the
+//! options of an at-least by a bit each, and nothing allocated.
 
 use crate::reference::Refusal;
 
@@ -136,14 +136,33 @@ fn are_bodies(contents: &[u8], nodes: &[u8], options: usize) -> bool {
 /// One tree: from its end on, a node takes as many trees as it has children and leaves one.
 fn is_tree(body: &[u8], options: usize) -> bool {
     let mut trees = 0;
-    for node in body.chunks_exact(2).rev() {
+    for (place, node) in body.chunks_exact(2).enumerate().rev() {
         let node = number(node);
         let value = node % 4096;
         match node / 4096 {
             1 | 2 if value < options => trees += 1,
             3 | 4 if value <= trees => trees = trees - value + 1,
+            6 if value / 64 <= trees && are_members(&body[2 * place + 2..], value / 64) => {
+                trees = trees - value / 64 + 1;
+            }
             _ => return false,
         }
     }
     trees == 1
+}
+
+/// Whether the first so many nodes are what an at-least takes: true, false, and marks of distinct
+/// options. The options were tested before, since they stand further to the end.
+fn are_members(nodes: &[u8], members: usize) -> bool {
+    let mut seen = [0u64; MOST_CODES / 64];
+    nodes.chunks_exact(2).take(members).all(|node| {
+        let (kind, value) = (number(node) / 4096, number(node) % 4096);
+        if kind > 2 {
+            return kind < 5 && value == 0;
+        }
+        let (word, bit) = (&mut seen[value / 64], 1 << (value % 64));
+        let is_new = *word & bit == 0;
+        *word |= bit;
+        is_new
+    })
 }

@@ -32,13 +32,12 @@ const fn seconds(said: &'static str, limit: f64, of: fn(&Row) -> Option<f64>) ->
     }
 }
 
-const BARS: [Bar; 9] = [
+const BARS: [Bar; 13] = [
     ratio("run, times plain Rust by bounds: at most 3", 3.0, |row| {
         is_full(row).then_some(row.run[0] / row.run[1])
     }),
     ratio("report, times plain Rust by parts: at most 3", 3.0, |row| {
-        let ratio = |[ours, parts, _]: [f64; 3]| ours / parts;
-        is_full(row).then_some(ratio(row.before).max(ratio(row.after)))
+        is_full(row).then_some(report_ratio(row))
     }),
     seconds("the comb settles: under 1 s", 1.0, |row| {
         let is_comb = row.name == "comb" && row.is_whole();
@@ -65,6 +64,26 @@ const BARS: [Bar; 9] = [
         |row| row.growth.filter(|_| is_full(row))?.step,
     ),
     ratio(
+        "with at-leasts: check, times plain Rust: at most 3",
+        3.0,
+        |row| has_leasts(row).then_some(row.check[0] / row.check[1]),
+    ),
+    ratio(
+        "with at-leasts: load, times plain Rust: at most 3",
+        3.0,
+        |row| has_leasts(row).then_some(row.load[0] / row.load[1]),
+    ),
+    ratio(
+        "with at-leasts: run, times plain Rust by bounds: at most 3",
+        3.0,
+        |row| has_leasts(row).then_some(row.run[0] / row.run[1]),
+    ),
+    ratio(
+        "with at-leasts: report, times plain Rust by parts: at most 3",
+        3.0,
+        |row| has_leasts(row).then_some(report_ratio(row)),
+    ),
+    ratio(
         "a line of 64 taken back, times a load and 63 keyings by plain Rust: at most 1.5",
         1.5,
         |row| {
@@ -76,6 +95,17 @@ const BARS: [Bar; 9] = [
 
 fn is_full(row: &Row) -> bool {
     row.weight == FULL
+}
+
+/// A full-size book of a family with at-leasts.
+fn has_leasts(row: &Row) -> bool {
+    is_full(row) && row.leasts > 0
+}
+
+/// The report's time over plain Rust's by parts, before the run or after it, whichever is more.
+fn report_ratio(row: &Row) -> f64 {
+    let ratio = |[ours, parts, _]: [f64; 3]| ours / parts;
+    ratio(row.before).max(ratio(row.after))
 }
 
 /// The slower of the reports before and after the run.

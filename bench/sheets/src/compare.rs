@@ -1,12 +1,13 @@
 //! The library against plain Rust: loads, runs and reports must be equal.
 
 use crate::answers::Ran;
+use crate::clauses;
 use crate::ffi;
-use crate::nodes::LENGTH;
+use crate::nodes::{kind, LEAST, LENGTH};
 use crate::plain::flat::used;
 use crate::plain::{bounds, load, parts, simple, sweep};
 use crate::random::Random;
-use crate::random_books::random_book;
+use crate::random_books::{self, book_with_leasts};
 
 pub type Sheet = [u16; LENGTH];
 
@@ -37,8 +38,22 @@ pub fn loaded(bytes: &[u8]) -> Sheet {
     sheets[0]
 }
 
-/// The report, from all methods; the slowest where it is asked for. The output is longer than
-/// any report, and its rest must stay.
+/// The most clauses that a sheet is multiplied out into wherever it is met.
+const FEW: u128 = 2000;
+
+/// Whether a sheet has so few clauses that its report is compared with that of the clauses.
+pub fn has_few_clauses(sheet: &[u16]) -> bool {
+    clauses::effort(used(sheet)) <= FEW
+}
+
+/// The report by propagation on the clauses, at the start of an output whose rest stays.
+fn report_by_clauses(sheet: &[u16], out: &mut [u8]) -> bool {
+    let out = &mut out[..usize::from(sheet[0])];
+    clauses::report(&clauses::multiplied_out(used(sheet)), out)
+}
+
+/// The report, from all methods; the slowest where it is asked for, and the clauses where they
+/// are few. The output is longer than any report, and its rest must stay.
 pub fn reported(sheet: &[u16], by_sweep: bool) -> Vec<u8> {
     let by = |report: fn(&[u16], &mut [u8]) -> bool| {
         let mut out = vec![9; 600];
@@ -49,7 +64,11 @@ pub fn reported(sheet: &[u16], by_sweep: bool) -> Vec<u8> {
         out
     };
     let ours = by(ffi::report);
-    let others = [Some(by(parts::report)), by_sweep.then(|| by(sweep::report))];
+    let others = [
+        Some(by(parts::report)),
+        by_sweep.then(|| by(sweep::report)),
+        has_few_clauses(sheet).then(|| by(report_by_clauses)),
+    ];
     for other in others.into_iter().flatten() {
         if other != ours {
             stop("the reports differ", sheet, &format!("{ours:?}\n{other:?}"));
@@ -74,14 +93,33 @@ pub fn ran(methods: [fn(&mut [u16], u64) -> Ran; 2], sheet: &Sheet, budget: u64)
     one
 }
 
+/// A random book of a weight at most, one in two with at-leasts.
+pub fn random_book(random: &mut Random, weight: usize) -> Vec<u8> {
+    if random.one_in(2) {
+        return random_books::random_book(random, weight);
+    }
+    let leasts = random.pick(&[10, 40]);
+    book_with_leasts(random, weight, leasts)
+}
+
 /// A random sheet of a weight at most.
 pub fn random_sheet(random: &mut Random, weight: usize) -> Sheet {
     loaded(&random_book(random, weight))
 }
 
-/// Compares every answer on random sheets; the steps done in all.
-pub fn random_sheets(random: &mut Random, count: usize, weight: usize) -> u64 {
-    let mut steps = 0;
+/// What was compared on random sheets.
+#[derive(Default)]
+pub struct Compared {
+    pub sheets: u64,
+    /// Those whose report was compared with that of their clauses, and those of them that have
+    /// at-leasts.
+    pub with_clauses: u64,
+    pub with_leasts: u64,
+    pub steps: u64,
+}
+
+/// Compares every answer on random sheets.
+pub fn random_sheets(random: &mut Random, count: usize, weight: usize, seen: &mut Compared) {
     for _ in 0..count {
         let sheet = random_sheet(random, weight);
         let before = reported(&sheet, true);
@@ -94,7 +132,11 @@ pub fn random_sheets(random: &mut Random, count: usize, weight: usize) -> u64 {
                 stop("a run changed the report", &sheet, "");
             }
         }
-        steps += ran_whole.count;
+        let has_leasts = used(&sheet).iter().any(|&node| kind(node) == LEAST);
+        let has_clauses = has_few_clauses(&sheet);
+        seen.sheets += 1;
+        seen.with_clauses += u64::from(has_clauses);
+        seen.with_leasts += u64::from(has_clauses && has_leasts);
+        seen.steps += ran_whole.count;
     }
-    steps
 }

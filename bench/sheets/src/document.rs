@@ -10,6 +10,9 @@ pub const MARK: &str = "measured";
 /// The most conjunctions of the multiplied-out toy books.
 const TOYS: usize = 18;
 
+/// The at-leasts that are multiplied out, as (asked, members).
+const AT_LEASTS: [(usize, usize); 3] = [(2, 4), (10, 20), (32, 63)];
+
 /// Which runs were stopped early, and why.
 fn stopped_said(rows: &[Row], patience: f64) -> String {
     let stopped: Vec<String> = rows
@@ -45,12 +48,14 @@ pub fn measured(rows: &[Row], agreed: &[String], noise: &Noise, patience: f64) -
         tables::runs(rows),
         "### Reports".to_string(),
         tables::reports(rows),
-        "### Loads".to_string(),
+        "### Checks and loads".to_string(),
         tables::loads(rows),
         "### Keyings and withdrawals".to_string(),
         tables::orders(rows),
         "### Multiplied out".to_string(),
         toys::table(TOYS),
+        "### At-leasts multiplied out".to_string(),
+        toys::at_least_table(&AT_LEASTS),
     ]
     .map(|part| part.trim_end().to_string())
     .join("\n\n")

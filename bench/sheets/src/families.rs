@@ -5,7 +5,7 @@ use crate::nodes::{literal, node, weight, ALL, ANY, TRUE};
 use crate::random::Random;
 
 /// The number of options of every family but the comb.
-const OPTIONS: usize = 512;
+pub const OPTIONS: usize = 512;
 
 /// Rules, and the options that they speak of.
 pub struct Rules {
@@ -27,6 +27,24 @@ pub enum Order {
     LastToFirst,
     Shuffled,
 }
+
+impl Order {
+    /// Puts what stands first to last into this order.
+    pub fn put<T>(self, random: &mut Random, items: &mut [T]) {
+        match self {
+            Order::FirstToLast => (),
+            Order::LastToFirst => items.reverse(),
+            Order::Shuffled => random.shuffle(items),
+        }
+    }
+}
+
+/// Every order, with its words.
+pub const ORDERS: [(Order, &str); 3] = [
+    (Order::FirstToLast, "first to last"),
+    (Order::LastToFirst, "last to first"),
+    (Order::Shuffled, "shuffled"),
+];
 
 /// Rules up to a weight.
 pub struct Filling {
@@ -60,7 +78,7 @@ pub fn families() -> Vec<Family> {
     families
 }
 
-fn family(name: String, ordinary: bool, make: impl Fn(usize) -> Rules + 'static) -> Family {
+pub fn family(name: String, ordinary: bool, make: impl Fn(usize) -> Rules + 'static) -> Family {
     Family {
         name,
         ordinary,
@@ -74,11 +92,7 @@ fn clause_families() -> Vec<Family> {
     for width in [2, 3, 8] {
         let name = format!("clauses of {width}");
         families.push(family(name, true, move |weight| clauses(width, weight)));
-        for (order, said) in [
-            (Order::FirstToLast, "first to last"),
-            (Order::LastToFirst, "last to first"),
-            (Order::Shuffled, "shuffled"),
-        ] {
+        for (order, said) in ORDERS {
             let name = format!("clauses of {width}, chain {said}");
             let make = move |weight| Rules {
                 options: OPTIONS,
@@ -133,7 +147,7 @@ fn hard_families() -> Vec<Family> {
 }
 
 /// Distinct options, from the least to the greatest.
-fn distinct(random: &mut Random, width: usize, among: usize) -> Vec<usize> {
+pub fn distinct(random: &mut Random, width: usize, among: usize) -> Vec<usize> {
     let mut options: Vec<usize> = (0..among).collect();
     for at in 0..width {
         let other = random.within(at, among - 1);
@@ -179,11 +193,7 @@ fn clauses(width: usize, weight: usize) -> Rules {
 fn chain(width: usize, order: Order, options: usize, weight: usize) -> Vec<Vec<u16>> {
     let random = &mut Random::new(weight as u64);
     let mut names: Vec<usize> = (0..options).collect();
-    match order {
-        Order::FirstToLast => (),
-        Order::LastToFirst => names.reverse(),
-        Order::Shuffled => random.shuffle(&mut names),
-    }
+    order.put(random, &mut names);
     let mut filling = Filling::new(weight);
     for at in 0..options {
         let body = if at + 1 < width {
@@ -200,11 +210,7 @@ fn chain(width: usize, order: Order, options: usize, weight: usize) -> Vec<Vec<u
         filling.put(body);
     }
     while filling.put(bystander(random, width, &names)) {}
-    match order {
-        Order::FirstToLast => (),
-        Order::LastToFirst => filling.bodies.reverse(),
-        Order::Shuffled => random.shuffle(&mut filling.bodies),
-    }
+    order.put(random, &mut filling.bodies);
     filling.bodies
 }
 

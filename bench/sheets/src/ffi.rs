@@ -1,10 +1,11 @@
-//! The library's calls on sheets, with safe wrappers.  No call has a condition that a slice
-//! does not meet.
+//! The library's calls on books and sheets, with safe wrappers.  No call has a condition that a
+//! slice does not meet.
 
 use crate::answers::Ran;
 use crate::orders::{Line, Order};
 
 extern "C" {
+    fn nd_book_check(book: *const u8, book_len: usize) -> u64;
     fn nd_load(book: *const u8, book_len: usize, sheet: *mut u16, sheet_len: usize) -> u64;
     fn nd_run(sheet: *mut u16, sheet_len: usize, budget: u64) -> u64;
     fn nd_report(sheet: *const u16, sheet_len: usize, out: *mut u8, out_len: usize) -> u64;
@@ -29,10 +30,16 @@ extern "C" {
     ) -> u64;
 }
 
+/// The book check: the refusal, 0 where the book is accepted.
+pub fn book_check(book: &[u8]) -> u64 {
+    // SAFETY: the pointer is good for as many elements as its slice has, and the library touches
+    // no others.
+    unsafe { nd_book_check(book.as_ptr(), book.len()) }
+}
+
 /// The loader: the refusal, 0 where the book is accepted.
 pub fn load(book: &[u8], sheet: &mut [u16]) -> u64 {
-    // SAFETY: both pointers are good for as many elements as their slices have, and the
-    // library touches no others.
+    // SAFETY: as above, for both pointers.
     unsafe { nd_load(book.as_ptr(), book.len(), sheet.as_mut_ptr(), sheet.len()) }
 }
 

@@ -1,7 +1,7 @@
 //! Keyings and withdrawals: the library against plain Rust on random orders, and their times on
 //! full-size ones.
 
-use crate::compare::{loaded, stop};
+use crate::compare::{loaded, random_book, stop};
 use crate::families::Rules;
 use crate::ffi;
 use crate::measure::{medians, seconds};
@@ -9,7 +9,6 @@ use crate::nodes::{book, literal, node, ANY, LENGTH};
 use crate::orders::{Key, Line, Order, Withdraw, SLOTS};
 use crate::plain::{lines, load};
 use crate::random::Random;
-use crate::random_books::random_book;
 use std::collections::BTreeMap;
 
 /// How often each refusal was given, 0 where a call was accepted: of keyings, of withdrawals.

@@ -1,5 +1,5 @@
-//! The time of loads, runs, reports, keyings and withdrawals on full-size books, through the
-//! library's C interface, next to plain Rust's in the same process.  Every answer is compared
+//! The time of checks, loads, runs, reports, keyings and withdrawals on full-size books, through
+//! the library's C interface, next to plain Rust's in the same process.  Every answer is compared
 //! first; a difference stops the benchmark with the case printed.
 //!
 //!     tools/build-library                                         at the repository's top
@@ -14,6 +14,7 @@
 //!     --searches NUMBER   only compare the two searches on so many random sheets
 
 mod answers;
+mod at_least;
 mod bars;
 mod clauses;
 mod compare;
@@ -28,14 +29,22 @@ mod nests;
 mod nodes;
 mod orders;
 mod plain;
+#[path = "../../books/src/plain.rs"]
+#[allow(dead_code)]
+mod plain_check;
 mod plot;
 #[path = "../../../tests/rust/src/random.rs"]
 #[allow(dead_code)]
 mod random;
 mod random_books;
+#[path = "../../../tests/rust/src/reference.rs"]
+#[allow(dead_code)]
+mod reference;
 mod rows;
 mod searches;
 mod tables;
+#[cfg(test)]
+mod tests;
 mod toys;
 
 use random::Random;
@@ -103,20 +112,20 @@ const SPREAD: [(usize, usize); 6] = [(12, 4), (20, 4), (40, 4), (100, 8), (250, 
 /// what was seen, as a sentence.
 fn searches(seed: u64, sheets: usize) -> String {
     let random = &mut Random::new(seed);
-    let (mut followed, mut any) = ([0; 15], [0; 15]);
+    let (mut followed, mut any) = (searches::Steps::default(), searches::Steps::default());
     for (weight, share) in SPREAD {
         searches::random_searches(random, sheets / share, weight, &mut followed);
         searches::random_steps(random, sheets / share, weight.min(250), &mut any);
     }
-    for family in families::families() {
+    for family in all_families() {
         for weight in [64, 100, 256] {
             searches::follow(&sheet_of(&(family.make)(weight)), &mut followed);
         }
     }
     format!(
-        "Searches by bounds and by every place agree on {} steps (rules 1 to 14: {}) of random \
+        "Searches by bounds and by every place agree on {} steps (rules 1 to 17: {}) of random \
          sheets (seed {seed}) and small books of each family. After {} steps that need not be \
-         the strategy's (rules 1 to 14: {}) every bound is right.",
+         the strategy's (rules 1 to 17: {}) every bound is right.",
         figures::count(followed.iter().sum()),
         by_rule(followed),
         figures::count(any.iter().sum()),
@@ -124,7 +133,10 @@ fn searches(seed: u64, sheets: usize) -> String {
     )
 }
 
+/// The steps of each rule, which must all have been met.
 fn by_rule(steps: searches::Steps) -> String {
+    let missed = (1..steps.len()).filter(|&rule| steps[rule] == 0);
+    assert_eq!(missed.collect::<Vec<_>>(), [], "rules that no step was of");
     let steps = steps[1..].iter().map(|&steps| figures::count(steps));
     steps.collect::<Vec<String>>().join(" / ")
 }
@@ -132,13 +144,17 @@ fn by_rule(steps: searches::Steps) -> String {
 /// All answers on random sheets, as a sentence.
 fn answers_agree(seed: u64) -> String {
     let random = &mut Random::new(seed);
-    let mut steps = 0;
-    for (weight, count) in [(12, 200), (40, 200), (150, 100), (600, 30)] {
-        steps += compare::random_sheets(random, count, weight);
+    let seen = &mut compare::Compared::default();
+    for (weight, count) in [(12, 400), (40, 400), (150, 200), (600, 60)] {
+        compare::random_sheets(random, count, weight, seen);
     }
     format!(
-        "Loads, runs and reports agree on 530 random sheets and {} steps.",
-        figures::count(steps)
+        "Loads, runs and reports agree on {} random sheets and {} steps; the reports of {} of \
+         them, {} with at-leasts, also with propagation on their clauses, multiplied out.",
+        figures::count(seen.sheets),
+        figures::count(seen.steps),
+        figures::count(seen.with_clauses),
+        figures::count(seen.with_leasts)
     )
 }
 
@@ -157,10 +173,17 @@ fn orders_agree(seed: u64) -> String {
     )
 }
 
+/// The families, those with at-leasts last.
+fn all_families() -> Vec<families::Family> {
+    let mut families = families::families();
+    families.extend(at_least::families());
+    families
+}
+
 /// Every family at every weight, then the comb that the desk stops at.
 fn all_rows(flags: &Flags, noise: &mut measure::Noise) -> Vec<Row> {
     let mut rows = Vec::new();
-    let mut families = families::families();
+    let mut families = all_families();
     families.retain(|family| family.name.contains(&flags.only));
     for family in families {
         for &weight in &flags.weights {

@@ -1,6 +1,6 @@
 //! Nested rules: document 003's random formulas, deep nests, and small random rules.
 
-use crate::nodes::{literal, node, ALL, ANY};
+use crate::nodes::{are_members, at_least, literal, node, ALL, ANY, FALSE, MEMBERS, TRUE};
 use crate::random::Random;
 
 /// Document 003's Figure 3: a random formula; as many of its literals in a hundred are barred.
@@ -67,10 +67,12 @@ pub struct Style {
     pub width: usize,
     /// Any-ofs of conjunctions that share a literal.
     pub shared: usize,
+    /// At-leasts.
+    pub leasts: usize,
 }
 
 impl Style {
-    /// A style of so many options.
+    /// A style of so many options, without at-leasts.
     pub fn any(random: &mut Random, options: usize) -> Style {
         Style {
             options,
@@ -80,6 +82,7 @@ impl Style {
             literals: random.pick(&[30, 60, 80]),
             width: random.pick(&[2, 3, 5, 9]),
             shared: random.pick(&[0, 20, 60]),
+            leasts: 0,
         }
     }
 
@@ -97,7 +100,10 @@ impl Style {
         } else {
             ANY
         };
-        if random.below(100) < self.constants {
+        // A style without at-leasts makes the same books as before there were any.
+        if self.leasts > 0 && random.below(100) < self.leasts {
+            self.at_least(random, left, body);
+        } else if random.below(100) < self.constants {
             body.push(node(kind, 0));
         } else if *left == 0 || random.below(100) < self.literals && !body.is_empty() {
             self.leaf(random, body);
@@ -158,6 +164,24 @@ impl Style {
             (0..2).for_each(|_| self.leaf(random, body));
         }
         (0..after).for_each(|_| self.leaf(random, body));
+    }
+
+    /// An at-least: of few members or of many, which asks for any number of them, or for more.
+    fn at_least(&self, random: &mut Random, left: &mut usize, body: &mut Vec<u16>) {
+        let few = random.within(0, self.width.min(*left));
+        let many = random.within(0, MEMBERS.min(*left));
+        let members = random.pick(&[few, few, few, many]);
+        let asked = random.within(0, (members + 1).min(MEMBERS));
+        *left = left.saturating_sub(members);
+        body.push(at_least(asked, members));
+        let first = body.len();
+        for at in first..first + members {
+            self.leaf(random, body);
+            let is_taken = are_members(body[first..].iter().copied());
+            if !is_taken || random.below(100) < self.constants {
+                body[at] = random.pick(&[TRUE, FALSE]);
+            }
+        }
     }
 
     /// A literal, or a constant where there are no options.

@@ -1,4 +1,4 @@
-//! Nodes and books as document 01 writes them.
+//! Nodes and books as documents 01 and 02 write them.
 
 /// The length of a sheet: options, nodes used, room for 4,096 nodes.
 pub const LENGTH: usize = 4098;
@@ -8,10 +8,14 @@ pub const BARRED: u16 = 2;
 pub const ALL: u16 = 3;
 pub const ANY: u16 = 4;
 pub const ROOT: u16 = 5;
+pub const LEAST: u16 = 6;
 
 /// The empty all-of and the empty any-of.
 pub const TRUE: u16 = ALL << 12;
 pub const FALSE: u16 = ANY << 12;
+
+/// The most members of an at-least, and the most that it can ask for.
+pub const MEMBERS: usize = 63;
 
 pub fn kind(node: u16) -> u16 {
     node >> 12
@@ -32,11 +36,40 @@ pub fn opposite(literal: u16) -> u16 {
 
 /// The number of children.
 pub fn arity(node: u16) -> usize {
-    if is_literal(node) {
-        0
-    } else {
-        value(node)
+    match kind(node) {
+        PLAIN | BARRED => 0,
+        LEAST => value(node) / (MEMBERS + 1),
+        _ => value(node),
     }
+}
+
+/// How many of its members an at-least asks for.
+pub fn asked(node: u16) -> usize {
+    value(node) % (MEMBERS + 1)
+}
+
+/// An at-least that asks for so many of so many members.
+pub fn at_least(asked: usize, members: usize) -> u16 {
+    assert!(asked <= MEMBERS && members <= MEMBERS);
+    node(LEAST, members * (MEMBERS + 1) + asked)
+}
+
+/// Whether an at-least takes these members: constants, and literals of distinct options.
+pub fn are_members(mut nodes: impl Iterator<Item = u16>) -> bool {
+    let mut seen = [0u64; 512 / 64];
+    nodes.all(|node| {
+        if !is_literal(node) {
+            return node == TRUE || node == FALSE;
+        }
+        // No book has an option past these.
+        let Some(word) = seen.get_mut(value(node) / 64) else {
+            return false;
+        };
+        let bit = 1 << (value(node) % 64);
+        let is_new = *word & bit == 0;
+        *word |= bit;
+        is_new
+    })
 }
 
 pub fn node(kind: u16, value: usize) -> u16 {

@@ -6,8 +6,10 @@ use crate::families::Rules;
 use crate::ffi;
 use crate::keyings::Times;
 use crate::measure::{grown, medians, seconds};
-use crate::nodes::{book, LENGTH};
+use crate::nodes::{book, kind, LEAST, LENGTH};
+use crate::plain::flat::used;
 use crate::plain::{bounds, load, parts, simple, sweep};
+use crate::plain_check;
 
 /// The longest that the simplest search is waited for, in seconds.
 const SIMPLE: f64 = 1.0;
@@ -18,10 +20,13 @@ pub struct Row {
     pub ordinary: bool,
     pub weight: usize,
     pub nodes: usize,
+    /// How many of them are at-leasts.
+    pub leasts: usize,
     /// The steps of the whole run, and those that were timed.
     pub steps: u64,
     pub timed: u64,
     /// The library and plain Rust.
+    pub check: [f64; 2],
     pub load: [f64; 2],
     pub run: [f64; 2],
     /// The simplest search: the steps that were timed, and their time.
@@ -81,8 +86,13 @@ pub fn measured(
         ordinary,
         weight,
         nodes: usize::from(sheet[1]),
+        leasts: used(&sheet)
+            .iter()
+            .filter(|&&node| kind(node) == LEAST)
+            .count(),
         steps,
         timed,
+        check: check_times(&bytes),
         load: load_times(&bytes),
         run: run_times([ffi::run, bounds::run], &sheet, due(timed)),
         simple: (simple_steps, simple),
@@ -158,6 +168,18 @@ fn compared(sheet: &Sheet, budget: u64, steps: u64, timed: u64, simple_steps: u6
         "a run changed the report"
     );
     settled
+}
+
+fn check_times(bytes: &[u8]) -> [f64; 2] {
+    let checks = [ffi::book_check, plain_check::book_check];
+    assert_eq!(
+        checks.map(|check| check(bytes)),
+        [0, 0],
+        "the checks differ"
+    );
+    let mut calls = checks.map(|check| move || seconds(|| check(bytes)));
+    let sides = calls.iter_mut().map(|call| call as &mut dyn FnMut() -> f64);
+    medians(sides.collect()).try_into().expect("a time a side")
 }
 
 fn load_times(bytes: &[u8]) -> [f64; 2] {

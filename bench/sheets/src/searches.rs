@@ -5,11 +5,12 @@ use crate::compare::{random_sheet, stop, Sheet};
 use crate::nodes::arity;
 use crate::plain::bounds::Bounds;
 use crate::plain::flat::{fill_sizes, used, Flat, MOST};
-use crate::plain::{rules, simple};
+use crate::plain::rules::{self, LAST};
+use crate::plain::simple;
 use crate::random::Random;
 
 /// The steps of each rule.
-pub type Steps = [u64; 15];
+pub type Steps = [u64; LAST + 1];
 
 /// Follows both searches step by step on random sheets; adds up the steps.
 pub fn random_searches(random: &mut Random, count: usize, weight: usize, seen: &mut Steps) {
@@ -58,17 +59,17 @@ pub fn random_steps(random: &mut Random, count: usize, weight: usize, seen: &mut
     }
 }
 
-fn flat<'a>(sheet: &'a Sheet, bounds: &'a Bounds) -> Flat<'a> {
+pub fn flat<'a>(sheet: &'a Sheet, bounds: &'a Bounds) -> Flat<'a> {
     Flat {
         nodes: used(sheet),
         sizes: &bounds.sizes,
     }
 }
 
-/// The lowest rule that applies at a place, 15 where none does.
+/// The lowest rule that applies at a place, one more than the last where none does.
 fn lowest(flat: Flat, place: usize) -> u8 {
     let applies = |&rule: &usize| simple::least(flat, rule, place).is_some();
-    (1..15).find(applies).unwrap_or(15) as u8
+    (1..=LAST).find(applies).unwrap_or(LAST + 1) as u8
 }
 
 /// The highest bounds that are right.
@@ -81,8 +82,8 @@ fn highest(flat: Flat) -> [u8; MOST] {
 }
 
 /// Any step that applies; all rules that apply somewhere have the same chance.
-fn any_step(random: &mut Random, flat: Flat) -> Option<Redex> {
-    let by_rule: Vec<Vec<Redex>> = (1..15)
+pub fn any_step(random: &mut Random, flat: Flat) -> Option<Redex> {
+    let by_rule: Vec<Vec<Redex>> = (1..=LAST)
         .map(|rule| steps_of(flat, rule))
         .filter(|steps| !steps.is_empty())
         .collect();
@@ -94,6 +95,11 @@ fn any_step(random: &mut Random, flat: Flat) -> Option<Redex> {
 fn steps_of(flat: Flat, rule: usize) -> Vec<Redex> {
     let mut steps = Vec::new();
     for place in (0..flat.nodes.len()).filter(|&place| rules::is_headed(flat, rule, place)) {
+        if rules::is_by_head(rule) {
+            let found = simple::least(flat, rule, place);
+            steps.extend(found.map(|(i, j)| Redex { rule, place, i, j }));
+            continue;
+        }
         for (i, at) in flat.children(place).enumerate() {
             let inner = 0..arity(flat.nodes[at]).max(1);
             let applying = inner.filter(|&j| rules::applies(flat, rule, place, i, at, j));

@@ -116,22 +116,20 @@ pub fn orders(rows: &[Row]) -> String {
     text
 }
 
-/// The loads.
+/// The times of the library and of plain Rust, with their ratio.
+fn cells([ours, plain]: [f64; 2]) -> String {
+    format!("{} | {} | {}", time(ours), time(plain), ratio(ours / plain))
+}
+
+/// The checks and the loads.
 pub fn loads(rows: &[Row]) -> String {
     let mut text = String::from(
-        "| family | weight | nodes | load | plain | ratio |\n|---|--:|--:|--:|--:|--:|\n",
+        "| family | weight | nodes | check | plain | ratio | load | plain | ratio |\n\
+         |---|--:|--:|--:|--:|--:|--:|--:|--:|\n",
     );
     for (at, row) in rows.iter().enumerate() {
-        let [ours, plain] = row.load;
-        writeln!(
-            text,
-            "{} {} | {} | {} |",
-            head(rows, at),
-            time(ours),
-            time(plain),
-            ratio(ours / plain)
-        )
-        .expect("a string");
+        let [check, load] = [row.check, row.load].map(cells);
+        writeln!(text, "{} {check} | {load} |", head(rows, at)).expect("a string");
     }
     text
 }

@@ -1,5 +1,7 @@
 //! Every call by both libraries: the answers and all that was lent must be the same.
 
+use crate::at_least_calls;
+use crate::at_least_calls::RULES;
 use crate::calls::{refusal, Call, Lent, ANSWERS};
 use crate::figures::{by_answer, count};
 use crate::library::Library;
@@ -11,24 +13,36 @@ use std::collections::BTreeMap;
 pub struct Comparing<'a> {
     before: &'a Library,
     after: &'a Library,
+    /// Whether both know at-leasts. If not, calls that speak of them are left out.
+    pub at_leasts: bool,
+    left_out: u64,
     /// How often each call gave each answer.
     seen: BTreeMap<&'static str, BTreeMap<u64, u64>>,
     /// How often a step of each rule was accepted.
-    steps: [u64; 15],
+    steps: [u64; 1 + RULES],
 }
+
+/// The last rule that has nothing to do with at-leasts.
+const OLD_RULES: usize = 14;
 
 impl<'a> Comparing<'a> {
     pub fn new(before: &'a Library, after: &'a Library) -> Comparing<'a> {
         Comparing {
             before,
             after,
+            at_leasts: at_least_calls::are_known(before) && at_least_calls::are_known(after),
+            left_out: 0,
             seen: BTreeMap::new(),
-            steps: [0; 15],
+            steps: [0; 1 + RULES],
         }
     }
 
     /// A call by both; stops with the case where they differ.
-    pub fn call(&mut self, call: Call, lent: &mut Lent) -> u64 {
+    pub fn call(&mut self, call: Call, lent: &mut Lent) {
+        if !self.at_leasts && at_least_calls::are_met(call, lent) {
+            self.left_out += 1;
+            return;
+        }
         let start = lent.clone();
         let mut other = start.clone();
         let answer = self.before.call(call, lent);
@@ -44,7 +58,6 @@ impl<'a> Comparing<'a> {
             stop("a refused call changed something", call, &start);
         }
         self.tally(call, answer);
-        answer
     }
 
     fn tally(&mut self, call: Call, answer: u64) {
@@ -71,11 +84,12 @@ impl<'a> Comparing<'a> {
         }
     }
 
-    /// What was compared, as a sentence; every answer that a call can give must have been given,
-    /// and every rule must have done a step.
+    /// What was compared, in sentences; every answer that a call can give must have been given,
+    /// and every rule that both know must have done a step.
     pub fn said(&self) -> String {
+        let last = if self.at_leasts { RULES } else { OLD_RULES };
         assert!(
-            self.steps[1..].iter().all(|&steps| steps > 0),
+            self.steps[1..=last].iter().all(|&steps| steps > 0),
             "a rule did no step: {:?}",
             self.steps
         );
@@ -87,9 +101,21 @@ impl<'a> Comparing<'a> {
         let total: u64 = self.seen.values().flat_map(BTreeMap::values).sum();
         format!(
             "Both give the same answers, and leave the same in all that they are lent, in {} \
-             calls: {}. Steps of every rule are among them.",
+             calls: {}. Steps of rules 1 to {last} are among them.{}",
             count(total),
-            calls.join("; ")
+            calls.join("; "),
+            self.left_out_said()
+        )
+    }
+
+    fn left_out_said(&self) -> String {
+        if self.at_leasts {
+            return String::new();
+        }
+        format!(
+            " One of them does not know node kind 6: {} calls that speak of it or of rules 15 to \
+             {RULES} are left out.",
+            count(self.left_out)
         )
     }
 }

@@ -1,5 +1,6 @@
 //! Books, sheets and orders at the limits, and one or two beyond: of weight, of nodes, of room.
 
+use crate::at_least_calls::random_book;
 use crate::books::{book, size_of_weight, LIKENESSES, SHAPES};
 use crate::calls::{Call, Lent};
 use crate::comparing::Comparing;
@@ -8,7 +9,6 @@ use crate::families::{Family, Rules};
 use crate::nodes::{self, node, weight, LENGTH, ROOT, TRUE};
 use crate::orders::{Line, SLOTS};
 use crate::random::Random;
-use crate::random_books::random_book;
 use crate::scenes::{lent, loaded};
 
 /// The weight that a family's book is made with, before it is filled up.
@@ -58,7 +58,7 @@ pub fn random_weights(comparing: &mut Comparing, random: &mut Random, count: usi
         let size = size_of_weight(random, options, weight);
         let (likeness, shape) = (random.pick(&LIKENESSES), random.pick(&SHAPES));
         let bytes = book(random, size, likeness, shape).bytes();
-        let small = random_book(random, 40);
+        let small = random_book(random, 40, comparing.at_leasts);
         let sheet = loaded(if random.one_in(2) { &bytes } else { &small });
         let lent = lent(random, bytes, sheet);
         comparing.every_call(random, &lent);

@@ -1,5 +1,6 @@
 //! An earlier build of the library beside the one of now, in one process: first every answer is
-//! compared, and a difference stops the benchmark with the case printed; then every call is timed,
+//! compared, and a difference stops the benchmark with the case printed (where one of the two does
+//! not know node kind 6, calls that speak of it are left out); then every call is timed,
 //! the two in turn, with a copy of the earlier one as a third, whose time tells the noise, and each
 //! at several places in memory.
 //!
@@ -18,6 +19,10 @@
 #[path = "../../sheets/src/answers.rs"]
 #[allow(dead_code)]
 mod answers;
+mod at_least_calls;
+#[path = "../../../tests/rust/src/at_leasts.rs"]
+#[allow(dead_code)]
+mod at_leasts;
 #[path = "../../../tests/rust/src/books.rs"]
 #[allow(dead_code)]
 mod books;
@@ -133,7 +138,7 @@ fn compared(sides: &Sides, seed: u64) -> String {
     let comparing = &mut Comparing::new(&sides.before[0], &sides.after[0]);
     for (weight, count) in [(12, 4000), (40, 2000), (150, 600), (600, 150)] {
         for _ in 0..count {
-            let lent = scenes::random_lent(random, weight);
+            let lent = scenes::random_lent(random, weight, comparing.at_leasts);
             comparing.follow(random, lent, 4);
         }
     }

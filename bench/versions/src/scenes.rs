@@ -1,5 +1,7 @@
 //! What is lent to the calls that are compared, and the calls that are made on it.
 
+use crate::at_least_calls::{random_book, RULES};
+use crate::at_leasts::with_at_leasts;
 use crate::books;
 use crate::calls::{Call, Lent};
 use crate::damage::{damage_sheet, damaged_book};
@@ -8,7 +10,6 @@ use crate::orders::{Line, SLOTS};
 use crate::plain::flat::{fill_sizes, is_sheet, used, Flat, MOST};
 use crate::plain::{load, simple};
 use crate::random::Random;
-use crate::random_books::random_book;
 
 /// The most nodes of a sheet that is run to its end wherever it is met.
 const SHORT: usize = 700;
@@ -93,17 +94,21 @@ fn code(random: &mut Random, book: &[u8]) -> Vec<u8> {
     code
 }
 
-/// A random book that is accepted.
-fn book(random: &mut Random, weight: usize) -> Vec<u8> {
-    match random.below(3) {
-        0 => books::small(random, 6, weight / 3).bytes(),
-        _ => random_book(random, weight),
+/// A random book that is accepted, with at-leasts or without.
+fn book(random: &mut Random, weight: usize, at_leasts: bool) -> Vec<u8> {
+    if !random.one_in(3) {
+        return random_book(random, weight, at_leasts);
     }
+    let small = books::small(random, 6, weight / 3);
+    if at_leasts && random.one_in(2) {
+        return with_at_leasts(random, small).bytes();
+    }
+    small.bytes()
 }
 
 /// Random books and sheets of a weight at most, one in some of them damaged.
-pub fn random_lent(random: &mut Random, weight: usize) -> Lent {
-    let [own, other] = [book(random, weight), book(random, weight)];
+pub fn random_lent(random: &mut Random, weight: usize, at_leasts: bool) -> Lent {
+    let [own, other] = [(); 2].map(|()| book(random, weight, at_leasts));
     let mut sheet = loaded(&own);
     if random.one_in(5) {
         damage_sheet(random, &mut sheet);
@@ -170,7 +175,7 @@ fn withdrawal(random: &mut Random, lent: &Lent) -> Call {
 /// A step that mostly does not apply.
 fn any_step(random: &mut Random, lent: &Lent) -> Call {
     let nodes = lent.sheet.get(1).map_or(0, |&used| usize::from(used));
-    let [rule, place, i, j] = [16, nodes + 2, 4, 3].map(|end| random.below(end));
+    let [rule, place, i, j] = [RULES + 2, nodes + 2, 4, 3].map(|end| random.below(end));
     Call::Step {
         rule: wide(random, rule),
         place: wide(random, place),
@@ -181,7 +186,7 @@ fn any_step(random: &mut Random, lent: &Lent) -> Call {
 
 /// A step that applies, if there is one: the first from a random rule and place on.
 fn step_that_applies(random: &mut Random, sheet: &[u16]) -> Option<Call> {
-    let rules = random.below(14);
+    let rules = random.below(RULES);
     let places = random.below(MOST);
     first_step(sheet, rules, places)
 }
@@ -203,13 +208,13 @@ fn first_step(sheet: &[u16], rules: usize, places: usize) -> Option<Call> {
         sizes: &sizes,
     };
     let count = flat.nodes.len();
-    (0..14).map(|at| 1 + (at + rules) % 14).find_map(|rule| {
-        (0..count)
-            .map(|at| (at + places) % count)
-            .find_map(|place| {
-                let (i, j) = simple::least(flat, rule, place)?;
-                let [rule, place, i, j] = [rule, place, i, j].map(|number| number as u64);
-                Some(Call::Step { rule, place, i, j })
-            })
+    let places = || (0..count).map(|at| (at + places) % count);
+    let mut rules = (0..RULES).map(|at| 1 + (at + rules) % RULES);
+    rules.find_map(|rule| {
+        places().find_map(|place| {
+            let (i, j) = simple::least(flat, rule, place)?;
+            let [rule, place, i, j] = [rule, place, i, j].map(|number| number as u64);
+            Some(Call::Step { rule, place, i, j })
+        })
     })
 }

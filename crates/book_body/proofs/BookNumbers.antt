@@ -1,11 +1,11 @@
 -- Numbers and entries at a place of their bytes: what is left of them from a place on, and after one more.
 use mathlib.Core.Bool.{true, _&&_}
 use mathlib.Core.List.{List, _∷_}
-use mathlib.Core.Path.{_≡_, refl, sym, ap, _∙_}
+use mathlib.Core.Path.{_≡_, sym, _∙_}
 use Prim.Native.Nat.{ℕ, zero, suc, _+_, _*_, _-_, _≤_, _<_}
 use native.Mathlib.Omega.{arith}
 use lib.Dec.{eqb, leb}
-use lib.ListN.{take, drop}
+use lib.ListN.{drop}
 use lib.Seq.{drop-drop}
 use Rattle.model.specs.Book.{word, words, Entry, entries, in-line}
 use Rattle.theory_formats.specs.Bytes.{Bytes, word-drop}
@@ -42,13 +42,7 @@ entries-at m i b h =
     let next : 4 * i + 4 ≡ 4 * (i + 1) = omega arith in
     rw (left, word-drop (4 * i) 0 b, word-drop (4 * i) 2 b, drop-drop 4 (4 * i) b, here, next)
 
--- The first k numbers, and those after them.
-pub take-words : (k n : ℕ) (b : List ℕ) → k ≤ n → take k (words n b) ≡ words k b
-unfolding words
-take-words zero n b h = refl
-take-words (suc k) zero b h = absurd (omega arith)
-take-words (suc k) (suc n) b h = ap (λ xs. word b 0 ∷ xs) (take-words k n (drop 2 b) (omega arith))
-
+-- The numbers after the first k.
 pub drop-words : (k n : ℕ) (b : List ℕ) → drop k (words n b) ≡ words-from n k b
 unfolding words
 drop-words zero n b = let whole : n - 0 ≡ n = omega arith in rw whole

@@ -4,7 +4,7 @@ ghost use mathlib.Core.Bool.{true};
 ghost use Prim.Native.Nat.{_*_, _≤_};
 ghost use lib.ListN.{length};
 ghost use Rattle.model.specs.Base.{all};
-ghost use Rattle.model.specs.Limits.{«most-rules», «most-nodes»};
+ghost use Rattle.model.specs.Limits.{«most-options», «most-rules», «most-nodes»};
 ghost use Rattle.model.specs.Book.{words, entries, «in-line», cut, «body-ok»};
 use common_nodes::Trees;
 
@@ -31,27 +31,28 @@ pub fn are_in_line(s: &[u8], m: usize, total: usize) -> bool
     sum == total
 }
 
-// A body of so many nodes is one tree of nodes for n options.
+// A body of so many nodes is one tree of nodes for n options, its members in their seats.
 fn is_body(s: &[u8], count: usize, n: usize) -> bool
-    requires { ⌜ (count ≤ «most-nodes») × (2 * count ≤ length (now s)) ⌝ }
+    requires { ⌜ (count ≤ «most-nodes») × (2 * count ≤ length (now s)) × (n ≤ «most-options») ⌝ }
     ensures { λ r. ⌜ r ≡ «body-ok» n (words count (now (s .entry))) ⌝ }
 {
-    let mut trees = Trees::Count(0);
+    let mut trees = 0;
     let mut i = count;
     while 0 < i {
         i -= 1;
-        trees = common_nodes::join(common_nodes::word_at(s, 2 * i), n, trees);
+        let from = 2 * i;
+        let joined = common_members::join_book(&s[from..], count - i, n, trees);
+        let Trees::Count(t) = joined else {
+            return false;
+        };
+        trees = t;
     }
-    if let Trees::Count(t) = trees {
-        t == 1
-    } else {
-        false
-    }
+    trees == 1
 }
 
-// Every body is one tree. The contents are in line, so that the bodies lie within the nodes.
+// Every body is one tree, its members in their seats. The contents are in line, so that the bodies lie within the nodes.
 pub fn are_bodies(contents: &[u8], m: usize, s: &[u8], total: usize, n: usize) -> bool
-    requires { ⌜ (m ≤ «most-rules») × (total ≤ «most-nodes») ⌝ }
+    requires { ⌜ (m ≤ «most-rules») × (total ≤ «most-nodes») × (n ≤ «most-options») ⌝ }
     requires { ⌜ (4 * m ≤ length (now contents)) × (2 * total ≤ length (now s)) ⌝ }
     requires { ⌜ «in-line» total 0 (entries m (now contents)) ≡ true ⌝ }
     ensures { λ r. ⌜ r ≡ all («body-ok» n) (cut (entries m (now (contents .entry))) (words total (now (s .entry)))) ⌝ }

@@ -1,19 +1,23 @@
 -- What is written of a sheet, from the sheet's own numbers: its options, its count of nodes, the root's children, the numbers below it.
 use mathlib.Core.Bool.{true}
 use mathlib.Core.List.{List, [], _∷_, _++_, map, append-nil}
+use mathlib.Core.Logic.{⊎-elim}
 use mathlib.Core.Path.{_≡_, sym, ap, _∙_}
 use Prim.Native.Nat.{ℕ, suc, _+_, _-_, _*_, _≤_}
 use native.Mathlib.Omega.{arith}
 use lib.ListN.{length, getD, take, drop, length-append, length-drop}
 use lib.Seq.{drop-cons, length-take-le}
 use Rattle.model.specs.Base.{placed, all}
-use Rattle.model.specs.Forest.{root, Forest, size, kids}
-use Rattle.model.specs.Code.{head, encode, node-of, number-of, children}
+use Rattle.model.specs.Literal.{Literal}
+use Rattle.model.specs.Forest.{Conn, root, Forest, size, kids}
+use Rattle.model.specs.Code.{leaf, head, encode, node-of, number-of, children}
 use Rattle.model.specs.Limits.{sheet-length, sheet-room, most-options, most-rules}
 use Rattle.model.specs.Sheet.{options-in, used-in, numbers-in, nodes-in}
 use Rattle.model.specs.Book.{bytes-of, options-of, lined-up, counts, written-rules, written}
 use Rattle.theory_formats.specs.Loading.{Accepted}
-use Rattle.theory_forms.specs.Numbers.{fits, children-small, node-children}
+use Rattle.theory_forms.specs.Numbers.{fits, children-small}
+use Rattle.theory_forms.specs.Logic.{either}
+use Rattle.theory_forms.specs.Scan.{is-literal, literal-node, inner-node}
 use Rattle.theory_formats.specs.Bytes.{length-bytes}
 use Rattle.theory_forms.specs.Sheets.{Formed}
 use Rattle.theory_reading.specs.Stretches.{all-fit}
@@ -21,6 +25,20 @@ use Rattle.theory_forms.specs.Shape.{shaped-flat, shaped-decode}
 use Rattle.theory_reading.specs.Spans.{spans, spans-counts}
 use Rattle.book_bytes.proofs.TreeContents.{length-contents}
 use Rattle.book_load.proofs.Loaded.{head-of}
+
+-- The children of a node that a number is.
+leaf-head : {l : Literal} {c : Conn} {k m : ℕ} → leaf l ≡ head c m → k ≡ m
+leaf-head e = cc
+
+head-inj : {c d : Conn} {k m : ℕ} → head c k ≡ head d m → k ≡ m
+head-inj e = cc
+
+node-children : (x : ℕ) {c : Conn} {m : ℕ} → node-of x ≡ head c m → children x ≡ m
+node-children x e =
+    ⊎-elim
+    (λ l. leaf-head (sym (literal-node x l .1) ∙ e))
+    (λ l. head-inj (sym (inner-node x l .1) ∙ e))
+    (either (is-literal x))
 
 -- The rules of a sheet: the numbers below the root, as many as the count of nodes without the root, and the root's children.
 module _ (s : List ℕ) (sheet : Formed s) where

@@ -1,13 +1,14 @@
 -- The bounds by which each value fits beside the refusal.
 use mathlib.Core.Bool.{true}
-use mathlib.Core.List.{List}
+use mathlib.Core.List.{List, [], _∷_}
 use mathlib.Core.Option.{none}
 use mathlib.Core.Path.{_≡_, ap}
 use Prim.Native.Nat.{ℕ, _*_, _≤_, _<_}
 use native.Mathlib.Nat.{mul-le-mul-right}
 use native.Mathlib.Omega.{arith}
 use lib.ListN.{length}
-use Rattle.model.specs.Code.{weight}
+use Rattle.model.specs.Forest.{Conn, and, or, root, at-least}
+use Rattle.model.specs.Code.{Node, leaf, head, least-count, leasts, weight}
 use Rattle.model.specs.Sheet.{options-in, used-in, nodes-in, is-sheet}
 use Rattle.model.specs.Book.{options-of, written}
 use Rattle.calls.specs.Outcomes.{accepted}
@@ -39,7 +40,21 @@ write-fits s b out v e =
     let w = write-accepted s b out (a .0) in
     rw (a .1) (written-small s b (w .sheet) (w .book) (w .same))
 
--- The cube of a sheet's nodes and twice its literals, for its weight of at most 4,096.
+-- No list has more nodes of kind 6 than nodes.
+least-once : (c : Conn) → least-count c ≤ 1
+unfolding least-count
+least-once and = omega arith
+least-once or = omega arith
+least-once root = omega arith
+least-once (at-least a) = omega arith
+
+leasts-within : (ns : List Node) → leasts ns ≤ length ns
+unfolding leasts
+leasts-within [] = omega arith
+leasts-within (leaf l ∷ ns) = omega (arith, leasts-within ns)
+leasts-within (head c k ∷ ns) = omega (arith, leasts-within ns, least-once c)
+
+-- The cube of a sheet's nodes, those of kind 6 counted twice, and twice its literals, for its weight of at most 4,096.
 cube-small : (x : ℕ) → x ≤ 12288 → cube x ≤ 1855425871872
 cube-small x h =
     let once : x * x ≤ 12288 * x = mul-le-mul-right x h in
@@ -52,4 +67,4 @@ run-fits s b v e =
     let a = accepted-due _ _ v _ _ e in
     let sheet = run-accepted s (a .0) in
     let few = run-bounded s b (sheet-formed s sheet) in
-    omega (arith, ap (λ r. r .count) (a .1), cube-small (bulk 2 (nodes-in s)) (omega (arith, sheet-weight s sheet)))
+    omega (arith, ap (λ r. r .count) (a .1), cube-small (bulk 2 (nodes-in s)) (omega (arith, sheet-weight s sheet, leasts-within (nodes-in s))))

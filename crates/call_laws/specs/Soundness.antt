@@ -9,7 +9,7 @@ use native.Mathlib.Omega.{arith}
 use lib.ListN.{take, drop, take-append-drop}
 use Rattle.model.specs.Base.{all, any}
 use Rattle.model.specs.Literal.{Literal, complement, same}
-use Rattle.model.specs.Forest.{Conn, and, or, root, Forest, nil, lit, node, constant, _⊕_, kids, has-unit}
+use Rattle.model.specs.Forest.{Conn, and, or, root, at-least, Forest, nil, lit, node, constant, _⊕_, kids, has-unit}
 use Rattle.model.specs.Code.{Node, encode, decode}
 use Rattle.model.specs.Rules.{neutral, deciding, assigned, step}
 use Rattle.theory_forms.specs.Logic.{or-left}
@@ -19,11 +19,12 @@ use Rattle.theory_meaning.specs.Evaluation.{Set, fails-all, fails, values, Valu
 use Rattle.theory_meaning.specs.Clauses.{clauses-root, unit-derived}
 use Rattle.call_laws.specs.Totals.{value-complement, zeros-value}
 use Rattle.call_laws.specs.Valuations.{Consistent, zeros-consistent, with-one-consistent, model-holds, derived-two}
-use Rattle.theory_rewriting.specs.Changes.{Change, absorbed, omitted, unwrapped, spreaded, lifted, merged, factored, change-node}
+use Rattle.theory_rewriting.specs.Changes.{Change, absorbed, omitted, unwrapped, spreaded, lifted, merged, factored, lowered, ended}
+use Rattle.theory_rewriting.specs.Changes.{change-node}
 use Rattle.theory_rewriting.specs.Inversion.{Stepped, stepped}
 use Rattle.theory_meaning.specs.Values.{same-fails, values-⊕, values-onto}
 use Rattle.theory_meaning.specs.Families.{Opposed, absorbed-fails, omitted-fails, unwrapped-values, spread-fails, lifted-fails}
-use Rattle.theory_meaning.specs.Families.{merged-fails, factored-fails}
+use Rattle.theory_meaning.specs.Families.{merged-fails, factored-fails, lowered-fails, ended-fails}
 use Rattle.theory_forms.specs.Rooted.{Rooted, no-root, below-root, no-root-node}
 
 -- What a change asks of a set: that each literal which is a child both before and after it, as the literal of rules 9 and 10
@@ -32,9 +33,9 @@ abbrev pub Suits : Set → Conn → Forest → Forest → Type 0
 Suits s c k g = (l : Literal) → has-unit l k ≡ true → has-unit l (kids g) ≡ true → (c ≡ and → ⊥) → Opposed s c l
 
 kept :
-    (s : Set) (c : Conn) (k m : Forest) {g : Forest} →
-    g ≡ node c m nil →
-    fails s c m ≡ fails s c k →
+    (s : Set) (c : Conn) (k : Forest) {d : Conn} (m : Forest) {g : Forest} →
+    g ≡ node d m nil →
+    fails s d m ≡ fails s c k →
     values s g ≡ fails s c k ∷ []
 unfolding values fails
 kept s c k m r e = ap (values s) r ∙ ap (λ b. b ∷ []) e
@@ -46,21 +47,23 @@ pub sound :
     Suits s c k g →
     values s g ≡ fails s c k ∷ []
 unfolding kids
-sound s {c} {k} (absorbed p q e n r) h =
-    kept s c k (constant (deciding c)) r (absorbed-fails s c p q ∙ ap (fails s c) (sym e))
+sound s {c} {k} (absorbed p q o e n r) h =
+    kept s c k (constant (deciding c)) r (absorbed-fails s c o p q ∙ ap (fails s c) (sym e))
 sound s {c} {k} (omitted p q e r) h =
     kept s c k (p ⊕ q) r (omitted-fails s c p q ∙ ap (fails s c) (sym e))
-sound s {c} {k} (unwrapped n e r) h = ap (values s) r ∙ unwrapped-values s c k e
-sound s {c} {k} (spreaded p q l n e m r) h =
+sound s {c} {k} (unwrapped o n e r) h = ap (values s) r ∙ unwrapped-values s c o k e
+sound s {c} {k} (spreaded p q l o n e m r) h =
     let new = assigned c l p ⊕ lit l (assigned c l q) in
     let before = ap (has-unit l) e ∙ unit-here l p q in
     let still = ap (λ t. has-unit l (kids t)) r ∙ unit-here l (assigned c l p) (assigned c l q) in
-    kept s c k new r (spread-fails s c l p q (h l before still n) ∙ ap (fails s c) (sym e))
-sound s {c} {k} (lifted p a b q l n e r) h =
-    kept s c k (p ⊕ lit l (node and (a ⊕ b) q)) r (lifted-fails s c l p a b q n ∙ ap (fails s c) (sym e))
+    kept s c k new r (spread-fails s c o l p q (h l before still n) ∙ ap (fails s c) (sym e))
+sound s {c} {k} (lifted p a b q l o n e r) h =
+    kept s c k (p ⊕ lit l (node and (a ⊕ b) q)) r (lifted-fails s c o l p a b q n ∙ ap (fails s c) (sym e))
 sound s {c} {k} (merged p a q n e r) h =
     kept s c k (p ⊕ a ⊕ q) r (rw n (merged-fails s p a q) ∙ ap (fails s c) (sym e))
 sound s {c} {k} (factored a n e m r) h = kept s c k _ r (rw n (factored-fails s a k e))
+sound s {c} {k} (lowered p q a n e r) h = kept s c k (p ⊕ q) r (rw (n, e) (lowered-fails s a p q))
+sound s {c} {k} (ended a d m n e r) h = kept s c k m r (rw n (ended-fails s a k e))
 
 -- The same for the change that a step did; the step then keeps the values of all trees.
 abbrev pub Suits-step : Set → {place : ℕ} {ns ms : List Node} → Stepped place ns ms → Type 0
@@ -144,6 +147,7 @@ unfolding neutral deciding fails-all any all
 inner-suits s h and k g n l before still m = absurd (m refl)
 inner-suits s h or k g n l before still m = h l
 inner-suits s h root k g n l before still m = absurd (n refl)
+inner-suits s h (at-least a) k g n l before still m = h l
 
 -- A change of a root leaves a root.
 root-stays :
@@ -153,7 +157,7 @@ root-stays :
     g ≡ node root (kids g) nil
 unfolding kids
 root-stays x h =
-    ⊎-elim (λ w. rw (w .1, h)) (λ w. absurd (w .0 h)) (change-node x)
+    ⊎-elim (λ w. rw (w .2, w .3 h)) (λ w. absurd (w .0 h)) (change-node x)
 
 suited-holds :
     (u : Valuation) {place : ℕ} {ns ms : List Node} (t : Stepped place ns ms) →

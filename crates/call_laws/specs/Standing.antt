@@ -8,7 +8,7 @@ use native.Mathlib.Omega.{arith}
 use borrow.Author.Tests.{eq-eqb}
 use lib.Dec.{eqb}
 use Rattle.model.specs.Literal.{Literal, option, same}
-use Rattle.model.specs.Forest.{and, or, root, Forest, nil, lit, node, _⊕_, first, after, literal-at, conjunction-at}
+use Rattle.model.specs.Forest.{and, or, root, at-least, Forest, nil, lit, node, _⊕_, first, after, literal-at, conjunction-at}
 use Rattle.model.specs.Forest.{literals-only, has-unit, mentions}
 use Rattle.model.specs.Rules.{shares, groups}
 use Rattle.theory_forms.specs.Logic.{true-false, and-split, or-split, or-left, or-right}
@@ -72,3 +72,4 @@ group-index l (lit x f) e n = let w = group-index l f e n in (suc (w .0), w .1, 
 group-index l (node and k f) e n = (0, k, refl, refl, and-split (has-unit l k) (shares l f) e .0)
 group-index l (node or k f) e n = true-false (sym e)
 group-index l (node root k f) e n = true-false (sym e)
+group-index l (node (at-least b) k f) e n = true-false (sym e)

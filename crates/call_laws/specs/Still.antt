@@ -3,21 +3,23 @@ use mathlib.Core.Bool.{Bool, true, false, _&&_, _||_}
 use mathlib.Core.Logic.{_⊎_, inl, inr, ⊎-elim}
 use mathlib.Core.Option.{none, some}
 use mathlib.Core.Path.{_≡_, refl, sym, ap, _∙_}
-use Prim.Native.Nat.{ℕ, zero, suc, _+_, _≤_}
+use Prim.Native.Nat.{ℕ, zero, suc, _+_, _≤_, _<_}
 use native.Mathlib.Omega.{arith}
-use borrow.Author.Tests.{leb-true, leb-false, le-leb, eqb-false, eq-eqb}
-use lib.Dec.{eqb, leb}
+use borrow.Author.Tests.{leb-true, leb-false, le-leb, ltb-false, eqb-false, eq-eqb, ne-eqb}
+use lib.Dec.{eqb, leb, ltb}
 use Rattle.model.specs.Base.{only-if, then}
 use Rattle.model.specs.Literal.{Literal, complement, option, same}
-use Rattle.model.specs.Forest.{Conn, and, or, root, same-conn, Forest, nil, lit, node, size, first, after, literal-at}
+use Rattle.model.specs.Forest.{Conn, and, or, root, at-least, same-conn, Forest, nil, lit, node, size, first, after, literal-at}
 use Rattle.model.specs.Forest.{conjunction-at, constant-at, has-unit, mentions}
 use Rattle.model.specs.Code.{conn-kind}
 use Rattle.model.specs.Rules.{neutral, deciding, shares, groups, absorb, omit, unwrap, spread, lift, factor, absorbs, omits}
-use Rattle.model.specs.Rules.{unwraps, spreads, lifts, factors, change, Row, row, table, row-of, turn}
+use Rattle.model.specs.Rules.{unwraps, spreads, lifts, factors, drop-member, decided, decide, renamed, rename, drops, decides, renames}
+use Rattle.model.specs.Rules.{change, Row, row, table, row-of, turn}
 use Rattle.theory_forms.specs.Logic.{true-false, none-some, and-join, or-split, or-neither, either, fails-if, only-none}
+use Rattle.theory_forms.specs.Logic.{pick-none, first-none}
 use Rattle.theory_forms.specs.Literals.{same-is, complement-other, option-complement}
 use Rattle.theory_forms.specs.Forests.{size-⊕, cut-at, size-after, size-zero, literal-here, conjunction-here, constant-here}
-use Rattle.theory_forms.specs.Forests.{groups-size, mentions-some, past-end}
+use Rattle.theory_forms.specs.Forests.{grouping, groups-size, mentions-some, past-end}
 use Rattle.call_laws.specs.Irreducible.{Still}
 use Rattle.call_laws.specs.Standing.{stands, stands-⊕, stands-mentions, unit-index, group-index}
 
@@ -43,16 +45,30 @@ module _ (k : Forest) where
       let turned : turn w c i j k ≡ none = sym (rw e) ∙ h r i j in
       sym (rw fits) ∙ turned
 
-  -- Where there are two children or more, none of them is false: rules 1, 5 and 3.
+  -- At least so many of still members: two or more, and fewer than all. Rules 16 and 17.
+  pub still-asked : (a : ℕ) → Still (at-least a) k → (2 ≤ a) × (a < size k)
+  unfolding row-of table change decide decided rename renamed then only-if conn-kind
+  still-asked a h =
+      let x = pick-none (eqb a 0) _ _ (refused 16 (row 6 0 decides) refl (at-least a) refl h (omega arith) 0 0) in
+      let y = pick-none (eqb a 1) _ _ (refused 17 (row 6 0 renames) refl (at-least a) refl h (omega arith) 0 0) in
+      let low = eqb-false a 0 (x .0) in
+      let next = eqb-false a 1 (y .0) in
+      let high = ltb-false (size k) a (only-none (ltb (size k) a) _ (x .1)) in
+      let other = eqb-false a (size k) (only-none (eqb a (size k)) _ (y .1)) in
+      (omega arith, omega arith)
+
+  -- Where there are two children or more, none of them is false: rules 1, 5, 3 and 15.
   pub no-false :
       (c : Conn) →
       Still c k →
       2 ≤ size k →
       NoFalse k
-  unfolding row-of table change absorb omit deciding neutral conn-kind
+  unfolding row-of table change absorb omit drop-member deciding neutral conn-kind
   no-false and h n i = only-none _ _ (refused 1 (row 3 2 absorbs) refl and refl h n i 0)
   no-false or h n i = only-none _ _ (refused 5 (row 4 1 omits) refl or refl h (omega arith) i 0)
   no-false root h n i = only-none _ _ (refused 3 (row 5 2 absorbs) refl root refl h n i 0)
+  no-false (at-least a) h n i =
+      only-none _ _ (first-none _ _ (refused 15 (row 6 1 drops) refl (at-least a) refl h (omega arith) i 0) .0)
 
   -- At the root no child is false, or false is the only child.
   pub only-false : Still root k → (k ≡ node or nil nil) ⊎ NoFalse k
@@ -68,7 +84,7 @@ module _ (k : Forest) where
       go (inr n) (inr q) =
           inr (λ i. elim i [ zero ↦ q | suc j ↦ ap (constant-at or) (past-end (suc j) k (omega (arith, leb-false 2 (size k) n))) ])
 
-  -- A group has no child or at least two: rules 7 and 8.
+  -- A node below the root has no child or at least two: rules 7 and 8; of kind 6 by what is asked.
   pub empty-or-two :
       (c : Conn) →
       same-conn root c ≡ false →
@@ -81,6 +97,7 @@ module _ (k : Forest) where
       single and e h n = only-none _ _ (refused 7 (row 3 1 unwraps) refl and refl h n 0 0)
       single or e h n = only-none _ _ (refused 8 (row 4 1 unwraps) refl or refl h n 0 0)
       single root e h n = true-false e
+      single (at-least a) e h n = let w = still-asked a h in ne-eqb (size k) 1 (λ q. omega arith)
 
       go : (leb 1 (size k) ≡ true) ⊎ (leb 1 (size k) ≡ false) → (1 ≤ size k → eqb (size k) 1 ≡ false) → (k ≡ nil) ⊎ (2 ≤ size k)
       go (inl p) s = let n = leb-true 1 (size k) p in inr (omega (arith, eqb-false (size k) 1 (s n)))
@@ -89,15 +106,16 @@ module _ (k : Forest) where
   -- In a disjunction and at the root, no other child mentions the option of a child that is a literal: rules 9 and 10.
   pub literal-alone :
       (c : Conn) →
+      grouping c ≡ true →
       same-conn and c ≡ false →
       Still c k →
       (i : ℕ) {l : Literal} →
       literal-at (after i k) ≡ some l →
       (mentions (option l) (first i k) ≡ false) × (mentions (option l) (after (suc i) k) ≡ false)
-  unfolding row-of table same-conn change spread size then conn-kind
-  literal-alone c e h i {l} p =
+  unfolding row-of table grouping same-conn change spread size then conn-kind
+  literal-alone c o e h i {l} p =
       or-neither (mentions (option l) (first i k)) (mentions (option l) (after (suc i) k))
-      (fails-if elsewhere (λ m. true-false (sym m ∙ only-none _ _ (rw p at (go c e h (two m))))))
+      (fails-if elsewhere (λ m. true-false (sym m ∙ only-none _ _ (rw p at (go c o e h (two m))))))
     where
       elsewhere : Bool
       elsewhere = mentions (option l) (first i k) || mentions (option l) (after (suc i) k)
@@ -111,30 +129,33 @@ module _ (k : Forest) where
           (λ q. omega (arith, mentions-some (option l) (after (suc i) k) q))
           (or-split (mentions (option l) (first i k)) _ m)
 
-      go : (d : Conn) → same-conn and d ≡ false → Still d k → 2 ≤ size k → change spreads d i 0 k ≡ none
-      go and e h n = true-false e
-      go or e h n = refused 9 (row 4 2 spreads) refl or refl h n i 0
-      go root e h n = refused 10 (row 5 2 spreads) refl root refl h n i 0
+      go : (d : Conn) → grouping d ≡ true → same-conn and d ≡ false → Still d k → 2 ≤ size k → change spreads d i 0 k ≡ none
+      go and o e h n = true-false e
+      go or o e h n = refused 9 (row 4 2 spreads) refl or refl h n i 0
+      go root o e h n = refused 10 (row 5 2 spreads) refl root refl h n i 0
+      go (at-least a) o e h n = true-false (sym o)
 
   -- In a conjunction and at the root, no child that is a conjunction has a literal among its children: rules 11 and 12.
   pub nothing-to-lift :
       (c : Conn) →
+      grouping c ≡ true →
       same-conn or c ≡ false →
       Still c k →
       (l : Literal) (i : ℕ) (m : Forest) →
       conjunction-at (after i k) ≡ some m →
       has-unit l m ≡ false
-  unfolding row-of table same-conn change lift size then conn-kind
-  nothing-to-lift c e h l i m p =
-      fails-if (has-unit l m) (λ u. let w = unit-index l m u in none-some (sym (rw (p, w .1) at (go c e h (w .0)))))
+  unfolding row-of table grouping same-conn change lift size then conn-kind
+  nothing-to-lift c o e h l i m p =
+      fails-if (has-unit l m) (λ u. let w = unit-index l m u in none-some (sym (rw (p, w .1) at (go c o e h (w .0)))))
     where
       one : 1 ≤ size k
       one = let here = ap size (conjunction-here i k p) in omega (arith, size-after i k)
 
-      go : (d : Conn) → same-conn or d ≡ false → Still d k → (j : ℕ) → change lifts d i j k ≡ none
-      go and e h j = refused 11 (row 3 1 lifts) refl and refl h one i j
-      go or e h j = true-false e
-      go root e h j = refused 12 (row 5 1 lifts) refl root refl h one i j
+      go : (d : Conn) → grouping d ≡ true → same-conn or d ≡ false → Still d k → (j : ℕ) → change lifts d i j k ≡ none
+      go and o e h j = refused 11 (row 3 1 lifts) refl and refl h one i j
+      go or o e h j = true-false e
+      go root o e h j = refused 12 (row 5 1 lifts) refl root refl h one i j
+      go (at-least a) o e h j = true-false (sym o)
 
   -- In a disjunction with two groups, these are not all conjunctions that have one literal in common: rule 14.
   pub nothing-to-factor :
@@ -158,10 +179,10 @@ module _ (k : Forest) where
       has-unit (complement l) k ≡ true →
       stands l k ≡ true →
       ⊥
-  unfolding same-conn stands
+  unfolding grouping same-conn stands conn-kind
   complement-absent h l u e =
       let i = unit-index (complement l) k u in
-      let alone = literal-alone root refl h (i .0) (i .1) in
+      let alone = literal-alone root refl refl h (i .0) (i .1) in
       let whole = sym (stands-⊕ l (first (i .0) k) _) ∙ ap (stands l) (cut-at (i .0) k _ (literal-here (i .0) k (i .1))) ∙ e in
       ⊎-elim
       (unseen (first (i .0) k) (alone .0))

@@ -1,4 +1,5 @@
--- Document 01's starred cases, and the first one's book by its bytes, computed from the definitions: one list, one theorem.
+-- Document 01's starred cases, the first one's book by its bytes, and the cases of document 02's requests, computed from the
+-- definitions: one list, one theorem.
 use mathlib.Core.Bool.{Bool, true, false}
 use mathlib.Core.List.{List, [], _∷_, _++_, map}
 use mathlib.Core.Path.{_≡_, refl}
@@ -19,7 +20,7 @@ use Rattle.calls.specs.Chains
 use Rattle.calls.specs.Calls
 use Rattle.model.specs.Base.{maybe}
 use Rattle.model.specs.Literal.{Literal, pos, neg}
-use Rattle.model.specs.Forest.{Forest, nil, lit, node, and, or, root}
+use Rattle.model.specs.Forest.{Forest, nil, lit, node, and, or, root, at-least}
 use Rattle.model.specs.Code.{Node, encode, decode, number-of}
 use Rattle.model.specs.Clauses.{clauses}
 use Rattle.model.specs.Propagation.{Report, report}
@@ -66,7 +67,7 @@ compute c =
       left = map number-of (run 20 ns .nodes);
     }
 
--- "P, Q, R are options 0, 1, 2."
+-- "P, Q, R are options 0, 1, 2"; S is option 3.
 abbrev pub P : Forest → Forest
 P f = lit (pos 0) f
 
@@ -75,6 +76,9 @@ Q f = lit (pos 1) f
 
 abbrev pub R : Forest → Forest
 R f = lit (pos 2) f
+
+abbrev pub S : Forest → Forest
+S f = lit (pos 3) f
 
 abbrev pub not-P : Forest → Forest
 not-P f = lit (neg 0) f
@@ -85,15 +89,22 @@ not-Q f = lit (neg 1) f
 abbrev pub not-R : Forest → Forest
 not-R f = lit (neg 2) f
 
--- A rule that is any of its parts, a part that is all of its parts, and what follows.
+-- A rule that is any of its parts, a part that is all of its parts, one that is at least so many of them, and what follows.
 abbrev pub any-of : Forest → Forest → Forest
 any-of k f = node or k f
 
 abbrev pub all-of : Forest → Forest → Forest
 all-of k f = node and k f
 
+abbrev pub some-of-these : ℕ → Forest → Forest → Forest
+some-of-these a k f = node (at-least a) k f
+
 abbrev pub rules : ℕ → Forest → Case
 rules n f = record { options = n; rules = f; choices = [] }
+
+-- Document 02, U4: "Engineers write 'two of these four seals' as long nests." Two of P, Q, R, S, and choices.
+abbrev pub two-of-four : List Literal → Case
+two-of-four ls = record { options = 4; rules = some-of-these 2 (P (Q (R (S nil)))) nil; choices = ls }
 
 unfoldable pub starred-cases : List Case
 starred-cases =
@@ -114,6 +125,16 @@ starred-cases =
     -- only rule false; only rule true
     ∷ rules 0 (any-of nil nil)
     ∷ rules 0 (all-of nil nil)
+    -- 2 of (P, Q, R, S); choices not P, not Q; choices not P, not Q, not R
+    ∷ two-of-four []
+    ∷ two-of-four (neg 0 ∷ neg 1 ∷ [])
+    ∷ two-of-four (neg 0 ∷ neg 1 ∷ neg 2 ∷ [])
+    -- 0 of (P, Q); 3 of (P, Q); 2 of (P, true, Q, false)
+    ∷ rules 2 (some-of-these 0 (P (Q nil)) nil)
+    ∷ rules 2 (some-of-these 3 (P (Q nil)) nil)
+    ∷ rules 2 (some-of-these 2 (P (all-of nil (Q (any-of nil nil)))) nil)
+    -- P or 2 of (P, Q, R)
+    ∷ rules 3 (any-of (P (some-of-these 2 (P (Q (R nil))) nil)) nil)
     ∷ []
 
 -- "Eight zero bytes: a book", loaded into a target of any contents.
@@ -148,7 +169,7 @@ abbrev pub result : List ℕ → Report → List ℕ → List ℕ → List ℕ �
 result ns r ss ps left = record { nodes = ns; report = r; steps = ss; places = ps; settled = true; left = left }
 
 -- The starred cases. Where document 01 gives the steps they are its steps: 9, 1, 7, 5, 8; 5, 8, 10, 1, 7, 3; 14, 7, 7, 8, 12, 7;
--- none and one.
+-- none and one. Then those of document 02, U4.
 pub starred :
     all-computed
     ≡ record {
@@ -207,21 +228,56 @@ pub starred :
           -- only rule false; only rule true
           ∷ result (20481 ∷ 16384 ∷ []) (contradiction 0) [] [] (20481 ∷ 16384 ∷ [])
           ∷ result (20481 ∷ 12288 ∷ []) (told []) (6 ∷ []) (0 ∷ []) (20480 ∷ [])
+          -- 2 of (P, Q, R, S); choices not P, not Q; choices not P, not Q, not R
+          ∷ result
+          (20481 ∷ 24834 ∷ 4096 ∷ 4097 ∷ 4098 ∷ 4099 ∷ [])
+          (told (0 ∷ 0 ∷ 0 ∷ 0 ∷ []))
+          []
+          []
+          (20481 ∷ 24834 ∷ 4096 ∷ 4097 ∷ 4098 ∷ 4099 ∷ [])
+          ∷ result
+          (20483 ∷ 24834 ∷ 4096 ∷ 4097 ∷ 4098 ∷ 4099 ∷ 8192 ∷ 8193 ∷ [])
+          (told (2 ∷ 2 ∷ 1 ∷ 1 ∷ []))
+          (10 ∷ 10 ∷ 15 ∷ 15 ∷ 17 ∷ 12 ∷ 7 ∷ [])
+          (0 ∷ 0 ∷ 1 ∷ 1 ∷ 1 ∷ 0 ∷ 2 ∷ [])
+          (20484 ∷ 4098 ∷ 4099 ∷ 8192 ∷ 8193 ∷ [])
+          ∷ result
+          (20484 ∷ 24834 ∷ 4096 ∷ 4097 ∷ 4098 ∷ 4099 ∷ 8192 ∷ 8193 ∷ 8194 ∷ [])
+          (contradiction 4)
+          (10 ∷ 10 ∷ 10 ∷ 15 ∷ 15 ∷ 15 ∷ 16 ∷ 3 ∷ [])
+          (0 ∷ 0 ∷ 0 ∷ 1 ∷ 1 ∷ 1 ∷ 1 ∷ 0 ∷ [])
+          (20481 ∷ 16384 ∷ [])
+          -- 0 of (P, Q); 3 of (P, Q); 2 of (P, true, Q, false)
+          ∷ result (20481 ∷ 24704 ∷ 4096 ∷ 4097 ∷ []) (told (0 ∷ 0 ∷ [])) (16 ∷ 6 ∷ []) (1 ∷ 0 ∷ []) (20480 ∷ [])
+          ∷ result (20481 ∷ 24707 ∷ 4096 ∷ 4097 ∷ []) (contradiction 2) (16 ∷ []) (1 ∷ []) (20481 ∷ 16384 ∷ [])
+          ∷ result
+          (20481 ∷ 24834 ∷ 4096 ∷ 12288 ∷ 4097 ∷ 16384 ∷ [])
+          (told (0 ∷ 0 ∷ []))
+          (15 ∷ 15 ∷ 17 ∷ [])
+          (1 ∷ 1 ∷ 1 ∷ [])
+          (20481 ∷ 16386 ∷ 4096 ∷ 4097 ∷ [])
+          -- P or 2 of (P, Q, R)
+          ∷ result
+          (20481 ∷ 16386 ∷ 4096 ∷ 24770 ∷ 4096 ∷ 4097 ∷ 4098 ∷ [])
+          (told (0 ∷ 0 ∷ 0 ∷ []))
+          (9 ∷ 15 ∷ 17 ∷ [])
+          (1 ∷ 3 ∷ 3 ∷ [])
+          (20481 ∷ 16386 ∷ 4096 ∷ 12290 ∷ 4097 ∷ 4098 ∷ [])
           ∷ [];
       empty = record { answer = accepted tt; lent = 0 ∷ 1 ∷ 20480 ∷ replicate 4095 0 };
     }
 unfolding Base.pick Base.only-if Base.first-of Base.is-some Base.all Base.any Base.least Base.maybe Base.then Base.same-list
     Literal.complement Literal.option Literal.same Literal.has
     Forest.same-conn Forest._⊕_ Forest.size Forest.first Forest.after Forest.kids Forest.literal-at Forest.conjunction-at
-    Forest.constant-at Forest.literals-only Forest.has-unit Forest.mentions
+    Forest.constant-at Forest.literals-only Forest.has-unit Forest.mentions Forest.members Forest.seated Forest.all-seated
     Code.encode Code.push Code.decode Code.joined Code.trees Code.exactly-one Code.one-tree Code.literals Code.weight Code.kind
     Code.value Code.number Code.conn-kind Code.conn-value Code.children Code.number-of Code.node-of
     Clauses.unions Clauses.need Clauses.no-tree Clauses.one-tree-more Clauses.some-of Clauses.clauses
     Propagation.others Propagation.refuted Propagation.forced-in Propagation.forced Propagation.propagate Propagation.facts-of
     Propagation.conflict Propagation.mark Propagation.count-from Propagation.report-by Propagation.report
     Rules.neutral Rules.deciding Rules.assigned Rules.without-unit Rules.shares Rules.units Rules.groups-without Rules.groups
-    Rules.absorb Rules.omit Rules.unwrap Rules.spread Rules.lift Rules.merge Rules.factor Rules.change Rules.table Rules.row-of
-    Rules.turn Rules.rewrite Rules.step
+    Rules.absorb Rules.omit Rules.unwrap Rules.spread Rules.lift Rules.merge Rules.factor Rules.one-less Rules.lower Rules.drop-member
+    Rules.decided Rules.decide Rules.renamed Rules.rename Rules.change Rules.table Rules.row-of Rules.turn Rules.rewrite Rules.step
     Strategy.least-j Strategy.least-i Strategy.least-place Strategy.next Strategy.contract Strategy.next-step Strategy.one-more
     Strategy.run
     Sheet.body-node Sheet.options-in Sheet.used-in Sheet.numbers-in Sheet.nodes-in Sheet.rest-in Sheet.rooted Sheet.is-sheet

@@ -71,6 +71,7 @@ withdraw-refusal t b k =
     or-else due (not (has-line t k)) line-refused
     or-else due (leaves-too-much t b) full-refused
 
+-- Document 02, U4: "refusal 9 is for rules outside 1 to 17".
 unfoldable pub step-refusal : List ℕ → ℕ → ℕ → ℕ → ℕ → Option Refusal
 step-refusal s rule place i j =
     due (not (is-sheet s)) sheet-refused

@@ -10,7 +10,7 @@ use Rattle.calls.specs.Lines.{State, counted}
 use Rattle.calls.specs.History.{Call, key, withdraw, step, run, after-calls, Account, loaded, account-calls, meaning, is-stretch}
 use Rattle.calls.specs.History.{steps-of, ends-settled}
 use Rattle.case_samples.specs.Opened.{definitions}
-use Rattle.case_samples.specs.Samples.{P, Q, not-P, not-Q, any-of, root, book, first-book, sheet, lined, samples}
+use Rattle.case_samples.specs.Samples.{P, Q, R, not-P, not-Q, True, any-of, root, at-least, book, first-book, sheet, lined, samples}
 
 -- "P or Q": the book, the sheet that the loader fills from it (`CallCases`), and the sheet with "choice not Q".
 unfoldable pub P-or-Q : List ℕ
@@ -92,10 +92,26 @@ pub account-means :
 unfolding definitions samples
 account-means = refl
 
+-- Document 02, U4: "every union of members' clauses over members - k + 1 of them". Of 2 of (P, Q, R) these are P, Q; P, R; Q, R. Of 2 of
+-- (P, true, not Q) there is P, not Q alone: true has no clause to take.
+pub members-mean :
+    map (λ ns. meaning (record { book = book ("P" ∷ "Q" ∷ "R" ∷ []) (ns ∷ []); choices = []; ledger = [] }))
+    ((at-least 2 3 ∷ P ∷ Q ∷ R ∷ []) ∷ (at-least 2 3 ∷ P ∷ True ∷ not-Q ∷ []) ∷ [])
+    ≡ ((pos 0 ∷ pos 1 ∷ []) ∷ (pos 0 ∷ pos 2 ∷ []) ∷ (pos 1 ∷ pos 2 ∷ []) ∷ [])
+    ∷ ((pos 0 ∷ neg 1 ∷ []) ∷ [])
+    ∷ []
+unfolding definitions samples
+members-mean = refl
+
 -- "n is the sheet's nodes (root counted) and l its marks just before the stretch": 5 and 3 after the first choice, so the cube of 11.
 pub stretch-bound : most-steps (nodes-in (after-first-choice .sheet)) ≡ 1331
 unfolding definitions samples after-first-choice
 stretch-bound = refl
+
+-- Document 02, U4: "The step bound counts each kind 6 node twice": 6 nodes, 2 of them of kind 6, and 3 marks, so the cube of 14.
+pub least-bound : most-steps (nodes-in (sheet 2 (root 2 ∷ at-least 1 2 ∷ P ∷ Q ∷ at-least 1 1 ∷ P ∷ []))) ≡ 2744
+unfolding definitions samples
+least-bound = refl
 
 -- Document 02, U2, in lists. The first lines hold "not Q", which was never keyed, and count it. P is keyed, a run stops after one step,
 -- and P, line 1, is taken back.

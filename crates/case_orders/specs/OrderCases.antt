@@ -74,7 +74,7 @@ on-sheets =
     (said (reportOf [] [] .answer), said (reportOf s [] .answer))
     ∷ (said (reportOf [] (0 ∷ 0 ∷ []) .answer), said (reportOf s (0 ∷ 0 ∷ []) .answer))
     ∷ (said (stepOf [] 0 0 0 0 .answer), said (stepOf s 0 0 0 0 .answer))
-    ∷ (said (stepOf s 15 9 0 0 .answer), said (stepOf s 14 9 0 0 .answer))
+    ∷ (said (stepOf s 18 9 0 0 .answer), said (stepOf s 17 9 0 0 .answer))
     ∷ (said (completeOf []), said (completeOf s))
     ∷ (said (runOf [] 1 .answer), said (runOf s 1 .answer))
     ∷ []

@@ -30,12 +30,12 @@ of-literals = tt
 
 of-forests : Unit {0}
 unfolding Forest.same-conn Forest._⊕_ Forest.size Forest.first Forest.after Forest.kids Forest.literal-at Forest.conjunction-at
-    Forest.constant-at Forest.literals-only Forest.has-unit Forest.mentions
+    Forest.constant-at Forest.literals-only Forest.has-unit Forest.mentions Forest.members Forest.seated Forest.all-seated
 of-forests = tt
 
 of-nodes : Unit {0}
-unfolding Code.encode Code.push Code.decode Code.joined Code.trees Code.exactly-one Code.one-tree Code.literals Code.weight
-    Code.kind Code.value Code.number Code.conn-kind Code.conn-value Code.children Code.number-of Code.node-of
+unfolding Code.encode Code.push Code.decode Code.joined Code.trees Code.exactly-one Code.one-tree Code.literals Code.least-count
+    Code.leasts Code.weight Code.kind Code.value Code.number Code.conn-kind Code.conn-value Code.children Code.number-of Code.node-of
 of-nodes = tt
 
 of-meaning : Unit {0}
@@ -46,8 +46,9 @@ of-meaning = tt
 
 of-rules : Unit {0}
 unfolding Rules.neutral Rules.deciding Rules.assigned Rules.without-unit Rules.shares Rules.units Rules.groups-without
-    Rules.groups Rules.absorb Rules.omit Rules.unwrap Rules.spread Rules.lift Rules.merge Rules.factor Rules.change Rules.table
-    Rules.row-of Rules.is-rule Rules.turn Rules.rewrite Rules.step
+    Rules.groups Rules.absorb Rules.omit Rules.unwrap Rules.spread Rules.lift Rules.merge Rules.factor Rules.one-less Rules.lower
+    Rules.drop-member Rules.decided Rules.decide Rules.renamed Rules.rename Rules.change Rules.table Rules.row-of
+    Rules.is-rule Rules.turn Rules.rewrite Rules.step
 of-rules = tt
 
 of-runs : Unit {0}

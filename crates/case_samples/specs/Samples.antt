@@ -1,6 +1,6 @@
--- Texts, books and sheets for the computed cases, spelled as document 01 spells them and by none of the definitions under test.
+-- Texts, books and sheets for the computed cases, spelled as documents 01 and 02 spell them and by none of the definitions under test.
 use mathlib.Core.List.{List, [], _∷_, _++_}
-use Prim.Native.Nat.{ℕ, _+_, _-_, _/_, _%_}
+use Prim.Native.Nat.{ℕ, _+_, _-_, _*_, _/_, _%_}
 use Prim.Native.Char
 use Prim.Native.String
 use Prim.Native.String.{String}
@@ -32,7 +32,11 @@ any-of k = 16384 + k
 abbrev pub root : ℕ → ℕ
 root k = 20480 + k
 
--- "P, Q, R are options 0, 1, 2." "An empty all-of is true, an empty any-of is false."
+-- Document 02, U4: "A new node kind 6 has value members × 64 + k": at least k of so many members.
+abbrev pub at-least : ℕ → ℕ → ℕ
+at-least k members = 24576 + members * 64 + k
+
+-- "P, Q, R are options 0, 1, 2"; S is option 3. "An empty all-of is true, an empty any-of is false."
 abbrev pub P : ℕ
 P = plain 0
 
@@ -41,6 +45,9 @@ Q = plain 1
 
 abbrev pub R : ℕ
 R = plain 2
+
+abbrev pub S : ℕ
+S = plain 3
 
 abbrev pub not-P : ℕ
 not-P = barred 0

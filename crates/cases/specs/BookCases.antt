@@ -100,7 +100,7 @@ unfolding definitions samples checked contents
 contents-checked = refl
 
 -- "5 a malformed body", in a book of one option. Good bodies first. Then: no such option; a kind that no body has; children that are
--- lacking, or too many; the children of one body in the next.
+-- lacking, or too many; the children of one body in the next. (`MemberCases` has kind 6.)
 unfoldable pub bodies : List ℕ
 bodies =
     map
@@ -110,7 +110,7 @@ bodies =
     ∷ ((barred 1 ∷ []) ∷ [])
     ∷ ((0 ∷ []) ∷ [])
     ∷ ((root 0 ∷ []) ∷ [])
-    ∷ ((24576 ∷ []) ∷ [])
+    ∷ ((28672 ∷ []) ∷ [])
     ∷ ((all-of 1 ∷ root 0 ∷ []) ∷ [])
     ∷ ((all-of 1 ∷ []) ∷ [])
     ∷ ((any-of 2 ∷ P ∷ []) ∷ [])

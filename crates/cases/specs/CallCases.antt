@@ -1,6 +1,6 @@
--- Document 01's starred cases by the calls: each is loaded from its book's bytes, chosen on, run and reported. (What is said of its
--- sheet before the run is computed in `Cases`.) Then the "complete" question, outputs of a report, budgets, and the last choice that
--- fits.
+-- Document 01's starred cases by the calls, and cases of document 02, U4: each is loaded from its book's bytes, chosen on, run and
+-- reported. (What is said of its sheet before the run is computed in `Cases`.) Then reports on sheets with kind 6 before any step, the
+-- "complete" question, outputs of a report, budgets, and the last choice that fits.
 use mathlib.Core.Bool.{Bool, true, false}
 use mathlib.Core.List.{List, [], _∷_, _++_, map}
 use mathlib.Core.Path.{_≡_, refl}
@@ -12,7 +12,8 @@ use Rattle.calls.specs.Outcomes.{Answer, refused, accepted, Outcome}
 use Rattle.calls.specs.Lines.{State}
 use Rattle.calls.specs.Calls.{Ran, loadOf, keyOf, runOf, reportOf, completeOf}
 use Rattle.case_samples.specs.Opened.{definitions}
-use Rattle.case_samples.specs.Samples.{P, Q, R, not-P, not-Q, not-R, True, False, all-of, any-of, root, book, sheet, lined, said, samples}
+use Rattle.case_samples.specs.Samples.{P, Q, R, S, not-P, not-Q, not-R, True, False, all-of, any-of, root, at-least, book, sheet}
+use Rattle.case_samples.specs.Samples.{lined, said, samples}
 
 -- A case: its codes, its rules, its choices (the option, and whether it is barred).
 pub record Order : Type 0 where
@@ -128,6 +129,97 @@ pub starred-by-calls :
     ∷ []
 unfolding definitions samples key-all left-by call orders
 starred-by-calls = refl
+
+-- Document 02, U4: 2 of (P, Q, R, S) with the choices not P, not Q; the same where not R is chosen too; 0 of 0 as the only rule; 1 of 0
+-- or P. The last two have no member, and a rule applies.
+unfoldable pub least-orders : List Order
+least-orders =
+    let seals = (at-least 2 4 ∷ P ∷ Q ∷ R ∷ S ∷ []) ∷ [] in
+    let codes : List String = "P" ∷ "Q" ∷ "R" ∷ "S" ∷ [] in
+    record { codes = codes; rules = seals; choices = (0, true) ∷ (1, true) ∷ [] }
+    ∷ record { codes = codes; rules = seals; choices = (0, true) ∷ (1, true) ∷ (2, true) ∷ [] }
+    ∷ order [] ((at-least 0 0 ∷ []) ∷ [])
+    ∷ order ("P" ∷ []) ((any-of 2 ∷ at-least 1 0 ∷ P ∷ []) ∷ [])
+    ∷ []
+
+pub least-by-calls :
+    map call least-orders
+    ≡ record {
+      loaded = filled 4 (root 1 ∷ at-least 2 4 ∷ P ∷ Q ∷ R ∷ S ∷ []);
+      chosen =
+          filled 4 (root 2 ∷ at-least 2 4 ∷ P ∷ Q ∷ R ∷ S ∷ not-P ∷ [])
+          ∷ filled 4 (root 3 ∷ at-least 2 4 ∷ P ∷ Q ∷ R ∷ S ∷ not-P ∷ not-Q ∷ [])
+          ∷ [];
+      ran = settled 4 7 (root 4 ∷ R ∷ S ∷ not-P ∷ not-Q ∷ []);
+      told = tells false (2 ∷ 2 ∷ 1 ∷ 1 ∷ []);
+    }
+    ∷ record {
+      loaded = filled 4 (root 1 ∷ at-least 2 4 ∷ P ∷ Q ∷ R ∷ S ∷ []);
+      chosen =
+          filled 4 (root 2 ∷ at-least 2 4 ∷ P ∷ Q ∷ R ∷ S ∷ not-P ∷ [])
+          ∷ filled 4 (root 3 ∷ at-least 2 4 ∷ P ∷ Q ∷ R ∷ S ∷ not-P ∷ not-Q ∷ [])
+          ∷ filled 4 (root 4 ∷ at-least 2 4 ∷ P ∷ Q ∷ R ∷ S ∷ not-P ∷ not-Q ∷ not-R ∷ [])
+          ∷ [];
+      ran = settled 4 8 (root 1 ∷ False ∷ []);
+      told = tells true (3 ∷ 3 ∷ 3 ∷ 3 ∷ []);
+    }
+    -- Steps 16, 6; 16, 5, 8.
+    ∷ comes-to (root 1 ∷ at-least 0 0 ∷ []) 2 (root 0 ∷ []) false []
+    ∷ comes-to (root 1 ∷ any-of 2 ∷ at-least 1 0 ∷ P ∷ []) 3 (root 1 ∷ P ∷ []) false (1 ∷ [])
+    ∷ []
+unfolding definitions samples key-all left-by call orders least-orders
+least-by-calls = refl
+
+-- Reports on kind 6 before any step: "every union of members' clauses over members - k + 1 of them; none if k is 0; the empty clause if k
+-- exceeds the members".
+unfoldable pub least-reports : List (Outcome (List ℕ) Bool)
+least-reports =
+    map
+    (λ ns. reportOf (sheet 3 ns) (7 ∷ 7 ∷ 7 ∷ []))
+    -- 0, 1, 2, 3 and 4 of (P, not Q, R).
+    ((root 1 ∷ at-least 0 3 ∷ P ∷ not-Q ∷ R ∷ [])
+    ∷ (root 1 ∷ at-least 1 3 ∷ P ∷ not-Q ∷ R ∷ [])
+    ∷ (root 1 ∷ at-least 2 3 ∷ P ∷ not-Q ∷ R ∷ [])
+    ∷ (root 1 ∷ at-least 3 3 ∷ P ∷ not-Q ∷ R ∷ [])
+    ∷ (root 1 ∷ at-least 4 3 ∷ P ∷ not-Q ∷ R ∷ [])
+    -- The same with not P: 1, 2 and 3 of them.
+    ∷ (root 2 ∷ at-least 1 3 ∷ P ∷ not-Q ∷ R ∷ not-P ∷ [])
+    ∷ (root 2 ∷ at-least 2 3 ∷ P ∷ not-Q ∷ R ∷ not-P ∷ [])
+    ∷ (root 2 ∷ at-least 3 3 ∷ P ∷ not-Q ∷ R ∷ not-P ∷ [])
+    -- A true member is one of those asked for, a false one is none: 2 of (P, true), of (P, false, Q), of (P, false).
+    ∷ (root 1 ∷ at-least 2 2 ∷ P ∷ True ∷ [])
+    ∷ (root 1 ∷ at-least 2 3 ∷ P ∷ False ∷ Q ∷ [])
+    ∷ (root 1 ∷ at-least 2 2 ∷ P ∷ False ∷ [])
+    -- No members: 0 and 1 of them.
+    ∷ (root 1 ∷ at-least 0 0 ∷ [])
+    ∷ (root 1 ∷ at-least 1 0 ∷ [])
+    -- P or 2 of (P, Q); 2 of (P, Q) or 2 of (P, R); P or 2 of (Q, R), with not P.
+    ∷ (root 1 ∷ any-of 2 ∷ P ∷ at-least 2 2 ∷ P ∷ Q ∷ [])
+    ∷ (root 1 ∷ any-of 2 ∷ at-least 2 2 ∷ P ∷ Q ∷ at-least 2 2 ∷ P ∷ R ∷ [])
+    ∷ (root 2 ∷ any-of 2 ∷ P ∷ at-least 2 2 ∷ Q ∷ R ∷ not-P ∷ [])
+    ∷ [])
+
+pub least-reports-told :
+    least-reports
+    ≡ tells false (0 ∷ 0 ∷ 0 ∷ [])
+    ∷ tells false (0 ∷ 0 ∷ 0 ∷ [])
+    ∷ tells false (0 ∷ 0 ∷ 0 ∷ [])
+    ∷ tells false (1 ∷ 2 ∷ 1 ∷ [])
+    ∷ tells true (3 ∷ 3 ∷ 3 ∷ [])
+    ∷ tells false (2 ∷ 0 ∷ 0 ∷ [])
+    ∷ tells false (2 ∷ 2 ∷ 1 ∷ [])
+    ∷ tells true (3 ∷ 3 ∷ 3 ∷ [])
+    ∷ tells false (1 ∷ 0 ∷ 0 ∷ [])
+    ∷ tells false (1 ∷ 1 ∷ 0 ∷ [])
+    ∷ tells true (3 ∷ 3 ∷ 3 ∷ [])
+    ∷ tells false (0 ∷ 0 ∷ 0 ∷ [])
+    ∷ tells true (3 ∷ 3 ∷ 3 ∷ [])
+    ∷ tells false (1 ∷ 0 ∷ 0 ∷ [])
+    ∷ tells false (1 ∷ 0 ∷ 0 ∷ [])
+    ∷ tells false (2 ∷ 1 ∷ 1 ∷ [])
+    ∷ []
+unfolding definitions samples least-reports
+least-reports-told = refl
 
 -- Sheets before any step: every option in or out; one open; contradictory, though every option is forced; no option.
 -- "A sheet is complete if it is not contradictory and every option is 1 or 2."

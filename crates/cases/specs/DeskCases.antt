@@ -1,6 +1,6 @@
 -- What the desk program prints, for books and inputs of every kind.
 use mathlib.Core.Bool.{true, false}
-use mathlib.Core.List.{List, [], _∷_, map}
+use mathlib.Core.List.{List, [], _∷_, _++_, map}
 use mathlib.Core.Path.{_≡_, refl}
 use Prim.Native.Nat.{ℕ}
 use Prim.Native.String.{String}
@@ -8,19 +8,21 @@ use lib.ListN.{replicate}
 use Rattle.model.specs.Literal.{pos}
 use Rattle.calls.specs.Desk.{lines, all-keyed, with-no-lines, first-line, deskOf}
 use Rattle.case_samples.specs.Opened.{definitions}
-use Rattle.case_samples.specs.Samples.{text, P, Q, True, any-of, root, book, first-book, sheet, lined, said, samples}
+use Rattle.case_samples.specs.Samples.{text, P, Q, R, True, any-of, root, at-least, book, first-book, sheet, lined, said, samples}
 
 -- A book with these choices keyed.
 unfoldable pub keyed-on : List ℕ → String → List ℕ
 keyed-on b input = let bytes = b in deskOf bytes (text input)
 
 -- The first case's book "and no choices"; "P or Q, choice not Q". A book of no rules: "+ or - and a code", "it keys them in order", "the
--- last may lack its line end"; "line 1: contradiction if reported", and no line for an option then.
+-- last may lack its line end"; "line 1: contradiction if reported", and no line for an option then. 2 of (P, Q, R), as document 02, U4 has
+-- it: with not P, and without a choice.
 unfoldable pub orders : List (List ℕ)
 orders =
     keyed-on first-book ""
     ∷ keyed-on (book ("P" ∷ "Q" ∷ []) ((any-of 2 ∷ P ∷ Q ∷ []) ∷ [])) "-Q\n"
     ∷ map (keyed-on (book ("P" ∷ "Q" ∷ []) [])) ("+Q\n-P" ∷ "+Q\n-Q\n" ∷ [])
+    ++ map (keyed-on (book ("P" ∷ "Q" ∷ "R" ∷ []) ((at-least 2 3 ∷ P ∷ Q ∷ R ∷ []) ∷ []))) ("-P\n" ∷ "" ∷ [])
 
 pub orders-printed :
     orders
@@ -29,6 +31,8 @@ pub orders-printed :
     ∷ "settled 3\nP in\nQ out\n"
     ∷ "settled 0\nP out\nQ in\n"
     ∷ "contradiction 2\n"
+    ∷ "settled 5\nP out\nQ in\nR in\n"
+    ∷ "settled 0\nP open\nQ open\nR open\n"
     ∷ [])
 unfolding definitions samples keyed-on orders
 orders-printed = refl

@@ -3,4 +3,5 @@ pub mod CallCases
 pub mod DeskCases
 pub mod BookCases
 pub mod SheetCases
+pub mod MemberCases
 pub mod StepCases

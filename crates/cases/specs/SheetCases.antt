@@ -30,13 +30,13 @@ bad =
     -- "As one tree": a child too few, a child too many.
     ∷ sheet 0 (root 1 ∷ [])
     ∷ sheet 0 (root 0 ∷ True ∷ [])
-    -- "With kind 5 only at its head"; no option N, no kind 0 or 6.
+    -- "With kind 5 only at its head"; no option N, no kind 0 or 7. (`MemberCases` has kind 6.)
     ∷ sheet 0 (all-of 1 ∷ True ∷ [])
     ∷ sheet 0 (root 1 ∷ root 0 ∷ [])
     ∷ sheet 1 (root 1 ∷ plain 1 ∷ [])
     ∷ sheet 1 (root 1 ∷ barred 1 ∷ [])
     ∷ sheet 1 (root 1 ∷ 0 ∷ [])
-    ∷ sheet 1 (root 1 ∷ 24576 ∷ [])
+    ∷ sheet 1 (root 1 ∷ 28672 ∷ [])
     -- "Then zeros": right after the nodes, at the very end.
     ∷ (0 ∷ 1 ∷ root 0 ∷ True ∷ replicate 4094 0)
     ∷ (0 ∷ 1 ∷ root 0 ∷ replicate 4094 0 ++ (1 ∷ []))

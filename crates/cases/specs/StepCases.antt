@@ -11,7 +11,7 @@ use Rattle.calls.specs.Refusals.{rule-refused, step-refused}
 use Rattle.calls.specs.Outcomes.{refused, accepted, Outcome}
 use Rattle.calls.specs.Calls.{stepOf}
 use Rattle.case_samples.specs.Opened.{definitions}
-use Rattle.case_samples.specs.Samples.{P, Q, R, not-P, not-R, True, False, all-of, any-of, root, sheet, samples}
+use Rattle.case_samples.specs.Samples.{P, Q, R, not-P, not-R, True, False, all-of, any-of, root, at-least, sheet, samples}
 
 -- The nodes after a step (rule, place, i, j), if it applies.
 unfoldable pub turned : ℕ → ℕ → ℕ → ℕ → List ℕ → Option (List ℕ)
@@ -55,6 +55,34 @@ steps =
     ∷ turned 14 1 1 1 (root 2 ∷ any-of 4 ∷ P ∷ all-of 3 ∷ Q ∷ P ∷ P ∷ not-R ∷ all-of 1 ∷ P ∷ R ∷ [])
     ∷ turned 14 1 0 0 (root 1 ∷ any-of 2 ∷ all-of 2 ∷ P ∷ Q ∷ all-of 2 ∷ Q ∷ P ∷ [])
     ∷ turned 14 1 0 1 (root 1 ∷ any-of 2 ∷ all-of 2 ∷ P ∷ Q ∷ all-of 2 ∷ Q ∷ P ∷ [])
+    -- Kind 6 is a child like any other: 7 and 8 put it in its parent's place, 9 and 10 put constants in place of its marks, and 13 and 14
+    -- move it with the others.
+    ∷ turned 7 1 0 0 (root 1 ∷ all-of 1 ∷ at-least 2 3 ∷ P ∷ Q ∷ R ∷ [])
+    ∷ turned 8 1 0 0 (root 1 ∷ any-of 1 ∷ at-least 2 3 ∷ P ∷ Q ∷ R ∷ [])
+    ∷ turned 9 1 1 0 (root 1 ∷ any-of 3 ∷ at-least 2 3 ∷ P ∷ Q ∷ R ∷ P ∷ at-least 1 2 ∷ not-P ∷ Q ∷ [])
+    ∷ turned 10 0 1 0 (root 3 ∷ at-least 2 3 ∷ P ∷ Q ∷ R ∷ P ∷ at-least 1 2 ∷ not-P ∷ Q ∷ [])
+    ∷ turned 13 1 1 0 (root 1 ∷ all-of 2 ∷ P ∷ all-of 2 ∷ at-least 2 2 ∷ Q ∷ R ∷ Q ∷ [])
+    ∷ turned 14 1 0 0 (root 1 ∷ any-of 2 ∷ all-of 2 ∷ P ∷ at-least 2 2 ∷ Q ∷ R ∷ all-of 1 ∷ P ∷ [])
+    -- 15: "removes member i that is true (k less one, not below 0) or false"; the last member too, below another node too.
+    ∷ turned 15 1 1 0 (root 2 ∷ at-least 2 5 ∷ P ∷ True ∷ Q ∷ False ∷ R ∷ R ∷ [])
+    ∷ turned 15 1 3 0 (root 2 ∷ at-least 2 5 ∷ P ∷ True ∷ Q ∷ False ∷ R ∷ R ∷ [])
+    ∷ turned 15 1 0 0 (root 1 ∷ at-least 0 1 ∷ True ∷ [])
+    ∷ turned 15 1 0 0 (root 1 ∷ at-least 0 1 ∷ False ∷ [])
+    ∷ turned 15 1 0 0 (root 1 ∷ at-least 63 1 ∷ True ∷ [])
+    ∷ turned 15 1 0 0 (root 1 ∷ at-least 63 1 ∷ False ∷ [])
+    ∷ turned 15 2 1 0 (root 1 ∷ any-of 2 ∷ at-least 2 2 ∷ P ∷ True ∷ Q ∷ [])
+    -- 16: "turns k = 0 into true and k over the members into false"; 0 of 0 and 1 of 0 too.
+    ∷ turned 16 1 0 0 (root 2 ∷ at-least 0 2 ∷ P ∷ Q ∷ R ∷ [])
+    ∷ turned 16 1 0 0 (root 2 ∷ at-least 3 2 ∷ P ∷ Q ∷ R ∷ [])
+    ∷ turned 16 1 0 0 (root 2 ∷ at-least 63 2 ∷ P ∷ True ∷ R ∷ [])
+    ∷ turned 16 1 0 0 (root 1 ∷ at-least 0 0 ∷ [])
+    ∷ turned 16 1 0 0 (root 1 ∷ at-least 1 0 ∷ [])
+    -- 17: "turns k = 1 into any-of, else k = members into all-of"; 1 of 1 becomes an any-of. 0 of 0 and 1 of 0 fit its words too.
+    ∷ turned 17 1 0 0 (root 2 ∷ at-least 1 3 ∷ P ∷ True ∷ not-R ∷ R ∷ [])
+    ∷ turned 17 1 0 0 (root 2 ∷ at-least 3 3 ∷ P ∷ False ∷ not-R ∷ R ∷ [])
+    ∷ turned 17 1 0 0 (root 1 ∷ at-least 1 1 ∷ P ∷ [])
+    ∷ turned 17 1 0 0 (root 1 ∷ at-least 0 0 ∷ [])
+    ∷ turned 17 1 0 0 (root 1 ∷ at-least 1 0 ∷ [])
     ∷ []
 
 pub steps-turn :
@@ -87,6 +115,29 @@ pub steps-turn :
     ∷ (root 2 ∷ any-of 3 ∷ P ∷ not-R ∷ all-of 2 ∷ P ∷ any-of 2 ∷ all-of 2 ∷ Q ∷ P ∷ True ∷ R ∷ [])
     ∷ (root 1 ∷ any-of 1 ∷ all-of 2 ∷ P ∷ any-of 2 ∷ all-of 1 ∷ Q ∷ all-of 1 ∷ Q ∷ [])
     ∷ (root 1 ∷ any-of 1 ∷ all-of 2 ∷ Q ∷ any-of 2 ∷ all-of 1 ∷ P ∷ all-of 1 ∷ P ∷ [])
+    ∷ (root 1 ∷ at-least 2 3 ∷ P ∷ Q ∷ R ∷ [])
+    ∷ (root 1 ∷ at-least 2 3 ∷ P ∷ Q ∷ R ∷ [])
+    ∷ (root 1 ∷ any-of 3 ∷ at-least 2 3 ∷ False ∷ Q ∷ R ∷ P ∷ at-least 1 2 ∷ True ∷ Q ∷ [])
+    ∷ (root 3 ∷ at-least 2 3 ∷ True ∷ Q ∷ R ∷ P ∷ at-least 1 2 ∷ False ∷ Q ∷ [])
+    ∷ (root 1 ∷ all-of 3 ∷ P ∷ at-least 2 2 ∷ Q ∷ R ∷ Q ∷ [])
+    ∷ (root 1 ∷ any-of 1 ∷ all-of 2 ∷ P ∷ any-of 2 ∷ all-of 1 ∷ at-least 2 2 ∷ Q ∷ R ∷ True ∷ [])
+    ∷ (root 2 ∷ at-least 1 4 ∷ P ∷ Q ∷ False ∷ R ∷ R ∷ [])
+    ∷ (root 2 ∷ at-least 2 4 ∷ P ∷ True ∷ Q ∷ R ∷ R ∷ [])
+    ∷ (root 1 ∷ at-least 0 0 ∷ [])
+    ∷ (root 1 ∷ at-least 0 0 ∷ [])
+    ∷ (root 1 ∷ at-least 62 0 ∷ [])
+    ∷ (root 1 ∷ at-least 63 0 ∷ [])
+    ∷ (root 1 ∷ any-of 2 ∷ at-least 1 1 ∷ P ∷ Q ∷ [])
+    ∷ (root 2 ∷ True ∷ R ∷ [])
+    ∷ (root 2 ∷ False ∷ R ∷ [])
+    ∷ (root 2 ∷ False ∷ R ∷ [])
+    ∷ (root 1 ∷ True ∷ [])
+    ∷ (root 1 ∷ False ∷ [])
+    ∷ (root 2 ∷ any-of 3 ∷ P ∷ True ∷ not-R ∷ R ∷ [])
+    ∷ (root 2 ∷ all-of 3 ∷ P ∷ False ∷ not-R ∷ R ∷ [])
+    ∷ (root 1 ∷ any-of 1 ∷ P ∷ [])
+    ∷ (root 1 ∷ True ∷ [])
+    ∷ (root 1 ∷ False ∷ [])
     ∷ [])
 unfolding definitions samples turned steps
 steps-turn = refl
@@ -111,11 +162,13 @@ idle-steps =
     ∷ turned 12 0 1 0 (root 1 ∷ all-of 1 ∷ P ∷ [])
     ∷ turned 13 1 1 0 (root 2 ∷ all-of 1 ∷ P ∷ all-of 1 ∷ Q ∷ [])
     ∷ turned 14 1 2 0 (root 2 ∷ any-of 2 ∷ P ∷ Q ∷ all-of 1 ∷ P ∷ [])
+    ∷ turned 15 1 2 0 (root 2 ∷ at-least 1 2 ∷ P ∷ Q ∷ True ∷ [])
+    ∷ turned 15 1 0 0 (root 2 ∷ at-least 1 0 ∷ False ∷ [])
     -- No such inner child j.
     ∷ turned 11 1 0 1 (root 1 ∷ all-of 2 ∷ all-of 1 ∷ P ∷ Q ∷ [])
     ∷ turned 12 0 0 1 (root 2 ∷ all-of 1 ∷ P ∷ Q ∷ [])
     ∷ turned 14 1 0 1 (root 1 ∷ any-of 2 ∷ all-of 1 ∷ P ∷ all-of 1 ∷ P ∷ [])
-    -- "An index that a rule has no use for must be 0": j, and i for 7 and 8.
+    -- "An index that a rule has no use for must be 0": j, and i for 7, 8, 16 and 17.
     ∷ turned 1 1 1 1 (root 1 ∷ all-of 2 ∷ P ∷ False ∷ [])
     ∷ turned 2 1 1 1 (root 1 ∷ any-of 2 ∷ P ∷ True ∷ [])
     ∷ turned 3 0 1 1 (root 2 ∷ P ∷ False ∷ [])
@@ -129,6 +182,12 @@ idle-steps =
     ∷ turned 9 1 0 1 (root 1 ∷ any-of 2 ∷ P ∷ P ∷ [])
     ∷ turned 10 0 0 1 (root 2 ∷ P ∷ P ∷ [])
     ∷ turned 13 1 0 1 (root 1 ∷ all-of 1 ∷ all-of 2 ∷ P ∷ Q ∷ [])
+    ∷ turned 15 1 1 1 (root 1 ∷ at-least 2 2 ∷ P ∷ True ∷ [])
+    ∷ turned 15 1 1 1 (root 1 ∷ at-least 2 2 ∷ P ∷ False ∷ [])
+    ∷ turned 16 1 1 0 (root 1 ∷ at-least 0 2 ∷ P ∷ Q ∷ [])
+    ∷ turned 16 1 0 1 (root 1 ∷ at-least 3 2 ∷ P ∷ Q ∷ [])
+    ∷ turned 17 1 1 0 (root 1 ∷ at-least 1 2 ∷ P ∷ Q ∷ [])
+    ∷ turned 17 1 0 1 (root 1 ∷ at-least 2 2 ∷ P ∷ Q ∷ [])
     -- A node of another kind, or a mark, at the place.
     ∷ turned 1 1 1 0 (root 1 ∷ any-of 2 ∷ P ∷ False ∷ [])
     ∷ turned 1 0 1 0 (root 2 ∷ P ∷ False ∷ [])
@@ -150,6 +209,24 @@ idle-steps =
     ∷ turned 13 0 0 0 (root 1 ∷ all-of 1 ∷ P ∷ [])
     ∷ turned 13 1 0 0 (root 1 ∷ any-of 1 ∷ all-of 1 ∷ P ∷ [])
     ∷ turned 14 1 0 0 (root 1 ∷ all-of 2 ∷ all-of 1 ∷ P ∷ all-of 1 ∷ P ∷ [])
+    ∷ turned 1 1 1 0 (root 1 ∷ at-least 2 2 ∷ P ∷ False ∷ [])
+    ∷ turned 2 1 1 0 (root 1 ∷ at-least 1 2 ∷ P ∷ True ∷ [])
+    ∷ turned 4 1 1 0 (root 1 ∷ at-least 2 2 ∷ P ∷ True ∷ [])
+    ∷ turned 5 1 1 0 (root 1 ∷ at-least 1 2 ∷ P ∷ False ∷ [])
+    ∷ turned 7 1 0 0 (root 1 ∷ at-least 1 1 ∷ P ∷ [])
+    ∷ turned 8 1 0 0 (root 1 ∷ at-least 1 1 ∷ P ∷ [])
+    ∷ turned 13 1 1 0 (root 1 ∷ at-least 2 2 ∷ P ∷ True ∷ [])
+    ∷ turned 15 1 1 0 (root 1 ∷ all-of 2 ∷ P ∷ True ∷ [])
+    ∷ turned 15 1 1 0 (root 1 ∷ any-of 2 ∷ P ∷ False ∷ [])
+    ∷ turned 15 0 1 0 (root 2 ∷ P ∷ True ∷ [])
+    ∷ turned 16 1 0 0 (root 1 ∷ True ∷ [])
+    ∷ turned 16 1 0 0 (root 1 ∷ False ∷ [])
+    ∷ turned 16 0 0 0 (root 0 ∷ [])
+    ∷ turned 16 1 0 0 (root 1 ∷ P ∷ [])
+    ∷ turned 17 1 0 0 (root 1 ∷ all-of 1 ∷ P ∷ [])
+    ∷ turned 17 1 0 0 (root 1 ∷ any-of 1 ∷ P ∷ [])
+    ∷ turned 17 0 0 0 (root 1 ∷ P ∷ [])
+    ∷ turned 17 1 0 0 (root 1 ∷ P ∷ [])
     -- Too few children; for 7 and 8 too many too.
     ∷ turned 1 1 0 0 (root 1 ∷ all-of 1 ∷ False ∷ [])
     ∷ turned 2 1 0 0 (root 1 ∷ any-of 1 ∷ True ∷ [])
@@ -176,6 +253,8 @@ idle-steps =
     ∷ turned 4 1 1 0 (root 1 ∷ all-of 2 ∷ P ∷ False ∷ [])
     ∷ turned 5 1 1 0 (root 1 ∷ any-of 2 ∷ P ∷ True ∷ [])
     ∷ turned 6 0 1 0 (root 2 ∷ P ∷ False ∷ [])
+    ∷ turned 4 1 1 0 (root 1 ∷ all-of 2 ∷ P ∷ at-least 0 0 ∷ [])
+    ∷ turned 5 1 1 0 (root 1 ∷ any-of 2 ∷ P ∷ at-least 1 0 ∷ [])
     -- 9, 10: the option occurs in no other child, be it outside the node; child i is no mark.
     ∷ turned 9 1 0 0 (root 2 ∷ any-of 2 ∷ P ∷ Q ∷ P ∷ [])
     ∷ turned 9 1 1 0 (root 1 ∷ any-of 2 ∷ P ∷ all-of 1 ∷ P ∷ [])
@@ -187,10 +266,14 @@ idle-steps =
     ∷ turned 11 1 0 0 (root 1 ∷ all-of 1 ∷ True ∷ [])
     ∷ turned 12 0 0 0 (root 1 ∷ any-of 1 ∷ P ∷ [])
     ∷ turned 12 0 0 0 (root 1 ∷ all-of 2 ∷ True ∷ P ∷ [])
+    ∷ turned 11 1 0 0 (root 1 ∷ all-of 1 ∷ at-least 1 1 ∷ P ∷ [])
+    ∷ turned 12 0 0 0 (root 1 ∷ at-least 1 1 ∷ P ∷ [])
     -- 13: child i is no all-of; another child is no mark.
     ∷ turned 13 1 0 0 (root 1 ∷ all-of 1 ∷ any-of 1 ∷ P ∷ [])
     ∷ turned 13 1 0 0 (root 1 ∷ all-of 2 ∷ all-of 1 ∷ P ∷ True ∷ [])
     ∷ turned 13 1 1 0 (root 1 ∷ all-of 2 ∷ any-of 1 ∷ P ∷ all-of 1 ∷ P ∷ [])
+    ∷ turned 13 1 0 0 (root 1 ∷ all-of 1 ∷ at-least 1 1 ∷ P ∷ [])
+    ∷ turned 13 1 0 0 (root 1 ∷ all-of 2 ∷ all-of 1 ∷ P ∷ at-least 1 1 ∷ Q ∷ [])
     -- 14: i is a mark, or not the first all-of; j at a second a, or at no mark.
     ∷ turned 14 1 0 0 (root 1 ∷ any-of 3 ∷ P ∷ all-of 1 ∷ P ∷ all-of 1 ∷ P ∷ [])
     ∷ turned 14 1 1 0 (root 1 ∷ any-of 2 ∷ all-of 1 ∷ P ∷ all-of 1 ∷ P ∷ [])
@@ -201,22 +284,34 @@ idle-steps =
     ∷ turned 14 1 0 0 (root 1 ∷ any-of 2 ∷ all-of 1 ∷ P ∷ all-of 1 ∷ not-P ∷ [])
     ∷ turned 14 1 0 0 (root 1 ∷ any-of 2 ∷ all-of 1 ∷ P ∷ all-of 1 ∷ all-of 1 ∷ P ∷ [])
     ∷ turned 14 1 0 0 (root 1 ∷ any-of 3 ∷ all-of 1 ∷ P ∷ all-of 1 ∷ P ∷ any-of 1 ∷ P ∷ [])
+    ∷ turned 14 1 0 0 (root 1 ∷ any-of 3 ∷ all-of 1 ∷ P ∷ all-of 1 ∷ P ∷ at-least 1 1 ∷ P ∷ [])
+    -- 15: a member that is a mark. 16: k is 1 at least and not over the members. 17: k is neither 1 nor the members.
+    ∷ turned 15 1 0 0 (root 1 ∷ at-least 2 2 ∷ P ∷ True ∷ [])
+    ∷ turned 15 1 1 0 (root 1 ∷ at-least 1 2 ∷ False ∷ not-P ∷ [])
+    ∷ turned 16 1 0 0 (root 1 ∷ at-least 1 1 ∷ P ∷ [])
+    ∷ turned 16 1 0 0 (root 1 ∷ at-least 1 2 ∷ P ∷ Q ∷ [])
+    ∷ turned 16 1 0 0 (root 1 ∷ at-least 2 2 ∷ P ∷ Q ∷ [])
+    ∷ turned 17 1 0 0 (root 1 ∷ at-least 0 1 ∷ P ∷ [])
+    ∷ turned 17 1 0 0 (root 1 ∷ at-least 2 3 ∷ P ∷ Q ∷ R ∷ [])
+    ∷ turned 17 1 0 0 (root 1 ∷ at-least 3 2 ∷ P ∷ Q ∷ [])
+    ∷ turned 17 1 0 0 (root 1 ∷ at-least 2 0 ∷ [])
     ∷ []
 
-pub idle-steps-none : idle-steps ≡ replicate 95 none
+pub idle-steps-none : idle-steps ≡ replicate 137 none
 unfolding definitions samples turned idle-steps
 idle-steps-none = refl
 
 -- By the call: accepted, with the used count and the zeros; "10 the step does not apply", for an index without use and for a place at the
--- used count; "9 rule not 1 to 14", though the rest would do for 7.
+-- used count; document 02, U4: "refusal 9 is for rules outside 1 to 17", though the rest would do for 7. The last rule is 17.
 unfoldable pub answers : List (Outcome (List ℕ) (Unit {0}))
 answers =
     let s = sheet 1 (root 1 ∷ all-of 1 ∷ P ∷ []) in
-    stepOf s 7 1 0 0 ∷ stepOf s 7 1 0 1 ∷ stepOf s 7 3 0 0 ∷ stepOf s 0 1 0 0 ∷ stepOf s 15 1 0 0 ∷ []
+    stepOf s 7 1 0 0 ∷ stepOf s 7 1 0 1 ∷ stepOf s 7 3 0 0 ∷ stepOf s 17 1 0 0 ∷ stepOf s 0 1 0 0 ∷ stepOf s 18 1 0 0 ∷ []
 
 pub steps-answered :
     answers
     ≡ record { answer = accepted tt; lent = sheet 1 (root 1 ∷ P ∷ []) }
+    ∷ record { answer = refused step-refused; lent = sheet 1 (root 1 ∷ all-of 1 ∷ P ∷ []) }
     ∷ record { answer = refused step-refused; lent = sheet 1 (root 1 ∷ all-of 1 ∷ P ∷ []) }
     ∷ record { answer = refused step-refused; lent = sheet 1 (root 1 ∷ all-of 1 ∷ P ∷ []) }
     ∷ record { answer = refused rule-refused; lent = sheet 1 (root 1 ∷ all-of 1 ∷ P ∷ []) }

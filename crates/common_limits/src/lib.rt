@@ -21,6 +21,9 @@ pub const KIND_FACTOR: usize = 4096;
 // The same at the width that nodes are kept in.
 pub const KIND_FACTOR_16: u16 = KIND_FACTOR as u16;
 
+// The value of a node of kind 6 is its members times this plus how many of them are asked for.
+pub const LEAST_FACTOR: usize = 64;
+
 // The numbers of kind 1 begin here (an option), those of kind 2 (an option barred), and those of kind 5 (the root).
 pub const PLAIN_KIND: u16 = KIND_FACTOR_16;
 
@@ -38,7 +41,7 @@ pub const SHEET_LENGTH: usize = SHEET_ROOM + 2;
 pub const MOST_LITERALS: usize = 2 * MOST_OPTIONS;
 
 // Rules are numbered from 1.
-pub const LAST_RULE: usize = 14;
+pub const LAST_RULE: usize = 17;
 
 // The number after the last stands for no rule.
 pub const NO_RULE: usize = LAST_RULE + 1;

@@ -1,19 +1,20 @@
 // Numbers in bytes; the numbers of a sheet as nodes, kind times 4,096 plus value; and the trees that a run of them spells, read from the
 // left.
 ghost use mathlib.Core.Path.{_≡_};
-ghost use Prim.Native.Nat.{_+_, _<_, _≤_};
+ghost use Prim.Native.Nat.{_+_, _-_, _<_, _≤_};
+ghost use lib.Dec.{leb};
 ghost use lib.ListN.{length};
 ghost use Rattle.model.specs.Book.{word};
-ghost use Rattle.model.specs.Base.{then};
+ghost use Rattle.model.specs.Base.{«only-if»};
 ghost use Rattle.model.specs.Code.{kind, value, children};
-ghost use Rattle.model.specs.Sheet.{«body-node»};
-ghost use Rattle.theory_forms.specs.Scan.{«is-literal», «joined-by», counted};
+ghost use Rattle.theory_forms.specs.Scan.{«is-literal», «joined-by»};
 ghost use Rattle.common_nodes.specs.Trees.{treesOf};
 ghost use Rattle.model.specs.Limits.{«kind-factor», «sheet-room»};
 ghost use Rattle.theory_reading.specs.Spans.{arity, span, «child-at»};
 ghost use mathlib.Core.Bool.{true};
 ghost use Rattle.theory_reading.specs.Leaves.{«place-at»};
 use common_limits::KIND_FACTOR;
+use common_limits::LEAST_FACTOR;
 
 // A byte as a number of the machine's width.
 pub fn wide(x: u8) -> usize
@@ -68,7 +69,11 @@ pub fn value_of(x: usize) -> usize
 pub fn children_of(x: usize) -> usize
     ensures { λ r. ⌜ r ≡ children x ⌝ }
 {
-    value_of(x)
+    let v = value_of(x);
+    if kind_of(x) == 6 {
+        return v / LEAST_FACTOR;
+    }
+    v
 }
 
 // Kinds 1 and 2 are literals.
@@ -79,46 +84,48 @@ pub fn is_literal(x: usize) -> bool
     k == 1 || k == 2
 }
 
-// A literal of an option below n, a conjunction or a disjunction.
-pub fn is_body_node(x: usize, n: usize) -> bool
-    ensures { λ r. ⌜ r ≡ «body-node» n x ⌝ }
+// A node takes as many of the trees after it as it has children.
+fn gather(t: usize, k: usize) -> Trees
+    requires { ⌜ t ≤ 65535 ⌝ }
+    ensures { λ r. ⌜ treesOf r ≡ «only-if» (leb k t) (t - k + 1) ⌝ }
 {
-    let k = kind_of(x);
-    if k == 1 || k == 2 {
-        return value_of(x) < n;
-    }
-    k == 3 || k == 4
-}
-
-// One node more, before the trees that were counted.
-pub fn join(x: usize, n: usize, after: Trees) -> Trees
-    requires { ⌜ counted (treesOf after) ≤ 65535 ⌝ }
-    ensures { λ r. ⌜ treesOf r ≡ then (treesOf after) («joined-by» n x) ⌝ }
-{
-    let Trees::Count(t) = after else {
-        return Trees::Malformed;
-    };
-    if !is_body_node(x, n) {
-        return Trees::Malformed;
-    }
-    if is_literal(x) {
-        return Trees::Count(t + 1);
-    }
-    let k = children_of(x);
     if t < k {
         return Trees::Malformed;
     }
     Trees::Count(t - k + 1)
 }
 
-// The number of children that a node announces.
+// One node more, before so many trees, in a body of n options. The commonest kinds are tested first, and kind 6 after all others.
+pub fn join(x: usize, n: usize, t: usize) -> Trees
+    requires { ⌜ t ≤ 65535 ⌝ }
+    ensures { λ r. ⌜ treesOf r ≡ «joined-by» n x t ⌝ }
+{
+    let k = kind_of(x);
+    if k == 1 || k == 2 {
+        if n <= value_of(x) {
+            return Trees::Malformed;
+        }
+        return Trees::Count(t + 1);
+    }
+    if k == 3 || k == 4 {
+        return gather(t, value_of(x));
+    }
+    if k == 6 {
+        return gather(t, value_of(x) / LEAST_FACTOR);
+    }
+    Trees::Malformed
+}
+
+// The number of children that a node announces. It is read off before the test for a literal, so that the machine need not guess which
+// of the two a node is.
 pub fn arity_of(x: usize) -> usize
     ensures { λ r. ⌜ (r ≡ arity x) × (r < «kind-factor») ⌝ }
 {
+    let k = children_of(x);
     if is_literal(x) {
         return 0;
     }
-    children_of(x)
+    k
 }
 
 // The number of nodes of the first so many trees: each node settles one tree that was pending and announces its children.

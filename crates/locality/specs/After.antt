@@ -3,17 +3,17 @@ use mathlib.Core.List.{List, [], _∷_, _++_}
 use mathlib.Core.Path.{_≡_, refl, sym, ap, _∙_}
 use Prim.Native.Nat.{ℕ, suc, _+_, _-_, _≤_}
 use native.Mathlib.Omega.{arith}
-use lib.Dec.{eqb}
 use lib.ListN.{length, length-append}
-use Rattle.model.specs.Forest.{and, Forest, nil, lit, node, _⊕_, first, after, literal-at, conjunction-at}
+use Rattle.model.specs.Forest.{Conn, and, Forest, nil, lit, node, _⊕_, first, after, literal-at, conjunction-at}
 use Rattle.model.specs.Code.{Node, leaf, encode}
-use Rattle.model.specs.Rules.{neutral, assigned, absorb, omit, unwrap, spread, lift, merge, Family, absorbs, omits, unwraps, spreads, lifts, merges, factors, change}
-use Rattle.theory_forms.specs.Logic.{some-inj, and-split, only-some, then-some}
-use Rattle.theory_forms.specs.Forests.{nil-⊕, ⊕-nil, ⊕-assoc, literal-here, conjunction-here, constant-here, cut-at}
+use Rattle.model.specs.Rules.{assigned, absorb, unwrap, spread, lift, Family, absorbs, omits, unwraps, spreads, lifts, merges, factors, drops, decides, renames, change}
+use Rattle.theory_forms.specs.Logic.{some-inj, only-some, then-some}
+use Rattle.theory_forms.specs.Forests.{nil-⊕, ⊕-nil, ⊕-assoc, literal-here, conjunction-here, cut-at}
 use Rattle.theory_forms.specs.Codes.{encode-⊕}
 use Rattle.locality.specs.Zones.{tree-end, child-place, Zone, zone}
 use Rattle.locality.specs.ChildPlaces.{Rest, rest-of, rest-one, rest-as, further, past-trees, past-children, child-offset, length-here, child-here, end-here}
 use Rattle.locality.specs.Turned.{Turned, old-here, new-here}
+use Rattle.locality.specs.Made.{Unheaded, omitted-head, dropped-head, merged-head, decides-constant, renames-node}
 use Rattle.locality.specs.Assigned.{assigned-length}
 
 -- The old nodes from one place on and the new ones from another are the same.
@@ -37,10 +37,10 @@ module _ {x : Family} {p i j : ℕ} {ns ms : List Node} (w : Turned x p i j ns m
   end-at = ap (λ n. p + n) (length-here p ns (w .conn) (w .children) (w .rest) (old-here w))
 
   -- The nodes after some of the new tree's children.
-  new-child : (a d : Forest) → w .new ≡ node (w .conn) (a ⊕ d) nil → Rest (p + suc (length (encode a))) ms (encode (d ⊕ w .rest))
+  new-child : (b : Conn) (a d : Forest) → w .new ≡ node b (a ⊕ d) nil → Rest (p + suc (length (encode a))) ms (encode (d ⊕ w .rest))
   unfolding _⊕_
-  new-child a d e =
-      further (rest-as (new-here w) refl (ap (λ g. encode (g ⊕ w .rest)) e)) (past-children (w .conn) a d (w .rest))
+  new-child b a d e =
+      further (rest-as (new-here w) refl (ap (λ g. encode (g ⊕ w .rest)) e)) (past-children b a d (w .rest))
 
 absorbs-after : (p i j : ℕ) (ns ms : List Node) → Turned absorbs p i j ns ms → Moved (tree-end p ns) (p + 2) ns ms
 unfolding change absorb encode _⊕_
@@ -52,30 +52,21 @@ absorbs-after p i j ns ms w =
       new-part = further (rest-as (new-here w) refl (ap (λ g. encode (g ⊕ w .rest)) (sym made))) (rest-of 2 (_ ∷ _ ∷ []) (encode (w .rest)) refl);
     }
 
-omits-after : (p i j : ℕ) (ns ms : List Node) → Turned omits p i j ns ms → Moved (child-place p i ns + 1) (child-place p i ns) ns ms
-unfolding change omit encode _⊕_
-omits-after p i j ns ms w =
+-- Rules 4 to 6, 13 and 15: the head of child i is gone.
+unheaded-after :
+    {x : Family} (p i j : ℕ) (ns ms : List Node) (w : Turned x p i j ns ms) →
+    Unheaded i (w .children) (w .new) →
+    Moved (child-place p i ns + 1) (child-place p i ns) ns ms
+unfolding encode _⊕_
+unheaded-after p i j ns ms w u =
     let k = w .children in
-    let o = only-some _ _ (w .made) in
-    let gone = constant-here (neutral (w .conn)) i k (and-split (eqb j 0) _ (o .0) .1) in
-    record {
-      kept = encode (after (suc i) k ⊕ w .rest);
-      old-part = further (rest-as (child-old w) refl (ap (λ g. encode (g ⊕ w .rest)) gone)) (rest-one _ _);
-      new-part = rest-as (new-child w (first i k) (after (suc i) k) (sym (o .1))) (sym (child-at w)) refl;
-    }
-
-merges-after : (p i j : ℕ) (ns ms : List Node) → Turned merges p i j ns ms → Moved (child-place p i ns + 1) (child-place p i ns) ns ms
-unfolding change merge encode _⊕_
-merges-after p i j ns ms w =
-    let k = w .children in
-    let m = then-some (conjunction-at (after i k)) _ (w .made) in
-    let o = only-some _ _ (m .2) in
+    let m = u .inner in
     let f = after (suc i) k ⊕ w .rest in
-    let joined : encode ((m .0 ⊕ after (suc i) k) ⊕ w .rest) ≡ encode (m .0) ++ encode f = ap encode (⊕-assoc (m .0) (after (suc i) k) (w .rest)) ∙ encode-⊕ (m .0) f in
+    let joined : encode ((m ⊕ after (suc i) k) ⊕ w .rest) ≡ encode m ++ encode f = ap encode (⊕-assoc m (after (suc i) k) (w .rest)) ∙ encode-⊕ m f in
     record {
-      kept = encode (m .0) ++ encode f;
-      old-part = further (rest-as (child-old w) refl (ap (λ g. encode (g ⊕ w .rest)) (conjunction-here i k (m .1)))) (rest-one _ _);
-      new-part = rest-as (new-child w (first i k) (m .0 ⊕ after (suc i) k) (sym (o .1))) (sym (child-at w)) joined;
+      kept = encode m ++ encode f;
+      old-part = further (rest-as (child-old w) refl (ap (λ g. encode (g ⊕ w .rest)) (u .was))) (rest-one _ _);
+      new-part = rest-as (new-child w (u .conn) (first i k) (m ⊕ after (suc i) k) (u .became)) (sym (child-at w)) joined;
     }
 
 unwraps-after : (p i j : ℕ) (ns ms : List Node) → Turned unwraps p i j ns ms → Moved (p + 1) p ns ms
@@ -103,7 +94,7 @@ spreads-after p i j ns ms w =
     let stays = cut-at i k _ (literal-here i k (l .1)) in
     let as-long : length (encode m) ≡ length (encode k) =
     omega (arith, ap length (encode-⊕ u (lit (l .0) v)), length-append (encode u) (encode (lit (l .0) v)), length-append (encode a) (encode (lit (l .0) b)), assigned-length c (l .0) a, assigned-length c (l .0) b, ap length (encode-⊕ a (lit (l .0) b)), ap (λ g. length (encode g)) stays) in
-    let new = new-child w m nil (sym made ∙ ap (λ g. node c g nil) (sym (⊕-nil m))) in
+    let new = new-child w c m nil (sym made ∙ ap (λ g. node c g nil) (sym (⊕-nil m))) in
     record {
       kept = encode (w .rest);
       old-part = end-old w;
@@ -125,7 +116,7 @@ lifts-after p i j ns ms w =
     let f = after (suc i) k ⊕ w .rest in
     let place = child-place p i ns in
     let group : Rest place ns (encode (node and (m .0) f)) = rest-as (child-old w) refl (ap (λ g. encode (g ⊕ w .rest)) (conjunction-here i k (m .1))) in
-    let lifted : Rest place ms (leaf (l .0) ∷ encode (node and (a ⊕ b) f)) = rest-as (new-child w (first i k) _ (sym (some-inj (l .2)))) (sym (child-at w)) refl in
+    let lifted : Rest place ms (leaf (l .0) ∷ encode (node and (a ⊕ b) f)) = rest-as (new-child w (w .conn) (first i k) _ (sym (some-inj (l .2)))) (sym (child-at w)) refl in
     let inner : place + 1 + suc (length (encode a)) ≡ child-place place j ns + 1 = omega (arith, child-offset place ns and (m .0) f group j) in
     record {
       kept = encode (b ⊕ f);
@@ -142,19 +133,42 @@ factors-after p i j ns ms w =
     let place : p + length (encode (w .new)) ≡ tree-end p ns + length ms - length ns = omega (arith, new .long, end-old w .long) in
     record { kept = encode (w .rest); old-part = end-old w; new-part = rest-as new place refl }
 
+decides-after : (p i j : ℕ) (ns ms : List Node) → Turned decides p i j ns ms → Moved (tree-end p ns) (p + 1) ns ms
+unfolding change encode _⊕_
+decides-after p i j ns ms w =
+    let made = decides-constant (w .conn) i j (w .children) (w .made) in
+    record {
+      kept = encode (w .rest);
+      old-part = end-old w;
+      new-part = further (rest-as (new-here w) refl (ap (λ g. encode (g ⊕ w .rest)) (made .1))) (rest-one _ _);
+    }
+
+renames-after : (p i j : ℕ) (ns ms : List Node) → Turned renames p i j ns ms → Moved (p + 1) (p + 1) ns ms
+unfolding change encode _⊕_
+renames-after p i j ns ms w =
+    let made = renames-node (w .conn) i j (w .children) (w .made) in
+    record {
+      kept = encode (w .children) ++ encode (w .rest);
+      old-part = further (old-here w) (rest-one _ _);
+      new-part = further (rest-as (new-here w) refl (ap (λ g. encode (g ⊕ w .rest)) (made .1))) (rest-one _ _);
+    }
+
 -- The nodes from the zone's end on.
 pub moved :
     (x : Family) (p i j : ℕ) (ns ms : List Node) →
     Turned x p i j ns ms →
     Moved (zone x p i j ns ms .old) (zone x p i j ns ms .new) ns ms
-unfolding zone
+unfolding zone change
 moved absorbs p i j ns ms w = absorbs-after p i j ns ms w
-moved omits p i j ns ms w = omits-after p i j ns ms w
+moved omits p i j ns ms w = unheaded-after p i j ns ms w (omitted-head (w .conn) i j (w .children) (w .made))
 moved unwraps p i j ns ms w = unwraps-after p i j ns ms w
 moved spreads p i j ns ms w = spreads-after p i j ns ms w
 moved lifts p i j ns ms w = lifts-after p i j ns ms w
-moved merges p i j ns ms w = merges-after p i j ns ms w
+moved merges p i j ns ms w = unheaded-after p i j ns ms w (merged-head (w .conn) i j (w .children) (w .made))
 moved factors p i j ns ms w = factors-after p i j ns ms w
+moved drops p i j ns ms w = unheaded-after p i j ns ms w (dropped-head (w .conn) i j (w .children) (w .made))
+moved decides p i j ns ms w = decides-after p i j ns ms w
+moved renames p i j ns ms w = renames-after p i j ns ms w
 
 -- The zone's places, in their order.
 pub record Ordered (p : ℕ) (z : Zone) : Type 0 where
@@ -173,3 +187,6 @@ ordered merges p i j ns ms w = record { place-from = omega arith; from-old = ome
 ordered factors p i j ns ms w =
     let new = further (new-here w) (past-trees (w .new) (w .rest)) in
     record { place-from = omega arith; from-old = omega arith; from-new = omega (arith, new .long, end-old w .long) }
+ordered drops p i j ns ms w = record { place-from = omega arith; from-old = omega arith; from-new = omega arith }
+ordered decides p i j ns ms w = record { place-from = omega arith; from-old = omega arith; from-new = omega arith }
+ordered renames p i j ns ms w = record { place-from = omega arith; from-old = omega arith; from-new = omega arith }

@@ -8,7 +8,7 @@ use native.Mathlib.Omega.{arith}
 use borrow.Author.Tests.{eqb-true}
 use lib.Dec.{eqb}
 use Rattle.model.specs.Literal.{Literal, option, same}
-use Rattle.model.specs.Forest.{Conn, and, or, root, same-conn, Forest, nil, lit, node, size, first, after, literal-at, conjunction-at, constant-at, literals-only, has-unit, mentions}
+use Rattle.model.specs.Forest.{Conn, and, or, root, at-least, same-conn, Forest, nil, lit, node, size, first, after, literal-at, conjunction-at, constant-at, literals-only, has-unit, mentions}
 use Rattle.model.specs.Rules.{shares, groups}
 use Rattle.theory_forms.specs.Logic.{or-right}
 use Rattle.locality.specs.Mentions.{Covers, both-ways, keep-first}
@@ -118,6 +118,7 @@ alike-conjunction (one-literal x) = neither
 alike-conjunction (groups-alike {c = and} y x) = each y
 alike-conjunction (groups-alike {c = or} y x) = neither
 alike-conjunction (groups-alike {c = root} y x) = neither
+alike-conjunction (groups-alike {c = at-least a} y x) = neither
 
 -- Two levels down.
 pub alike-shares : (a : Literal) {n : ℕ} {f g : Forest} → Alike (suc (suc n)) f g → shares a f ≡ shares a g
@@ -127,6 +128,7 @@ alike-shares a (one-literal x) = alike-shares a x
 alike-shares a (groups-alike {c = and} y x) = ap₂ _&&_ (alike-unit a y) (alike-shares a x)
 alike-shares a (groups-alike {c = or} y x) = refl
 alike-shares a (groups-alike {c = root} y x) = refl
+alike-shares a (groups-alike {c = at-least b} y x) = refl
 
 -- Forests that differ in one tree look alike above it.
 pub differ-alike : {t d : ℕ} {f g : Forest} (n : ℕ) → n ≤ d → Differ t d f g → Alike n f g

@@ -8,7 +8,7 @@ use Prim.Native.Nat.{ℕ, zero, suc}
 use lib.ListN.{length, drop, length-map}
 use Rattle.model.specs.Base.{pick, then}
 use Rattle.model.specs.Literal.{Literal, complement, same}
-use Rattle.model.specs.Forest.{Conn, and, or, root, Forest, nil, lit, node, size, first, after, literal-at, conjunction-at, constant-at, has-unit}
+use Rattle.model.specs.Forest.{Conn, and, or, root, at-least, Forest, nil, lit, node, size, first, after, literal-at, conjunction-at, constant-at, has-unit}
 use Rattle.model.specs.Code.{Node, leaf, head, encode, push, decode}
 use Rattle.model.specs.Rules.{neutral, deciding, assigned, shares}
 use Rattle.theory_forms.specs.Logic.{true-false, none-some, some-inj, fails-if, and-join, pick-keeps}
@@ -17,9 +17,12 @@ use Rattle.theory_forms.specs.Literals.{same-is}
 use Rattle.theory_forms.specs.Forests.{same-conn-self, assigned-lit, size-assigned}
 use Rattle.locality.specs.Alike.{Alike, no-trees, one-literal, groups-alike, deep-groups, deep-constant, alike-covers}
 
--- No tree of the forest is a constant.
+-- The first tree is no constant: not true, an empty conjunction, and not false, an empty disjunction. No tree is.
+abbrev pub Plain : Forest → Type 0
+Plain f = (constant-at and f ≡ false) × (constant-at or f ≡ false)
+
 abbrev pub NoConstant : Forest → Type 0
-NoConstant f = (d : Conn) (i : ℕ) → constant-at d (after i f) ≡ false
+NoConstant f = (i : ℕ) → Plain (after i f)
 
 -- The second literal is neither the first one nor its complement.
 abbrev pub Other : Literal → Literal → Type 0
@@ -29,6 +32,21 @@ Other l a = (same l a ≡ false) × (same (complement l) a ≡ false)
 constant-self : (d : Conn) (f : Forest) → constant-at d (node d nil f) ≡ true
 unfolding constant-at size
 constant-self d f = and-join (same-conn-self d) refl
+
+-- The constants that an assignment makes are these two.
+plain-neutral : (c : Conn) (f : Forest) → Plain f → constant-at (neutral c) f ≡ false
+unfolding neutral
+plain-neutral and f h = h .0
+plain-neutral or f h = h .1
+plain-neutral root f h = h .0
+plain-neutral (at-least a) f h = h .1
+
+plain-deciding : (c : Conn) (f : Forest) → Plain f → constant-at (deciding c) f ≡ false
+unfolding deciding
+plain-deciding and f h = h .1
+plain-deciding or f h = h .0
+plain-deciding root f h = h .1
+plain-deciding (at-least a) f h = h .0
 
 module _ (c : Conn) (l : Literal) where
   -- As many trees, that mention no other options.
@@ -147,32 +165,28 @@ module _ (c : Conn) (l : Literal) where
     unit-before j f = unit-stays (first j f) ∙ ap (has-unit a) (sym (assigned-first j f))
 
   -- Where no constant stands now, no literal was replaced.
-  literal-kept :
-      (x : Literal) (f : Forest) →
-      ((d : Conn) → constant-at d (assigned c l (lit x f)) ≡ false) →
-      assigned c l (lit x f) ≡ lit x (assigned c l f)
+  literal-kept : (x : Literal) (f : Forest) → Plain (assigned c l (lit x f)) → assigned c l (lit x f) ≡ lit x (assigned c l f)
   literal-kept x f h =
-      assigned-lit (λ g. ((d : Conn) → constant-at d g ≡ false) → g ≡ lit x (assigned c l f)) c l x f
-      (λ t e. true-false (sym (constant-self (neutral c) (assigned c l f)) ∙ e (neutral c)))
-      (λ t e. true-false (sym (constant-self (deciding c) (assigned c l f)) ∙ e (deciding c)))
+      assigned-lit (λ g. Plain g → g ≡ lit x (assigned c l f)) c l x f
+      (λ t e. true-false (sym (constant-self (neutral c) (assigned c l f)) ∙ plain-neutral c _ e))
+      (λ t e. true-false (sym (constant-self (deciding c) (assigned c l f)) ∙ plain-deciding c _ e))
       (λ t o e. refl)
       h
 
   later-trees : (x : Literal) (f : Forest) → NoConstant (assigned c l (lit x f)) → NoConstant (assigned c l f)
   unfolding after
-  later-trees x f h d i =
-      ap (constant-at d) (assigned-after i f ∙ sym (assigned-after (suc i) (lit x f))) ∙ h d (suc i)
+  later-trees x f h i = rw (assigned-after i f, ← assigned-after (suc i) (lit x f)) (h (suc i))
 
   -- So the forests look alike one level down, the same groups are conjunctions, and a literal is shared as before.
   pub assigned-level : (f : Forest) → NoConstant (assigned c l f) → Alike (suc zero) f (assigned c l f)
   unfolding assigned after
   assigned-level nil h = no-trees
-  assigned-level (lit x f) h = rw (literal-kept x f (λ d. h d zero)) (one-literal (assigned-level f (later-trees x f h)))
-  assigned-level (node d k f) h = groups-alike (assigned-alike k) (assigned-level f (λ b i. h b (suc i)))
+  assigned-level (lit x f) h = rw (literal-kept x f (h zero)) (one-literal (assigned-level f (later-trees x f h)))
+  assigned-level (node d k f) h = groups-alike (assigned-alike k) (assigned-level f (λ i. h (suc i)))
 
   conjunction-was :
       (f : Forest) →
-      ((d : Conn) → constant-at d (assigned c l f) ≡ false) →
+      Plain (assigned c l f) →
       conjunction-at (assigned c l f) ≡ then (conjunction-at f) (λ k. some (assigned c l k))
   unfolding assigned conjunction-at then
   conjunction-was nil h = refl
@@ -180,6 +194,7 @@ module _ (c : Conn) (l : Literal) where
   conjunction-was (node and k f) h = refl
   conjunction-was (node or k f) h = refl
   conjunction-was (node root k f) h = refl
+  conjunction-was (node (at-least a) k f) h = refl
 
   pub assigned-conjunction :
       (i : ℕ) (f : Forest) →
@@ -187,13 +202,14 @@ module _ (c : Conn) (l : Literal) where
       conjunction-at (after i (assigned c l f)) ≡ then (conjunction-at (after i f)) (λ k. some (assigned c l k))
   assigned-conjunction i f h =
       ap conjunction-at (assigned-after i f)
-      ∙ conjunction-was (after i f) (λ d. ap (constant-at d) (sym (assigned-after i f)) ∙ h d i)
+      ∙ conjunction-was (after i f) (rw (← assigned-after i f) (h i))
 
   pub assigned-shares : (a : Literal) → Other l a → (f : Forest) → NoConstant (assigned c l f) → shares a f ≡ shares a (assigned c l f)
   unfolding assigned shares after
   assigned-shares a other nil h = refl
-  assigned-shares a other (lit x f) h = assigned-shares a other f (later-trees x f h) ∙ ap (shares a) (sym (literal-kept x f (λ d. h d zero)))
+  assigned-shares a other (lit x f) h = assigned-shares a other f (later-trees x f h) ∙ ap (shares a) (sym (literal-kept x f (h zero)))
   assigned-shares a other (node and k f) h =
-      ap₂ _&&_ (unit-stays a other k) (assigned-shares a other f (λ b i. h b (suc i)))
+      ap₂ _&&_ (unit-stays a other k) (assigned-shares a other f (λ i. h (suc i)))
   assigned-shares a other (node or k f) h = refl
   assigned-shares a other (node root k f) h = refl
+  assigned-shares a other (node (at-least b) k f) h = refl

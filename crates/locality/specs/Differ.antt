@@ -78,6 +78,6 @@ pub change-differs : {c : Conn} {k g : Forest} → Change c k g → (f : Forest)
 unfolding _⊕_ mentions
 change-differs {c} {k} x f =
     ⊎-elim
-    (λ w. rw (w .1) (to-group (λ v h. change-covers x v (rw (w .1) (or-left false h)))))
+    (λ w. rw (w .2) (to-group (λ v h. change-covers x v (rw (w .2) (or-left false h)))))
     (λ w. rw (w .2) (alone c k f (w .1)))
     (change-node x)

@@ -67,8 +67,8 @@ same-front : (ns : List Node) (n : ℕ) → n < length ns → (f g : Forest) →
 unfolding decode
 same-front ns n h f g = let x = node-at ns n h in rw (x .1) (first-push (x .0) (decode (drop (suc n) ns)) f g)
 
--- A step that keeps the first children a, at a place among them.
-module _ {x : Family} {p i j : ℕ} {ns ms : List Node} (w : Turned x p i j ns ms) (a d v : Forest) (e : w .children ≡ a ⊕ d) (t : w .new ≡ node (w .conn) (a ⊕ v) nil) (q : ℕ) (later : p < q) (early : q < p + suc (length (encode a))) where
+-- A step that keeps the first children a, under whatever connective, at a place among them.
+module _ {x : Family} {p i j : ℕ} {ns ms : List Node} (w : Turned x p i j ns ms) (b : Conn) (a d v : Forest) (e : w .children ≡ a ⊕ d) (t : w .new ≡ node b (a ⊕ v) nil) (q : ℕ) (later : p < q) (early : q < p + suc (length (encode a))) where
   abbrev offset : ℕ
   offset = q - (p + 1)
 
@@ -84,7 +84,7 @@ module _ {x : Family} {p i j : ℕ} {ns ms : List Node} (w : Turned x p i j ns m
   unfolding _⊕_
   read-new =
       let new = rest-as (new-here w) refl (ap (λ g. encode (g ⊕ w .rest)) t) in
-      part-here a (v ⊕ w .rest) (below-head (w .conn) a v (w .rest) new) q (omega arith) (omega arith)
+      part-here a (v ⊕ w .rest) (below-head b a v (w .rest) new) q (omega arith) (omega arith)
 
   pub front-quiet : (s : ℕ) → Quiet s q ns → Quiet s q ms
   front-quiet s =

@@ -1,20 +1,22 @@
 -- Inside its tree, a step of rule 9 or 10 makes a rule apply only where a child became a constant.
-use mathlib.Core.Bool.{false}
+use mathlib.Core.Bool.{true}
 use mathlib.Core.List.{List}
 use mathlib.Core.Logic.{⊎-elim}
 use mathlib.Core.Option.{none, some}
 use mathlib.Core.Path.{_≡_, refl, sym, ap, _∙_}
-use Prim.Native.Nat.{ℕ, suc, _+_, _-_, _≤_, _<_}
+use Prim.Native.Nat.{ℕ, zero, suc, _+_, _-_, _≤_, _<_}
 use native.Mathlib.Omega.{arith}
-use borrow.Author.Tests.{ltb-true, ltb-false}
-use lib.Dec.{ltb}
+use borrow.Author.Tests.{eqb-true, leb-true, leb-false, ltb-true, ltb-false}
+use lib.Dec.{eqb, leb, ltb}
 use lib.ListN.{length, drop, length-append}
+use Rattle.model.specs.Base.{all}
 use Rattle.model.specs.Literal.{Literal}
-use Rattle.model.specs.Forest.{Conn, Forest, nil, lit, node, _⊕_, size, first, after, kids, literal-at, conjunction-at, constant-at}
-use Rattle.model.specs.Code.{Node, leaf, head, encode, push, decode, trees}
-use Rattle.model.specs.Rules.{assigned, spread, lift, factor, spreads, change, rewrite, step}
-use Rattle.theory_forms.specs.Logic.{either, only-some, then-some}
-use Rattle.theory_forms.specs.Forests.{literal-here, cut-at, assigned-lit}
+use Rattle.model.specs.Forest.{Conn, Forest, nil, lit, node, _⊕_, size, first, after, kids, literal-at, conjunction-at}
+use Rattle.model.specs.Code.{Node, leaf, head, encode, push, decode, trees, conn-kind}
+use Rattle.model.specs.Rules.{assigned, spread, lift, factor, spreads, change, Row, table, row-of, turn, rewrite, step}
+use Rattle.theory_forms.specs.Logic.{none-some, none-if, either, and-split, only-some, then-some, only-then}
+use Rattle.theory_forms.specs.Lists.{all-later}
+use Rattle.theory_forms.specs.Forests.{grouping, neutral-groups, deciding-groups, literal-here, cut-at, assigned-lit}
 use Rattle.theory_forms.specs.Codes.{encode-⊕, decode-encode}
 use Rattle.theory_rewriting.specs.Bounds.{past-last}
 use Rattle.locality.specs.Zones.{Quiet, tree-end}
@@ -44,10 +46,33 @@ module _ (b : Conn) (l : Literal) (k : Forest) (free : NoConstant (assigned b l 
   group-inside : (r : ℕ) (f g : Forest) → rewrite r i j (node c k f) ≡ none → rewrite r i j (node c (assigned b l k) g) ≡ none
   group-inside r f g = group-quiet (assigned-level b l k free) c i j lift-fades factor-fades r f g
 
--- No rule applies to a constant, which has no child.
-empty-quiet : (r i j : ℕ) (d : Conn) (f : Forest) → rewrite r i j (node d nil f) ≡ none
+-- The last rules are for nodes of kind 6 alone.
+rows-last : all (λ w. eqb (w .kind) 6) (drop 14 table) ≡ true
+unfolding all table
+rows-last = refl
+
+row-last : (r : ℕ) {w : Row} → row-of r ≡ some w → 15 ≤ r → w .kind ≡ 6
+unfolding row-of
+row-last zero e l = none-some e
+row-last (suc r) {w} e l = eqb-true (w .kind) 6 (all-later (λ v. eqb (v .kind) 6) 14 table r rows-last (omega arith) e)
+
+last-quiet : (r i j : ℕ) (d : Conn) (k f : Forest) → grouping d ≡ true → 15 ≤ r → rewrite r i j (node d k f) ≡ none
+unfolding rewrite turn grouping
+last-quiet r i j d k f o l =
+    none-if (rewrite r i j (node d k f)) (λ g e.
+    let w = then-some (row-of r) _ e in
+    let t = only-then _ k _ (then-some (turn (w .0) d i j k) _ (w .2) .1) in
+    let kind = eqb-true (w .0 .kind) (conn-kind d) (and-split (eqb (w .0 .kind) (conn-kind d)) _ (t .0) .0) in
+    omega (arith, row-last r (w .1) l, leb-true (conn-kind d) 5 o))
+
+-- No rule applies to a constant: the rules below the last ones need a child.
+empty-quiet : (r i j : ℕ) (d : Conn) (f : Forest) → grouping d ≡ true → rewrite r i j (node d nil f) ≡ none
 unfolding kids size
-empty-quiet r i j d f = past-last r i j (node d nil f) (omega arith)
+empty-quiet r i j d f o =
+    ⊎-elim
+    (λ t. past-last r i j (node d nil f) (leb-true r 15 t) (omega arith))
+    (λ t. last-quiet r i j d nil f o (let h = leb-false r 15 t in omega arith))
+    (either (leb r 15))
 
 -- The first tree of some trees, before any others.
 tree-inside :
@@ -61,8 +86,8 @@ unfolding assigned _⊕_ kids size rewrite
 tree-inside b l nil f g n free r i j e = absurd (omega arith)
 tree-inside b l (lit x t) f g n free r i j e =
     assigned-lit (λ h. rewrite r i j (h ⊕ g) ≡ none) b l x t
-    (λ s. empty-quiet r i j _ _)
-    (λ s. empty-quiet r i j _ _)
+    (λ s. empty-quiet r i j _ _ (neutral-groups b))
+    (λ s. empty-quiet r i j _ _ (deciding-groups b))
     (λ s o. refl)
 tree-inside b l (node d k t) f g n free r i j e = group-inside b l k free d i j r _ _ e
 
@@ -160,7 +185,7 @@ pub spread-inside :
     (q s : ℕ) →
     p < q →
     q < tree-end p ns →
-    ((d : Conn) (c : ℕ) → constant-at d (after c (kids (decode (drop q ms)))) ≡ false) →
+    NoConstant (kids (decode (drop q ms))) →
     Quiet s q ns →
     Quiet s q ms
 spread-inside r p i j ns h e from to q s later within free quiet =

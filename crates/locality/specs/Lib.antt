@@ -2,7 +2,8 @@
 pub mod Zones
 pub mod ChildPlaces
 pub mod Turned
--- From the zone on the nodes are the old ones, moved.
+-- What families make of a node. From the zone on the nodes are the old ones, moved.
+pub mod Made
 pub mod After
 -- No rule makes an option occur that did not.
 pub mod Mentions

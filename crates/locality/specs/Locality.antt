@@ -1,6 +1,6 @@
 -- A step changes which rules apply only near its place: the theorems that a run by bounds rests on.
 use mathlib.Core.List.{List}
-use mathlib.Core.Logic.{⊎-elim}
+use mathlib.Core.Logic.{_⊎_, inl, inr, ⊎-elim}
 use mathlib.Core.Option.{some}
 use mathlib.Core.Path.{_≡_, sym, ap, _∙_}
 use Prim.Native.Nat.{ℕ, _+_, _-_, _≤_, _<_}
@@ -15,7 +15,7 @@ use Rattle.model.specs.Rules.{rewrite, step}
 use Rattle.theory_forms.specs.Forests.{first-after}
 use Rattle.theory_forms.specs.Codes.{encode-⊕, encode-decode, trees-drop}
 use Rattle.theory_forms.specs.Logic.{either}
-use Rattle.theory_rewriting.specs.Turns.{family-at, family-9, family-11}
+use Rattle.theory_rewriting.specs.Turns.{family-at, family-9, family-11, family-17}
 use Rattle.locality.specs.Zones.{Quiet, tree-length, Holds, Twice, Zone, zone}
 use Rattle.locality.specs.Turned.{Turned, old-here, new-here, turned, turned-trees, rest-stays}
 use Rattle.locality.specs.After.{moved, Ordered, ordered}
@@ -105,18 +105,27 @@ module _ (r p i j : ℕ) (ns : List Node) {ms : List Node} {t : ℕ} (h : trees 
   pub length-at : tree-length p ms + length ns ≡ tree-length p ns + length ms
   length-at = length-grows p (omega arith) (rest-stays did)
 
--- Rules 9 to 12 keep the number of nodes.
+-- Rules 9 to 12 and 17 move no node that stands after their zone, and so keep the number of nodes.
+abbrev pub Level : ℕ → Type 0
+Level r = ((9 ≤ r) × (r ≤ 12)) ⊎ (r ≡ 17)
+
+pub level-zone :
+    (r p i j : ℕ) (ns ms : List Node) →
+    Level r →
+    zone (family-at r) p i j ns ms .old ≡ zone (family-at r) p i j ns ms .new
+unfolding zone
+level-zone r p i j ns ms (inl w) =
+    ⊎-elim
+    (λ d. rw (family-9 r (w .0) (leb-true r 10 d)))
+    (λ d. rw (family-11 r (leb-false r 10 d) (w .1)))
+    (either (leb r 10))
+level-zone r p i j ns ms (inr e) = rw (e, family-17)
+
 pub level-length :
     (r p i j : ℕ) (ns : List Node) {ms : List Node} {t : ℕ} →
     trees ns ≡ some t →
     step r p i j ns ≡ some ms →
-    9 ≤ r →
-    r ≤ 12 →
+    Level r →
     length ms ≡ length ns
-unfolding zone
-level-length r p i j ns {ms} h e a b =
-    let x = step-extent r p i j ns h e in
-    ⊎-elim
-    (λ d. let same = ap (λ y. zone y p i j ns ms) (family-9 r a (leb-true r 10 d)) in omega (arith, x .moved-by, ap (λ z. z .old) same, ap (λ z. z .new) same))
-    (λ d. let same = ap (λ y. zone y p i j ns ms) (family-11 r (leb-false r 10 d) b) in omega (arith, x .moved-by, ap (λ z. z .old) same, ap (λ z. z .new) same))
-    (either (leb r 10))
+level-length r p i j ns {ms} h e level =
+    omega (arith, step-extent r p i j ns h e .moved-by, level-zone r p i j ns ms level)

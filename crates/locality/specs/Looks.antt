@@ -4,12 +4,14 @@ use mathlib.Core.Bool.{Bool, true, false, _&&_, _||_, not}
 use mathlib.Core.Option.{Option, none, some}
 use mathlib.Core.Path.{_≡_, refl, sym, ap, ap₂, _∙_}
 use Prim.Native.Nat.{ℕ, suc}
-use lib.Dec.{eqb, leb}
-use Rattle.model.specs.Base.{only-if, then}
+use lib.Dec.{eqb, leb, ltb}
+use Rattle.model.specs.Base.{pick, only-if, first-of, then}
 use Rattle.model.specs.Literal.{Literal, option}
-use Rattle.model.specs.Forest.{Conn, Forest, lit, node, _⊕_, size, first, after, literal-at, constant-at, literals-only, has-unit, mentions}
+use Rattle.model.specs.Forest.{Conn, and, or, root, at-least, Forest, lit, node, _⊕_, size, first, after, literal-at, constant-at, literals-only, has-unit, mentions}
 use Rattle.model.specs.Code.{conn-kind}
-use Rattle.model.specs.Rules.{neutral, deciding, shares, groups, absorb, omit, unwrap, spread, lift, merge, factor, Family, absorbs, omits, unwraps, spreads, lifts, merges, factors, change, Row, row-of, turn, rewrite}
+use Rattle.model.specs.Rules.{neutral, deciding, shares, groups, absorb, omit, unwrap, spread, lift, merge, factor, lower, drop-member}
+use Rattle.model.specs.Rules.{decided, decide, renamed, rename, Family, absorbs, omits, unwraps, spreads, lifts, merges, factors, drops, decides, renames}
+use Rattle.model.specs.Rules.{change, Row, row-of, turn, rewrite}
 use Rattle.theory_forms.specs.Logic.{none-some, and-split, and-join}
 use Rattle.locality.specs.Mentions.{both-ways}
 use Rattle.locality.specs.Alike.{Alike, alike-size, alike-covers, alike-first, alike-after, alike-literal, alike-constant, alike-literals, alike-unit, alike-groups, alike-shares, Conjunctions, neither, each, alike-conjunction}
@@ -61,6 +63,19 @@ unfolding then
 fades-made f g gone = gone
 fades-made f g kept = kept
 
+-- Of the first of two answers, and of one that a test gives at once.
+fades-first : {A : Type 0} {o p q r : Option A} → Fades o p → Fades q r → Fades (first-of o q) (first-of p r)
+unfolding first-of
+fades-first gone gone = gone
+fades-first {o = none} gone kept = kept
+fades-first {o = some a} gone kept = kept
+fades-first kept y = kept
+
+fades-pick : {A : Type 0} (t : Bool) (a b : A) {o p : Option A} → Fades o p → Fades (pick t (some a) o) (pick t (some b) p)
+unfolding pick
+fades-pick true a b y = kept
+fades-pick false a b y = y
+
 fades-when :
     {A B : Type 0} (t : Bool) (k m : A) (f : A → Option B) →
     Fades (f k) (f m) →
@@ -100,6 +115,21 @@ module _ {n : ℕ} {k m : Forest} (x : Alike (suc n) k m) (c : Conn) (i j : ℕ)
       fades-conjunction _ _ (alike-conjunction (alike-after i x)) (λ a b y.
       fades-same _ _ _ _ (ap₂ (λ s t. eqb j 0 && s && t) (alike-literals (alike-first i x)) (alike-literals (alike-after (suc i) x))))
 
+  -- Rules 16 and 17 look at the number of children alone.
+  decided-fades : (b : Conn) → Fades (decided b k) (decided b m)
+  unfolding decided
+  decided-fades and = gone
+  decided-fades or = gone
+  decided-fades root = gone
+  decided-fades (at-least a) = fades-pick (eqb a 0) _ _ (fades-same _ _ _ _ (ap (λ s. ltb s a) (alike-size x)))
+
+  renamed-fades : (b : Conn) → Fades (renamed b k) (renamed b m)
+  unfolding renamed
+  renamed-fades and = gone
+  renamed-fades or = gone
+  renamed-fades root = gone
+  renamed-fades (at-least a) = fades-pick (eqb a 1) _ _ (fades-same _ _ _ _ (ap (λ s. eqb a s) (alike-size x)))
+
   -- The test of rule 14, from the two parts of it that look deeper.
   pub factor-test :
       (a : Literal) (p q g h : Forest) →
@@ -114,7 +144,7 @@ module _ {n : ℕ} {k m : Forest} (x : Alike (suc n) k m) (c : Conn) (i j : ℕ)
 
   module _ (lift-fades : Fades (lift c i j k) (lift c i j m)) (factor-fades : Fades (factor c i j k) (factor c i j m)) where
     change-fades : (w : Family) → Fades (change w c i j k) (change w c i j m)
-    unfolding change absorb omit unwrap
+    unfolding change absorb omit unwrap lower drop-member decide rename
     change-fades absorbs = constant-fades (deciding c) _ _
     change-fades omits = constant-fades (neutral c) _ _
     change-fades unwraps = fades-same _ _ _ _ (ap (λ s. eqb i 0 && eqb j 0 && eqb s 1) (alike-size x))
@@ -122,6 +152,9 @@ module _ {n : ℕ} {k m : Forest} (x : Alike (suc n) k m) (c : Conn) (i j : ℕ)
     change-fades lifts = lift-fades
     change-fades merges = merge-fades
     change-fades factors = factor-fades
+    change-fades drops = fades-first (constant-fades (neutral c) _ _) (constant-fades (deciding c) _ _)
+    change-fades decides = fades-when (eqb i 0 && eqb j 0) k m (decided c) (decided-fades c)
+    change-fades renames = fades-when (eqb i 0 && eqb j 0) k m (renamed c) (renamed-fades c)
 
     turn-fades : (w : Row) → Fades (turn w c i j k) (turn w c i j m)
     unfolding turn

@@ -2,17 +2,18 @@
 use mathlib.Core.Bool.{Bool, true, false, _||_, or-false}
 use mathlib.Core.Logic.{⊎-elim}
 use mathlib.Core.Path.{_≡_, sym, ap, _∙_}
-use Prim.Native.Nat.{ℕ, _≤_}
+use Prim.Native.Nat.{ℕ, _-_, _≤_}
 use native.Mathlib.Omega.{arith}
 use borrow.Author.Tests.{eqb-true}
 use lib.Dec.{eqb}
 use Rattle.model.specs.Base.{pick}
 use Rattle.model.specs.Literal.{Literal, option, same}
-use Rattle.model.specs.Forest.{Conn, and, or, root, Forest, nil, lit, node, _⊕_, has-unit, mentions}
-use Rattle.model.specs.Rules.{assigned, without-unit, shares, units, groups-without, groups}
+use Rattle.model.specs.Forest.{Conn, and, or, root, at-least, Forest, nil, lit, node, _⊕_, has-unit, mentions}
+use Rattle.model.specs.Rules.{neutral, assigned, without-unit, shares, units, groups-without, groups}
 use Rattle.theory_forms.specs.Logic.{true-false, and-split, or-split, or-left, or-right}
 use Rattle.theory_forms.specs.Forests.{mentions-⊕, unit-mentions, assigned-lit}
-use Rattle.theory_rewriting.specs.Changes.{Change, absorbed, omitted, unwrapped, spreaded, lifted, merged, factored}
+use Rattle.theory_forms.specs.Ended.{Ended, none-asked, too-many, one-asked, all-asked}
+use Rattle.theory_rewriting.specs.Changes.{Change, absorbed, omitted, unwrapped, spreaded, lifted, merged, factored, lowered, ended}
 
 -- Every option that the second forest mentions, the first does.
 abbrev pub Covers : Forest → Forest → Type 0
@@ -89,22 +90,35 @@ shared-mentioned a (node and k f) s g =
     or-left (mentions (option a) f) (unit-mentions a k (and-split (has-unit a k) (shares a f) s .0))
 shared-mentioned a (node or k f) s g = true-false (sym s)
 shared-mentioned a (node root k f) s g = true-false (sym s)
+shared-mentioned a (node (at-least b) k f) s g = true-false (sym s)
+
+-- A node without one of its constants, and one that rule 16 or 17 ended.
+less-covers : {k g : Forest} (p q : Forest) (b d : Conn) → k ≡ p ⊕ node d nil q → g ≡ node b (p ⊕ q) nil → Covers k g
+unfolding mentions
+less-covers p q b d e r v m =
+    let h = drop-last (mentions v (p ⊕ q)) (rw r at m) in rw e (beside v p (node d nil q) q (λ t. t) h)
+
+ended-covers : {a : ℕ} {k m : Forest} {d : Conn} → Ended a k d m → Covers k m
+unfolding mentions
+ended-covers (none-asked e) v h = true-false (sym h)
+ended-covers (too-many e) v h = true-false (sym h)
+ended-covers (one-asked e) v h = h
+ended-covers (all-asked e) v h = h
 
 -- The new tree mentions only what the old one did.
 pub change-covers : {c : Conn} {k g : Forest} → Change c k g → Covers k g
 unfolding mentions
-change-covers (absorbed p q e n r) v m = true-false (sym (sym (ap (mentions v) r) ∙ m))
-change-covers (omitted p q e r) v m =
-    let h = drop-last (mentions v (p ⊕ q)) (rw r at m) in rw e (beside v p (node _ nil q) q (λ t. t) h)
-change-covers (unwrapped n e r) v m = rw r at m
-change-covers {c} (spreaded p q l n e t r) v m =
+change-covers (absorbed p q o e n r) v m = true-false (sym (sym (ap (mentions v) r) ∙ m))
+change-covers {c} (omitted p q e r) v m = less-covers p q c (neutral c) e r v m
+change-covers (unwrapped o n e r) v m = rw r at m
+change-covers {c} (spreaded p q l o n e t r) v m =
     let h = drop-last (mentions v (assigned c l p ⊕ lit l (assigned c l q))) (rw r at m) in
     rw e
     (from-either v (assigned c l p) (lit l (assigned c l q))
     (λ t. in-first v p (lit l q) (assigned-mentions v c l p t))
     (λ t. in-second v p (lit l q) (keep-first (eqb v (option l)) (mentions v (assigned c l q)) (mentions v q) (assigned-mentions v c l q) t))
     h)
-change-covers (lifted p a b q l n e r) v m =
+change-covers (lifted p a b q l o n e r) v m =
     let h = drop-last (mentions v (p ⊕ lit l (node and (a ⊕ b) q))) (rw r at m) in
     let out : mentions v (lit l (node and (a ⊕ b) q)) ≡ true → mentions v (node and (a ⊕ lit l b) q) ≡ true =
     λ t. either-way (eqb v (option l)) (mentions v (a ⊕ b) || mentions v q)
@@ -125,3 +139,5 @@ change-covers {k = k} (factored a n s t r) v m =
     (λ w. groups-mentions v a k (drop-last (mentions v (groups-without a k)) w))
     (drop-last (eqb v (option a) || (mentions v (groups-without a k) || false)) u))
     h
+change-covers (lowered p q a n e r) v m = less-covers p q (at-least (a - 1)) and e r v m
+change-covers (ended a d b n e r) v m = ended-covers e v (drop-last (mentions v b) (rw r at m))

@@ -6,7 +6,7 @@ use Prim.Native.Nat.{ℕ, suc, _+_, _-_, _<_}
 use lib.ListN.{length, drop}
 use Rattle.model.specs.Forest.{first, kids}
 use Rattle.model.specs.Code.{Node, encode, decode}
-use Rattle.model.specs.Rules.{Family, absorbs, omits, unwraps, spreads, lifts, merges, factors, rewrite}
+use Rattle.model.specs.Rules.{Family, absorbs, omits, unwraps, spreads, lifts, merges, factors, drops, decides, renames, rewrite}
 
 -- A rule applies at a place for no i and j.
 abbrev pub Quiet : ℕ → ℕ → List Node → Type 0
@@ -47,7 +47,7 @@ abbrev pub between : ℕ → ℕ → ℕ → Zone
 between f o n = record { from = f; old = o; new = n }
 
 -- The zone of a step of a family at place p with i and j, from nodes ns to nodes ms. What rule 14 makes of its tree is as much
--- longer or shorter as the nodes are; every other length follows from the old nodes.
+-- longer or shorter as the nodes are; every other length follows from the old nodes. Rule 17 changes a head alone: its zone is empty.
 unfoldable pub zone : Family → ℕ → ℕ → ℕ → List Node → List Node → Zone
 zone absorbs p i j ns ms = between p (tree-end p ns) (p + 2)
 zone omits p i j ns ms = between (child-place p i ns) (child-place p i ns + 1) (child-place p i ns)
@@ -57,3 +57,6 @@ zone lifts p i j ns ms =
     let inner = child-place (child-place p i ns) j ns in between (child-place p i ns) (inner + 1) (inner + 1)
 zone merges p i j ns ms = between (child-place p i ns) (child-place p i ns + 1) (child-place p i ns)
 zone factors p i j ns ms = between p (tree-end p ns) (tree-end p ns + length ms - length ns)
+zone drops p i j ns ms = between (child-place p i ns) (child-place p i ns + 1) (child-place p i ns)
+zone decides p i j ns ms = between p (tree-end p ns) (p + 1)
+zone renames p i j ns ms = between (p + 1) (p + 1) (p + 1)

@@ -6,7 +6,7 @@ use Prim.Native.Nat.{ℕ, zero, suc, _+_, _*_, _/_, _%_}
 use lib.Dec.{eqb, leb}
 use lib.ListN.{length, getD, take, drop}
 use Rattle.model.specs.Base.{pick, all, any, same-list}
-use Rattle.model.specs.Forest.{Forest, nil, lit, node, kids, size, root}
+use Rattle.model.specs.Forest.{Forest, nil, lit, node, kids, size, root, all-seated}
 use Rattle.model.specs.Code.{Node, head, encode, decode, one-tree, node-of}
 use Rattle.model.specs.Clauses.{Clause, clauses}
 use Rattle.model.specs.Limits.{usual, most-rules, most-nodes, head-length, code-length}
@@ -113,9 +113,10 @@ cut (e ∷ es) xs = take (e .count) xs ∷ cut es (drop (e .count) xs)
 unfoldable pub bodies-of : List ℕ → List (List ℕ)
 bodies-of b = cut (contents-of b) (numbers-of b)
 
--- "A body is one tree, a node before its children, without kind 5."
+-- "A body is one tree, a node before its children, without kind 5"; "in book and sheet alike" the members of kind 6 are
+-- well-formed.
 unfoldable pub body-ok : ℕ → List ℕ → Bool
-body-ok n xs = all (body-node n) xs && one-tree (map node-of xs)
+body-ok n xs = all (body-node n) xs && one-tree (map node-of xs) && all-seated (decode (map node-of xs))
 
 -- The nodes of the sheet that the book fills: "the root's children are the rules, in book order".
 unfoldable pub book-nodes : List ℕ → List Node

@@ -1,9 +1,9 @@
 -- Meaning: clauses, derived literals, contradiction.
 use mathlib.Core.List.{List, [], _∷_, _++_, map, List·Memᴰ}
 use mathlib.Core.Path.{_≡_}
-use Prim.Native.Nat.{ℕ, zero, suc}
+use Prim.Native.Nat.{ℕ, zero, suc, _-_}
 use Rattle.model.specs.Literal.{Literal, complement}
-use Rattle.model.specs.Forest.{Conn, and, or, root, Forest, nil, lit, node, size}
+use Rattle.model.specs.Forest.{Conn, and, or, root, at-least, Forest, nil, lit, node, size}
 
 -- "A clause is a set, so duplicates merge." A list that is only ever asked for its members.
 abbrev pub Clause : Type 0
@@ -15,11 +15,13 @@ unions [] ds = []
 unions (c ∷ cs) ds = map (λ d. c ++ d) ds ++ unions cs ds
 
 -- From how many of its m children a clause of a node takes a clause each: "of an all-of or root, those of all children", so
--- from one; "of an any-of, every union that takes one clause from each child", so from all.
+-- from one; "of an any-of, every union that takes one clause from each child", so from all; of kind 6, "every union of members'
+-- clauses over members - k + 1 of them", so that no clause is left "if k is 0" and the empty one "if k exceeds the members".
 unfoldable pub need : Conn → ℕ → ℕ
 need and m = 1
 need or m = m
 need root m = 1
+need (at-least k) m = suc m - k
 
 -- The unions that take one clause from each of some r trees, for every choice of so many: of no tree; of a tree with these
 -- clauses and of later ones. "So true has no clause and false has the empty one."

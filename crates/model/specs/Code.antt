@@ -7,8 +7,8 @@ use lib.Dec.{eqb, leb}
 use lib.ListN.{length}
 use Rattle.model.specs.Base.{pick, only-if, then}
 use Rattle.model.specs.Literal.{Literal, pos, neg}
-use Rattle.model.specs.Limits.{kind-factor}
-use Rattle.model.specs.Forest.{Conn, and, or, root, Forest, nil, lit, node, size, first, after}
+use Rattle.model.specs.Limits.{kind-factor, least-factor}
+use Rattle.model.specs.Forest.{Conn, and, or, root, at-least, Forest, nil, lit, node, size, first, after}
 
 -- A literal, or a connective with its number of children.
 pub data Node : Type 0 where
@@ -53,6 +53,18 @@ literals [] = zero
 literals (leaf l ∷ ns) = suc (literals ns)
 literals (head c k ∷ ns) = literals ns
 
+-- Nodes of kind 6 in a list of nodes.
+unfoldable pub least-count : Conn → ℕ
+least-count and = 0
+least-count or = 0
+least-count root = 0
+least-count (at-least a) = 1
+
+unfoldable pub leasts : List Node → ℕ
+leasts [] = zero
+leasts (leaf l ∷ ns) = leasts ns
+leasts (head c k ∷ ns) = least-count c + leasts ns
+
 -- "The weight is nodes plus marks (root counted)."
 unfoldable pub weight : List Node → ℕ
 weight ns = length ns + literals ns
@@ -67,25 +79,30 @@ value x = x % kind-factor
 unfoldable pub number : ℕ → ℕ → ℕ
 number k v = k * kind-factor + v
 
--- "Kind 1 is an option, 2 the same option barred, 3 all-of and 4 any-of, 5 the root."
+-- "Kind 1 is an option, 2 the same option barred, 3 all-of and 4 any-of, 5 the root"; "a new node kind 6".
 unfoldable pub conn-kind : Conn → ℕ
 conn-kind and = 3
 conn-kind or = 4
 conn-kind root = 5
+conn-kind (at-least a) = 6
 
--- "Value the number of children": the value of a node of so many children, and the children of a node by its number.
+-- "Value the number of children"; "kind 6 has value members × 64 + k": the value of a node of so many children, and the children
+-- of a node by its number.
 unfoldable pub conn-value : Conn → ℕ → ℕ
-conn-value c m = m
+conn-value and m = m
+conn-value or m = m
+conn-value root m = m
+conn-value (at-least a) m = m * least-factor + a
 
 unfoldable pub children : ℕ → ℕ
-children x = value x
+children x = pick (eqb (kind x) 6) (value x / least-factor) (value x)
 
 unfoldable pub number-of : Node → ℕ
 number-of (leaf (pos v)) = number 1 v
 number-of (leaf (neg v)) = number 2 v
 number-of (head c k) = number (conn-kind c) (conn-value c k)
 
--- The node that a number of kind 1 to 5 is. (No other number is asked for.)
+-- The node that a number of kind 1 to 6 is. (No other number is asked for.)
 unfoldable pub node-of : ℕ → Node
 node-of x =
     pick (eqb (kind x) 1)
@@ -94,4 +111,6 @@ node-of x =
     (leaf (neg (value x)))
     (pick (eqb (kind x) 3)
     (head and (children x))
-    (pick (eqb (kind x) 4) (head or (children x)) (head root (children x)))))
+    (pick (eqb (kind x) 4)
+    (head or (children x))
+    (pick (eqb (kind x) 6) (head (at-least (value x % least-factor)) (children x)) (head root (children x))))))

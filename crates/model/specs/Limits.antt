@@ -34,6 +34,10 @@ code-length = 13
 abbrev pub kind-factor : ℕ
 kind-factor = 4096
 
+-- "A new node kind 6 has value members × 64 + k."
+abbrev pub least-factor : ℕ
+least-factor = 64
+
 -- "A lent run of exactly 4,098 16-bit numbers": two and the nodes.
 abbrev pub sheet-room : ℕ
 sheet-room = 4096
@@ -49,9 +53,9 @@ most-literals = 2 * most-options
 abbrev pub literal-weight : ℕ
 literal-weight = 2
 
--- "The fourteen rules"; the number after the last stands for none.
+-- "House order and 01's table go on to 17"; the number after the last stands for none.
 abbrev pub last-rule : ℕ
-last-rule = 14
+last-rule = 17
 
 abbrev pub no-rule : ℕ
 no-rule = suc last-rule

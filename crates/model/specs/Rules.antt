@@ -1,27 +1,30 @@
--- The fourteen rules. Each family of rules is one definition for every connective.
+-- The seventeen rules. Each family of rules is one definition for every connective.
 use mathlib.Core.Bool.{Bool, true, false, _&&_, _||_, not}
 use mathlib.Core.List.{List, [], _∷_, _++_}
 use mathlib.Core.Option.{Option, none, some}
 use mathlib.Core.Path.{_≡_}
-use Prim.Native.Nat.{ℕ, zero, suc}
-use lib.Dec.{eqb, leb}
+use Prim.Native.Nat.{ℕ, zero, suc, _-_}
+use lib.Dec.{eqb, leb, ltb}
 use lib.ListN.{getElem?, take, drop}
-use Rattle.model.specs.Base.{pick, only-if, is-some, then}
+use Rattle.model.specs.Base.{pick, only-if, first-of, is-some, then}
 use Rattle.model.specs.Literal.{Literal, complement, option, same}
-use Rattle.model.specs.Forest.{Conn, and, or, root, Forest, nil, lit, node, constant, _⊕_, size, first, after}
+use Rattle.model.specs.Forest.{Conn, and, or, root, at-least, Forest, nil, lit, node, constant, _⊕_, size, first, after}
 use Rattle.model.specs.Forest.{literal-at, conjunction-at, constant-at, literals-only, has-unit, mentions}
 use Rattle.model.specs.Code.{Node, encode, decode, conn-kind}
 
--- The connective whose empty group adds nothing among a node's children, and the one whose empty group decides it.
+-- The connective whose empty group adds nothing among a node's children, and the one whose empty group decides it, or one of
+-- those asked for.
 unfoldable pub neutral : Conn → Conn
 neutral and = and
 neutral or = or
 neutral root = and
+neutral (at-least a) = or
 
 unfoldable pub deciding : Conn → Conn
 deciding and = or
 deciding or = and
 deciding root = or
+deciding (at-least a) = and
 
 -- Everywhere in the trees: the literal becomes the neutral constant, its complement the deciding one.
 unfoldable pub assigned : Conn → Literal → Forest → Forest
@@ -45,6 +48,7 @@ shares a (lit x f) = shares a f
 shares a (node and k f) = has-unit a k && shares a f
 shares a (node or k f) = false
 shares a (node root k f) = false
+shares a (node (at-least b) k f) = false
 
 -- The literals among the trees; the nodes among them, each without its first a; the number of those.
 unfoldable pub units : Forest → Forest
@@ -116,8 +120,42 @@ factor c i j ks =
     (literals-only (first i ks) && not (has-unit a (first j inner)) && shares a ks && leb 2 (groups ks))
     (node c (units ks ⊕ node and (lit a (node or (groups-without a ks) nil)) nil) nil)))
 
+-- Rule 15. "Removes member i that is true (k less one, not below 0) or false": the false one as rules 4 to 6 do, the true one so.
+unfoldable pub one-less : Conn → Conn
+one-less and = and
+one-less or = or
+one-less root = root
+one-less (at-least a) = at-least (a - 1)
+
+unfoldable pub lower : Conn → ℕ → ℕ → Forest → Option Forest
+lower c i j ks =
+    only-if (eqb j 0 && constant-at (deciding c) (after i ks)) (node (one-less c) (first i ks ⊕ after (suc i) ks) nil)
+
+unfoldable pub drop-member : Conn → ℕ → ℕ → Forest → Option Forest
+drop-member c i j ks = first-of (omit c i j ks) (lower c i j ks)
+
+-- Rule 16. "Turns k = 0 into true and k over the members into false."
+unfoldable pub decided : Conn → Forest → Option Forest
+decided and ks = none
+decided or ks = none
+decided root ks = none
+decided (at-least a) ks = pick (eqb a 0) (some (constant and)) (only-if (ltb (size ks) a) (constant or))
+
+unfoldable pub decide : Conn → ℕ → ℕ → Forest → Option Forest
+decide c i j ks = then (only-if (eqb i 0 && eqb j 0) ks) (decided c)
+
+-- Rule 17. "Turns k = 1 into any-of, else k = members into all-of."
+unfoldable pub renamed : Conn → Forest → Option Forest
+renamed and ks = none
+renamed or ks = none
+renamed root ks = none
+renamed (at-least a) ks = pick (eqb a 1) (some (node or ks nil)) (only-if (eqb a (size ks)) (node and ks nil))
+
+unfoldable pub rename : Conn → ℕ → ℕ → Forest → Option Forest
+rename c i j ks = then (only-if (eqb i 0 && eqb j 0) ks) (renamed c)
+
 pub data Family : Type 0 where
-  absorbs omits unwraps spreads lifts merges factors : Family
+  absorbs omits unwraps spreads lifts merges factors drops decides renames : Family
 
 -- What becomes of a node with these children, where the rule's conditions on them hold.
 unfoldable pub change : Family → Conn → ℕ → ℕ → Forest → Option Forest
@@ -128,8 +166,12 @@ change spreads c i j ks = spread c i j ks
 change lifts c i j ks = lift c i j ks
 change merges c i j ks = merge c i j ks
 change factors c i j ks = factor c i j ks
+change drops c i j ks = drop-member c i j ks
+change decides c i j ks = decide c i j ks
+change renames c i j ks = rename c i j ks
 
--- "Node kind and fewest children of each rule stand as one fixed table of 14 rows": "3 all-of and 4 any-of, 5 the root".
+-- "Node kind and fewest children of each rule stand as one fixed table": "3 all-of and 4 any-of, 5 the root"; "01's table goes on
+-- to 17".
 pub record Row : Type 0 where
   pub kind : ℕ
   pub fewest : ℕ
@@ -154,6 +196,9 @@ table =
     ∷ row 5 1 lifts
     ∷ row 3 1 merges
     ∷ row 4 2 factors
+    ∷ row 6 1 drops
+    ∷ row 6 0 decides
+    ∷ row 6 0 renames
     ∷ []
 
 -- The row of a rule; rules count from 1.

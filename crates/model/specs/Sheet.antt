@@ -7,16 +7,17 @@ use lib.Dec.{eqb, leb, ltb}
 use lib.ListN.{length, getD, take, drop, replicate}
 use Rattle.model.specs.Base.{pick, all}
 use Rattle.model.specs.Literal.{Literal}
-use Rattle.model.specs.Forest.{or, root, Forest, nil, lit, node, constant, _⊕_, kids, has-unit}
+use Rattle.model.specs.Forest.{or, root, Forest, nil, lit, node, constant, _⊕_, kids, has-unit, all-seated}
 use Rattle.model.specs.Code.{Node, encode, decode, one-tree, weight, kind, value, node-of, number-of}
 use Rattle.model.specs.Clauses.{Clause, clauses}
 use Rattle.model.specs.Propagation.{Report, report}
 use Rattle.model.specs.Limits.{usual, sheet-length, sheet-room}
 
--- A node of a body: "kind 1 is an option (value its number, 0 to N - 1), 2 the same option barred, 3 all-of and 4 any-of".
+-- A node of a body: "kind 1 is an option (value its number, 0 to N - 1), 2 the same option barred, 3 all-of and 4 any-of"; "kind 6
+-- has value members × 64 + k, both 0 to 63".
 unfoldable pub body-node : ℕ → ℕ → Bool
 body-node n x =
-    pick (eqb (kind x) 1 || eqb (kind x) 2) (ltb (value x) n) (eqb (kind x) 3 || eqb (kind x) 4)
+    pick (eqb (kind x) 1 || eqb (kind x) 2) (ltb (value x) n) (eqb (kind x) 3 || eqb (kind x) 4 || eqb (kind x) 6)
 
 -- "N (0 to 512), the count of nodes used, the nodes from the root on, then zeros."
 unfoldable pub options-in : List ℕ → ℕ
@@ -40,7 +41,8 @@ rooted n [] = false
 rooted n (x ∷ xs) = eqb (kind x) 5 && all (body-node n) xs
 
 -- "A lent run of exactly 4,098 16-bit numbers: N (0 to 512), the count of nodes used, the nodes from the root on as one tree
--- with kind 5 only at its head, then zeros. The weight is at most 4,096. Anything else is no sheet."
+-- with kind 5 only at its head, then zeros. The weight is at most 4,096. Anything else is no sheet." "In book and sheet alike" the
+-- members of kind 6 are well-formed.
 unfoldable pub is-sheet : List ℕ → Bool
 is-sheet s =
     eqb (length s) sheet-length
@@ -48,6 +50,7 @@ is-sheet s =
     && leb (used-in s) sheet-room
     && rooted (options-in s) (numbers-in s)
     && one-tree (nodes-in s)
+    && all-seated (decode (nodes-in s))
     && all (eqb 0) (rest-in s)
     && leb (weight (nodes-in s)) (usual .weight)
 

@@ -6,7 +6,7 @@ use Prim.Native.Nat.{ℕ, zero, suc, _+_, _*_}
 use lib.ListN.{length, drop}
 use Rattle.model.specs.Base.{only-if, is-some, least, then, maybe}
 use Rattle.model.specs.Forest.{Forest, size, after, kids}
-use Rattle.model.specs.Code.{Node, decode, literals}
+use Rattle.model.specs.Code.{Node, decode, literals, leasts}
 use Rattle.model.specs.Rules.{rewrite, step}
 use Rattle.model.specs.Limits.{last-rule}
 
@@ -58,9 +58,10 @@ run zero ns = record { settled = maybe true (λ x. false) (next ns); count = zer
 run (suc b) ns =
     maybe (record { settled = true; count = zero; nodes = ns }) (λ ms. one-more (run b ms)) (next-step ns)
 
--- "The cube of n + 2l, for n nodes and l option marks": no stretch does more steps from nodes like these.
+-- "The cube of n + 2l, for n nodes and l option marks"; "the step bound counts each kind 6 node twice": no stretch does more steps
+-- from nodes like these.
 abbrev pub cube : ℕ → ℕ
 cube x = x * x * x
 
 abbrev pub most-steps : List Node → ℕ
-most-steps ns = cube (length ns + 2 * literals ns)
+most-steps ns = cube (length ns + leasts ns + 2 * literals ns)

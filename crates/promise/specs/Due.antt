@@ -91,6 +91,7 @@ pub record First-due : Type 0 where
       ∷ line-refused on not (has-line t k)
       ∷ full-refused on leaves-too-much t book
       ∷ [])))
+  -- Document 02, U4: "refusal 9 is for rules outside 1 to 17", those that the table has no row for.
   pub step :
       (s : List ℕ) (r p i j : ℕ) →
       By-chain

@@ -56,7 +56,7 @@ pub record Normal (account : Account) (sheet : List ℕ) : Type 0 where
 
 -- "No stretch of the list without an accepted choice does more steps than the cube of n + 2l, for n nodes and l option marks at its
 -- start." Every way to cut the list into what is before, the stretch and the rest. Document 02, U2: a stretch "holds no accepted
--- withdrawal either".
+-- withdrawal either"; U4: "The step bound counts each kind 6 node twice."
 abbrev pub Bounded : List Call → State → Type 0
 Bounded calls start =
     (before stretch rest : List Call) →

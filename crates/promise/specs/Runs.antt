@@ -19,7 +19,7 @@ use Rattle.call_laws.specs.Effects.{run-outcome}
 use Rattle.call_laws.specs.SettledLists.{ends-last, run-enough}
 use Rattle.promise.specs.Lists.{Normal, order-of, demand-3}
 
--- A run on a sheet is accepted, and its count is at most the cube of n + 2l.
+-- A run on a sheet is accepted, and its count is at most the cube of n + 2l, where n "counts each kind 6 node twice".
 pub record Counts (sheet : List ℕ) (budget : ℕ) : Type 0 where
   pub ran : Ran
   pub says : runOf sheet budget .answer ≡ accepted ran
@@ -60,8 +60,8 @@ module _ (book target : List ℕ) (lines : List Line) (count : ℕ) where
           let bound = demand-3 book target lines count ok long calls .bounded before (run budget ∷ []) rest parts refl in
           omega (arith, rw (run-outcome here budget here-sheet) at bound)
 
-  -- "Whatever the budgets, no stretch of the list without an accepted choice does more steps than the cube of n + 2l": a run in the
-  -- midst of any list is a stretch.
+  -- "Whatever the budgets, no stretch of the list without an accepted choice does more steps than the cube of n + 2l", and "the step
+  -- bound counts each kind 6 node twice": a run in the midst of any list is a stretch.
   pub run-counts :
       (book-accepted : checkOf book ≡ accepted tt) →
       (target-long-enough : length target ≡ sheet-length) →

@@ -1,7 +1,6 @@
 -- Laws of the entries of a stack: how many trees stand, where literals begin, and the first entries and the rest.
 use mathlib.Core.Bool.{true, false, _||_}
 use mathlib.Core.List.{List, [], _∷_}
-use mathlib.Core.Logic.{⊎-elim}
 use mathlib.Core.Path.{_≡_, refl, sym, ap, _∙_}
 use Prim.Native.Nat.{ℕ, zero, suc, _+_, _*_, _%_, _≤_, _<_}
 use native.Mathlib.Omega.{arith}
@@ -9,7 +8,7 @@ use borrow.Author.Tests.{eq-eqb, ne-eqb}
 use lib.ListN.{length, getD, take, drop}
 use lib.Seq.{length-take-le, take-all, take-take}
 use Rattle.model.specs.Base.{pick}
-use Rattle.theory_forms.specs.Logic.{either, pick-keeps}
+use Rattle.theory_forms.specs.Logic.{pick-keeps}
 use Rattle.report_breaking.specs.Stacks.{among, begin, failing, broken, Stacked, bottom, standing}
 
 pub failing-odd : (f : ℕ) → (f % 2 ≡ 0 → ⊥) → failing f ≡ true
@@ -62,15 +61,6 @@ unfolding bottom
 bottom-last n k [] h = absurd (omega arith)
 bottom-last n zero (f ∷ fs) h = refl
 bottom-last n (suc k) (f ∷ fs) h = bottom-last (begin f) k fs (omega arith)
-
--- Trees that all fail as they are have no literals.
-pub bottom-none : (n : ℕ) (fs : List ℕ) → standing fs ≡ 0 → Stacked n fs → bottom n fs ≡ n
-unfolding bottom
-bottom-none n [] e s = refl
-bottom-none n (f ∷ fs) e s = ⊎-elim
-    (λ h. bottom-none (begin f) fs (sym (standing-same f fs h) ∙ e) (s .2) ∙ s .1 h)
-    (λ h. absurd (omega (arith, standing-more f fs h)))
-    (either (failing f))
 
 -- The first entries, and the rest.
 

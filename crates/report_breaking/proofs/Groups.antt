@@ -1,68 +1,63 @@
 -- Trees that a connective joins: which literals break the tree that they make.
-use mathlib.Core.Bool.{Bool, true, false, _&&_, _||_, or-comm, and-true}
+use mathlib.Core.Bool.{Bool, true, false, _&&_, _||_, or-comm}
 use mathlib.Core.List.{List, [], _∷_}
-use mathlib.Core.Logic.{_⊎_, ⊎-elim}
-use mathlib.Core.Path.{_≡_, refl, sym, _∙_}
-use Prim.Native.Nat.{ℕ, _+_, _*_, _≤_, _<_}
+use mathlib.Core.Logic.{⊎-elim}
+use mathlib.Core.Path.{_≡_, refl, sym, ap, _∙_}
+use Prim.Native.Nat.{ℕ, suc, _+_, _-_, _*_, _≤_, _<_}
 use native.Mathlib.Omega.{arith}
-use borrow.Author.Tests.{eqb-true}
-use lib.Dec.{eqb}
+use borrow.Author.Tests.{eqb-true, leb-false, le-leb, lt-leb}
+use lib.Dec.{eqb, leb}
 use lib.ListN.{length, getD, take, drop}
 use lib.Seq.{length-take-le, take-all, take-take, drop-length}
 use Rattle.model.specs.Base.{pick}
-use Rattle.model.specs.Forest.{or, root}
-use Rattle.theory_meaning.specs.Evaluation.{fails-all}
-use Rattle.theory_meaning.specs.Values.{or-none, or-more, root-none, root-more}
-use Rattle.theory_forms.specs.Logic.{either, or-right, and-split, and-join, same-test, true-false}
+use Rattle.model.specs.Forest.{Conn, or}
+use Rattle.model.specs.Clauses.{need}
+use Rattle.theory_meaning.specs.Evaluation.{fails-all, count, threshold}
+use Rattle.theory_meaning.specs.Families.{leb-same}
+use Rattle.theory_forms.specs.Logic.{either, and-split, and-join, same-test, fails-if, true-false}
 use Rattle.report_breaking.specs.Stacks.{among, In-table, begin, failing, broken, Stacked, bottom, standing, Counted, Made}
-use Rattle.report_breaking.proofs.Among.{among-take, among-cut}
-use Rattle.report_breaking.proofs.Entries.{even-entry, odd-entry, standing-more, standing-same, standing-most, bottom-low, bottom-none}
+use Rattle.report_breaking.proofs.Among.{among-take, among-drop, among-cut}
+use Rattle.report_breaking.proofs.Entries.{even-entry, odd-entry, standing-most, bottom-low, broken-length}
+
+-- One tree more, which fails as it is or by a literal or not at all, beside s that stand and k that fail of n.
+least-step : (a m : Bool) (n s k : ℕ) → n ≤ s + k → suc n ≤ pick a s (suc s) + pick (a || m) (suc k) k
+unfolding pick
+least-step true m n s k h = omega arith
+least-step false true n s k h = omega arith
+least-step false false n s k h = omega arith
+
+more-step : (a m : Bool) (n s k : ℕ) → n ≤ s + k →
+    leb (suc (suc n)) (pick a s (suc s) + pick (a || m) (suc k) k) ≡ pick a (leb (suc n) (s + k)) (m || leb (suc n) (s + k))
+unfolding pick
+more-step true m n s k h = leb-same (suc (suc n)) (s + suc k) (suc n) (s + k) (λ l. omega (arith, l)) (λ l. omega (arith, l))
+more-step false true n s k h = le-leb (suc (suc n)) (suc s + suc k) (omega arith)
+more-step false false n s k h = leb-same (suc (suc n)) (suc s + k) (suc n) (s + k) (λ l. omega (arith, l)) (λ l. omega (arith, l))
 
 module _ (q : ℕ) where
-  -- A conjunction fails where one of its trees does.
-  pub some-fails : (ls fs : List ℕ) → standing fs < length fs → fails-all root (broken q ls fs) ≡ true
-  unfolding broken
-  some-fails ls [] h = absurd (omega arith)
-  some-fails ls (f ∷ fs) h = ⊎-elim
-      (λ (e : failing f ≡ true). rw (root-more, e))
-      (λ e. rw root-more (or-right (failing f || among q (drop (begin f) ls)) (some-fails (take (begin f) ls) fs (omega (arith, standing-more f fs e)))))
-      (either (failing f))
+  -- At least those of the trees fail that fail as they are.
+  pub fail-least : (ls fs : List ℕ) → length fs ≤ standing fs + count (broken q ls fs)
+  unfolding broken count standing
+  fail-least ls [] = omega arith
+  fail-least ls (f ∷ fs) =
+      let rest = take (begin f) ls in
+      least-step (failing f) (among q (drop (begin f) ls)) (length fs) (standing fs) (count (broken q rest fs)) (fail-least rest fs)
 
-  -- Where none does, the literals of all of them break it.
-  pub none-fails : (ls fs : List ℕ) {n : ℕ} → length ls ≡ n → Stacked n fs → standing fs ≡ length fs →
-      fails-all root (broken q ls fs) ≡ among q (drop (bottom n fs) ls)
-  unfolding broken bottom among
-  none-fails ls [] e s h = rw (root-none, ← e, drop-length ls)
-  none-fails ls (f ∷ fs) e s h = ⊎-elim
-      (λ b. absurd (omega (arith, standing-same f fs b, standing-most fs)))
-      (λ (b : failing f ≡ false).
+  -- More of them fail exactly where the literal is one of those that break some.
+  pub more-fail : (ls fs : List ℕ) {n : ℕ} → length ls ≡ n → Stacked n fs →
+      leb (suc (length fs)) (standing fs + count (broken q ls fs)) ≡ among q (drop (bottom n fs) ls)
+  unfolding broken bottom count standing among pick
+  more-fail ls [] e s = rw (← e, drop-length ls)
+  more-fail ls (f ∷ fs) e s =
       let low = s .0 in
-      let rest = none-fails (take (begin f) ls) fs (length-take-le (begin f) ls (omega arith)) (s .2) (omega (arith, standing-more f fs b)) in
-      rw (root-more, b, rest)
-      (or-comm (among q (drop (begin f) ls)) (among q (drop (bottom (begin f) fs) (take (begin f) ls))) ∙ sym (among-cut q (bottom (begin f) fs) (begin f) ls (bottom-low (begin f) fs (s .2)) (omega arith))))
-      (either (failing f))
-
-  -- A disjunction fails where all of its trees do.
-  pub all-fail : (ls fs : List ℕ) → standing fs ≡ 0 → fails-all or (broken q ls fs) ≡ true
-  unfolding broken
-  all-fail ls [] h = or-none
-  all-fail ls (f ∷ fs) h = ⊎-elim
-      (λ (e : failing f ≡ true). rw (or-more, e) (all-fail (take (begin f) ls) fs (sym (standing-same f fs e) ∙ h)))
-      (λ e. absurd (omega (arith, standing-more f fs e)))
-      (either (failing f))
-
-  -- Where all but one do, the literals of that one break it.
-  pub one-stands : (ls fs : List ℕ) {n : ℕ} → length ls ≡ n → Stacked n fs → standing fs ≡ 1 →
-      fails-all or (broken q ls fs) ≡ among q (drop (bottom n fs) ls)
-  unfolding broken bottom standing
-  one-stands ls [] e s h = absurd (omega arith)
-  one-stands ls (f ∷ fs) e s h = ⊎-elim
-      (λ (b : failing f ≡ true).
-      let same : take (begin f) ls ≡ ls = take-all (begin f) ls (omega (arith, s .1 b)) in
-      rw (or-more, b, same) (one-stands ls fs (e ∙ sym (s .1 b)) (s .2) (sym (standing-same f fs b) ∙ h)))
-      (λ (b : failing f ≡ false).
-      let none : standing fs ≡ 0 = omega (arith, standing-more f fs b) in
-      rw (or-more, b, all-fail (take (begin f) ls) fs none, bottom-none (begin f) fs none (s .2)) (and-true (among q (drop (begin f) ls))))
+      let rest = take (begin f) ls in
+      let under = bottom (begin f) fs in
+      let inner = more-fail rest fs (length-take-le (begin f) ls (omega arith)) (s .2) in
+      more-step (failing f) (among q (drop (begin f) ls)) (length fs) (standing fs) (count (broken q rest fs)) (fail-least rest fs)
+      ∙ ⊎-elim
+      (λ (b : failing f ≡ true). rw b (inner ∙ ap (λ l. among q (drop under l)) (take-all (begin f) ls (omega (arith, s .1 b)))))
+      (λ (b : failing f ≡ false). rw (b, inner)
+      (or-comm (among q (drop (begin f) ls)) (among q (drop under rest))
+      ∙ sym (among-cut q under (begin f) ls (bottom-low (begin f) fs (s .2)) (omega arith))))
       (either (failing f))
 
 -- Where literals were counted, those of the last trees whose counts are at the number break a disjunction.
@@ -74,23 +69,36 @@ common-breaks {ls} {fs} {held} {n} h l q =
     (λ e. and-join (⊎-elim (λ z. absurd (omega (arith, eqb-true (getD held q 0) n e))) (λ z. z) (h .blank q)) e)
     ∙ h .common q
 
--- Either connective, by the test for a disjunction.
-module _ (d : Bool) (q : ℕ) (ls fs : List ℕ) where
-  pub falls-by : ((d ≡ true) × (standing fs ≡ 0)) ⊎ ((d ≡ false) × (standing fs < length fs)) →
-      fails-all (pick d or root) (broken q ls fs) ≡ true
-  unfolding pick
-  falls-by h = ⊎-elim
-      (λ (w : (d ≡ true) × (standing fs ≡ 0)). rw (w .0) (all-fail q ls fs (w .1)))
-      (λ (w : (d ≡ false) × (standing fs < length fs)). rw (w .0) (some-fails q ls fs (w .1)))
-      h
+-- Any connective, by how many of its children it needs to fail and how many do as they are.
+module _ (c : Conn) (q : ℕ) (ls fs : List ℕ) where
+  by-need : fails-all c (broken q ls fs) ≡ leb (need c (length fs)) (count (broken q ls fs))
+  by-need = threshold c (broken q ls fs) ∙ ap (λ m. leb (need c m) (count (broken q ls fs))) (broken-length q ls fs)
 
-  pub stands-by : Stacked (length ls) fs → ((d ≡ false) × (standing fs ≡ length fs)) ⊎ ((d ≡ true) × (standing fs ≡ 1)) →
-      among q (drop (bottom (length ls) fs) ls) ≡ fails-all (pick d or root) (broken q ls fs)
-  unfolding pick
-  stands-by s h = ⊎-elim
-      (λ (w : (d ≡ false) × (standing fs ≡ length fs)). rw (w .0) (sym (none-fails q ls fs refl s (w .1))))
-      (λ (w : (d ≡ true) × (standing fs ≡ 1)). rw (w .0) (sym (one-stands q ls fs refl s (w .1))))
-      h
+  -- Enough do: it fails.
+  pub falls-by : need c (length fs) ≤ length fs - standing fs → fails-all c (broken q ls fs) ≡ true
+  falls-by h = by-need ∙ le-leb (need c (length fs)) (count (broken q ls fs)) (omega (arith, fail-least q ls fs))
+
+  -- One is lacking: the literals of all that stand break it.
+  pub stands-by : Stacked (length ls) fs → need c (length fs) ≡ suc (length fs - standing fs) →
+      among q (drop (bottom (length ls) fs) ls) ≡ fails-all c (broken q ls fs)
+  stands-by s h =
+      let most = standing-most fs in
+      sym (by-need
+      ∙ ap (λ r. leb r (count (broken q ls fs))) h
+      ∙ leb-same (suc (length fs - standing fs)) (count (broken q ls fs)) (suc (length fs)) (standing fs + count (broken q ls fs)) (λ l. omega (arith, l)) (λ l. omega (arith, l))
+      ∙ more-fail q ls fs refl s)
+
+  -- More are lacking than one literal makes fail: none breaks it.
+  pub far-from : count (broken q ls fs) ≤ suc (length fs - standing fs) → suc (length fs - standing fs) < need c (length fs) →
+      fails-all c (broken q ls fs) ≡ false
+  far-from few h = by-need ∙ lt-leb (need c (length fs)) (count (broken q ls fs)) (omega arith)
+
+-- A literal that is in no list makes no tree fail.
+pub fail-as-they-are : (q : ℕ) (ls fs : List ℕ) {n : ℕ} → length ls ≡ n → Stacked n fs → among q ls ≡ false →
+    count (broken q ls fs) ≤ length fs - standing fs
+fail-as-they-are q ls fs {n} e s h =
+    let none : among q (drop (bottom n fs) ls) ≡ false = fails-if (among q (drop (bottom n fs) ls)) (λ m. true-false (sym (among-drop q (bottom n fs) ls m) ∙ h)) in
+    omega (arith, leb-false (suc (length fs)) (standing fs + count (broken q ls fs)) (more-fail q ls fs e s ∙ none))
 
 -- The tree that is made of them.
 module _ (v : ℕ → Bool) (ls fs : List ℕ) (s : Stacked (length ls) fs) (inside : In-table ls) {base : ℕ}

@@ -4,13 +4,14 @@ use mathlib.Core.Bool.{Bool, true, false, _&&_, _||_}
 use mathlib.Core.List.{List, [], _∷_}
 use mathlib.Core.Logic.{_⊎_}
 use mathlib.Core.Path.{_≡_}
-use Prim.Native.Nat.{ℕ, suc, _+_, _/_, _%_, _≤_, _<_}
+use Prim.Native.Nat.{ℕ, suc, _+_, _-_, _/_, _%_, _≤_, _<_}
 use lib.Dec.{eqb}
 use lib.ListN.{length, getD, set, take, drop}
 use Rattle.model.specs.Base.{pick}
 use Rattle.model.specs.Limits.{sheet-room, most-literals}
 use Rattle.model.specs.Forest.{or}
-use Rattle.theory_meaning.specs.Evaluation.{fails-all}
+use Rattle.model.specs.Code.{kind}
+use Rattle.theory_meaning.specs.Evaluation.{fails-all, count}
 use Rattle.report_breaking.specs.Breaking.{opposite}
 
 -- Whether a number is one of a list.
@@ -72,6 +73,10 @@ pub record Children (places fs : List ℕ) (base end : ℕ) : Type 0 where
   pub inside : In-table (take end places)
   pub stacked : Stacked end fs
   pub first : base ≡ bottom end fs
+
+-- Under kind 6 no literal is in two trees: it makes at most one of them more fail than fail as they are.
+abbrev pub Apart : ℕ → List ℕ → List ℕ → Type 0
+Apart x ls fs = eqb (kind x) 6 ≡ true → (q : ℕ) → count (broken q ls fs) ≤ suc (length fs - standing fs)
 
 -- Counts that are at a number exactly for the literals that all of some trees have which do not fail as they are.
 pub record Counted (ls fs held : List ℕ) (n : ℕ) : Type 0 where

@@ -5,17 +5,18 @@ ghost use mathlib.Core.List.{[]};
 ghost use Prim.Native.Nat.{ℕ, _+_, _≤_, _<_};
 ghost use lib.Dec.{eqb};
 ghost use lib.ListN.{length, getD, take, drop};
-ghost use Rattle.model.specs.Base.{pick};
 ghost use Rattle.model.specs.Limits.{«sheet-room», «most-literals»};
-ghost use Rattle.model.specs.Forest.{or, root};
-ghost use Rattle.model.specs.Code.{kind, children};
+ghost use Rattle.model.specs.Forest.{or};
+ghost use Rattle.model.specs.Code.{children};
+ghost use Rattle.model.specs.Clauses.{need};
 ghost use Rattle.theory_meaning.specs.Evaluation.{«fails-all»};
 ghost use Rattle.theory_forms.specs.Scan.{«is-literal»};
 ghost use Rattle.theory_reading.specs.Leaves.{«place-at»};
-ghost use Rattle.theory_meaning.specs.NumberTrees.{«with-node», «Spells-tree»};
+ghost use Rattle.theory_meaning.specs.NumberTrees.{«conn-at», «with-node», «Spells-tree»};
 ghost use Rattle.report_breaking.specs.Breaking.{opposite, Breaking};
 ghost use Rattle.report_breaking.specs.Stacks.{among, «In-table», broken, Stacked, bottom, standing, tried, raised};
-ghost use Rattle.report_breaking.specs.Stacks.{Blank, «Blank-but», Children, Counted, Made, Stack};
+ghost use Rattle.report_breaking.specs.Stacks.{Blank, «Blank-but», Children, Apart, Counted, Made, Stack};
+use common_limits::LEAST_FACTOR;
 use common_limits::MOST_LITERALS;
 
 // A tree that is made: its entry, and where its literals end.
@@ -141,42 +142,65 @@ fn intersect(
     base + keep(&mut places[base..end], count, held)
 }
 
-// Joins the trees last read, whose literals begin at the base: a disjunction fails where all of them do, another node where one
-// does; else it has the literals that all have, or those of each.
+// How many of its children must fail so that a node with so many fails.
+fn need_of(x: usize, children: usize) -> usize
+    requires { ⌜ children ≤ «sheet-room» ⌝ }
+    ensures { λ r. ⌜ r ≡ need («conn-at» x) children ⌝ }
+{
+    let kind = common_nodes::kind_of(x);
+    if kind == 4 {
+        return children;
+    }
+    if kind != 6 {
+        return 1;
+    }
+    let asked = common_nodes::value_of(x) % LEAST_FACTOR;
+    if children < asked {
+        return 0;
+    }
+    children + 1 - asked
+}
+
+// Joins the trees last read, whose literals begin at the base, under a node. It fails where enough of them do. Where one more must
+// fail, it has the literals of each that stands; where more must, a disjunction has those that all have, and kind 6 has none, since no
+// literal is in two members.
 fn join(
     children: &[u16],
-    disjunction: bool,
+    x: usize,
     base: usize,
     end: usize,
     places: &mut [u16],
     held: &mut [u16],
 ) -> Tree
     requires { ⌜ Children (now places) (now children) base end × (length (now places) ≡ «sheet-room») × Blank (now held) ⌝ }
+    requires { ⌜ Apart x (take end (now places)) (now children) ⌝ }
     ensures { λ r. ⌜ Made
-        (λ q. «fails-all» (pick disjunction or root) (broken q (take end (now (places .entry))) (now (children .entry))))
+        (λ q. «fails-all» («conn-at» x) (broken q (take end (now (places .entry))) (now (children .entry))))
         (take end (now (places .entry)))
         (now (children .entry))
         (take (r .end) (now (places .exit)))
         (r .first) ⌝ }
     ensures { λ r. ⌜ (r .end ≤ end) × Blank (now (held .exit)) ⌝ }
 {
-    let standing = count_standing(children);
-    let fails = if disjunction {
-        standing == 0
-    } else {
-        standing < children.len()
-    };
-    if fails {
+    let need = need_of(x, children.len());
+    let failing = children.len() - count_standing(children);
+    if need <= failing {
         return Tree {
             first: (2 * base + 1) as u16,
             end: base,
         };
     }
     let first = (2 * base) as u16;
-    if !disjunction || standing == 1 {
+    if need == failing + 1 {
         return Tree {
             first: first,
             end: end,
+        };
+    }
+    if common_nodes::kind_of(x) != 4 {
+        return Tree {
+            first: first,
+            end: base,
         };
     }
     Tree {
@@ -240,8 +264,9 @@ fn read_group(
         × (length (now stack) ≡ «sheet-room»)
         × Stack (now places) (now stack) top end ⌝ }
     requires { ⌜ (length (now places) ≡ «sheet-room») × Blank (now held) ⌝ }
+    requires { ⌜ Apart x (take end (now places)) (take (children x) (drop top (now stack))) ⌝ }
     ensures { λ r. ⌜ Made
-        (λ q. «fails-all» (pick (eqb (kind x) 4) or root)
+        (λ q. «fails-all» («conn-at» x)
         (broken q (take end (now (places .entry))) (take (children x) (drop top (now (stack .entry))))))
         (take end (now (places .entry)))
         (take (children x) (drop top (now (stack .entry))))
@@ -251,14 +276,7 @@ fn read_group(
 {
     let to = top + common_nodes::children_of(x);
     let base = base_of(&stack[top..to], end);
-    join(
-        &stack[top..to],
-        common_nodes::kind_of(x) == 4,
-        base,
-        end,
-        places,
-        held,
-    )
+    join(&stack[top..to], x, base, end, places, held)
 }
 
 // One node more, before the trees of the stack: its entry takes the place of its children's.
@@ -279,6 +297,7 @@ fn read_node(
         × (length (now stack) ≡ «sheet-room»)
         × Stack (now places) (now stack) top end ⌝ }
     requires { ⌜ (length (now failed) ≡ «most-literals») × Blank (now held) ⌝ }
+    requires { ⌜ Apart x (take end (now places)) (take (children x) (drop top (now stack))) ⌝ }
     ensures { λ r. ⌜ (r .end ≤ end + 1)
         × Stack (now (places .exit)) (now (stack .exit)) (r .top) (r .end)
         × Blank (now (held .exit)) ⌝ }

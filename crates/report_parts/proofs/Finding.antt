@@ -11,19 +11,21 @@ use lib.Dec.{ltb}
 use lib.ListN.{length, getD, set, take, drop, replicate, length-set, length-drop, length-replicate}
 use lib.Seq.{take-take, drop-drop, drop-cons, getD-take, getD-drop, length-take-le, getD-set-same, getD-set-other}
 use Rattle.model.specs.Limits.{sheet-length}
-use Rattle.model.specs.Code.{kind, trees, node-of, number-of}
+use Rattle.model.specs.Forest.{all-seated}
+use Rattle.model.specs.Code.{kind, decode, trees, node-of, number-of}
 use Rattle.model.specs.Sheet.{used-in, numbers-in, nodes-in}
 use Rattle.theory_forms.specs.Logic.{true-false, either, or-split, or-left, or-right}
 use Rattle.theory_forms.specs.Lists.{map-drop}
 use Rattle.theory_forms.specs.Codes.{trees-drop}
 use Rattle.theory_reading.specs.Spans.{span, span-within}
-use Rattle.theory_forms.specs.Shape.{shaped-trees}
+use Rattle.theory_forms.specs.Shape.{shaped-trees, shaped-seated}
 use Rattle.theory_forms.specs.Sheets.{Formed}
 use Rattle.theory_meaning.specs.NumberTrees.{tree-fails}
+use Rattle.theory_meaning.specs.TreeValues.{seated-from}
 use Rattle.report_parts.specs.Parts.{stretch, Claimed, Part, Part-fails, Parted}
 use Rattle.theory_forms.specs.Lists.{drop-take}
 use Rattle.theory_meaning.specs.FailedLiterals.{zero-everywhere}
-use Rattle.report_parts.proofs.Parting.{conjunction-fails, none-fails, first-one, first-or-later, first-some}
+use Rattle.report_parts.proofs.Parting.{conjunction-fails, none-fails, first-one, first-seated, first-or-later, first-some}
 use Rattle.report_parts.proofs.Linking.{same-or-not, literal-place}
 
 -- Stretches of a list: the first number, and a stretch cut in two.
@@ -138,6 +140,13 @@ module _ {s ends homes : List ℕ} {i : ℕ} (sheet : Formed s) (w : Finding s e
       let p = trees-drop (i - 2) (nodes-in s) (shaped-trees (sheet .shaped)) in
       (p .0, ap (λ xs. trees (map node-of xs)) tail ∙ ap trees (map-drop node-of (i - 2) (numbers-in s)) ∙ p .1)
 
+  seated-left : all-seated (decode (map node-of (stretch i (2 + used-in s) s))) ≡ true
+  unfolding nodes-in
+  seated-left =
+      ap (λ xs. all-seated (decode (map node-of xs))) tail
+      ∙ ap (λ ns. all-seated (decode ns)) (map-drop node-of (i - 2) (numbers-in s))
+      ∙ seated-from (i - 2) (nodes-in s) (shaped-seated (sheet .shaped))
+
   length-left : length (stretch i (2 + used-in s) s) ≡ 2 + used-in s - i
   length-left = stretch-long i (2 + used-in s) s inside
 
@@ -176,6 +185,9 @@ module _ {s ends homes : List ℕ} {i : ℕ} (sheet : Formed s) (w : Finding s e
                 let short : m < i + k - i = omega (arith, stretch-long i (i + k) s (omega arith)) in
                 let at-m = stretch-number i (i + k) m s short in
                 rw at-m (literal-place s sheet (i + m) (omega arith) (omega arith) (rw at-m at e));
+            seated =
+                ap (λ xs. all-seated (decode (map node-of xs))) (sym (stretch-start i (2 + used-in s) k s within))
+                ∙ rw same (first-seated (stretch i (2 + used-in s) s) known (spelled .1) some-left seated-left);
           };
           counts = λ t q. w .rest t (cut t ∙ or-left (tree-fails t (stretch (i + k) (2 + used-in s) s)) q);
         }

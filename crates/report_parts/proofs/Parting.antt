@@ -10,12 +10,13 @@ use native.Mathlib.Omega.{arith}
 use lib.Dec.{eqb}
 use lib.ListN.{length, getD, take, drop}
 use Rattle.model.specs.Base.{all, pick}
-use Rattle.model.specs.Forest.{and, root, Forest, size, first, after, _⊕_}
+use Rattle.model.specs.Forest.{and, root, Forest, size, first, after, _⊕_, all-seated}
 use Rattle.model.specs.Code.{Node, leaf, head, kind, children, encode, push, decode, trees, node-of, number-of}
-use Rattle.theory_forms.specs.Logic.{either}
+use Rattle.theory_forms.specs.Logic.{either, and-split}
 use Rattle.theory_forms.specs.Lists.{map-back}
 use Rattle.theory_forms.specs.Forests.{first-after, size-first}
 use Rattle.theory_forms.specs.Codes.{encode-decode, decode-encode, trees-code}
+use Rattle.theory_forms.specs.Seats.{seated-⊕}
 use Rattle.theory_forms.specs.Numbers.{fits, node-number}
 use Rattle.theory_forms.specs.Scan.{is-literal}
 use Rattle.theory_reading.specs.Spans.{span, span-more}
@@ -94,6 +95,14 @@ module _ (xs : List ℕ) (known : xs ≡ map number-of (map node-of xs)) {u : �
 
   pub first-one : trees (map node-of (take (span 1 xs) xs)) ≡ some 1
   first-one = ap trees begun ∙ trees-code (first 1 (forest xs)) ∙ ap some (size-first 1 (forest xs) (some-trees xs h))
+
+  -- Members are in their seats there, where they are in all.
+  pub first-seated : all-seated (forest xs) ≡ true → all-seated (forest (take (span 1 xs) xs)) ≡ true
+  first-seated o =
+      let f = first 1 (forest xs) in
+      let g = after 1 (forest xs) in
+      let parts = and-split (all-seated f) (all-seated g) (sym (seated-⊕ f g) ∙ ap all-seated (first-after 1 (forest xs)) ∙ o) in
+      ap all-seated (ap decode begun ∙ decode-encode f) ∙ parts .0
 
   pub first-or-later : (t : List ℕ) → tree-fails t xs ≡ (tree-fails t (take (span 1 xs) xs) || tree-fails t (drop (span 1 xs) xs))
   unfolding tree-fails

@@ -20,7 +20,7 @@ use Rattle.theory_meaning.specs.Values.{or-none, or-more}
 use Rattle.theory_forms.specs.Sheets.{Formed}
 use Rattle.theory_reading.specs.Leaves.{place-at}
 use Rattle.theory_meaning.specs.NumberTrees.{tree-fails, Spells-tree}
-use Rattle.theory_meaning.specs.TreeValues.{values-of, values-none, values-more, with-literal, with-inner, tree-value}
+use Rattle.theory_meaning.specs.TreeValues.{values-of, values-none, values-more, conn-any, with-literal, with-inner, tree-value}
 use Rattle.report_breaking.specs.Breaking.{opposite}
 use Rattle.report_parts.specs.Parts.{stretch, Part}
 use Rattle.report_parts.proofs.Linking.{same-or-not, below-next, literal-place}
@@ -60,11 +60,10 @@ unfolding is-literal
 inner x four = rw four
 
 disjunction : (t : List ℕ) (x : ℕ) (xs : List ℕ) → Spells-tree (x ∷ xs) → kind x ≡ 4 → tree-fails t (x ∷ xs) ≡ fails-all or (values-of t xs)
-unfolding pick
 disjunction t x xs h four =
     let bs = values-of t xs in
     let whole : fails-all or (take (children x) bs) ∷ drop (children x) bs ≡ tree-fails t (x ∷ xs) ∷ []
-    = rw four at (sym (with-inner t x bs (inner x four))) ∙ sym (values-more t x xs) ∙ tree-value (x ∷ xs) h t in
+    = rw (conn-any x four) at (sym (with-inner t x bs (inner x four))) ∙ sym (values-more t x xs) ∙ tree-value (x ∷ xs) h t in
     let first : fails-all or (take (children x) bs) ≡ tree-fails t (x ∷ xs) = cc in
     let none : drop (children x) bs ≡ [] = cc in
     sym first ∙ ap (fails-all or) (take-all (children x) bs (omega (arith, length-drop (children x) bs, ap length none)))

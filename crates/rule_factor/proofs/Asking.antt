@@ -22,7 +22,7 @@ use Rattle.theory_reading.specs.Flat.{spell, spell-⊕, spell-node, Fits}
 use Rattle.theory_reading.specs.Stretches.{Stretch, forest-in}
 use Rattle.theory_rewriting.specs.Heads.{Headed}
 use Rattle.theory_rewriting.specs.Children.{code, Group, group-children, child-place, child-room, child-fits, child-literal, child-conjunction, headed-group, group-long, literal-within, literal-fits, literal-number, asked-child, conjunction-group}
-use Rattle.theory_rewriting.specs.Turns.{family-at, family-applies}
+use Rattle.theory_rewriting.specs.Turns.{family-at, last-at, family-applies}
 use Rattle.rule_factor.specs.Walks.{among, unit-of, sharing}
 use Rattle.theory_reading.specs.Leaves.{leaf-literal}
 use Rattle.rule_factor.proofs.TreeNumbers.{fits-parts, code-⊕}
@@ -159,7 +159,7 @@ module _ {l : List ℕ} (s : Stretch l) (h : Headed 14 l) where
 
   module _ (i j : ℕ) where
     pub rule-applies : is-some (rewrite 14 i j (forest-in l)) ≡ is-some (factor (h .conn) i j (h .children))
-    unfolding family-at pick change
+    unfolding family-at last-at pick change
     rule-applies = family-applies h i j
 
     applies-not : (Applied i j (h .children) → ⊥) → false ≡ is-some (rewrite 14 i j (forest-in l))

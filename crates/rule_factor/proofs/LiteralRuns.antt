@@ -5,7 +5,7 @@ use Prim.Native.Nat.{ℕ, zero, suc, _≤_}
 use native.Mathlib.Omega.{arith}
 use lib.ListN.{length, length-append}
 use Rattle.model.specs.Literal.{Literal}
-use Rattle.model.specs.Forest.{and, or, root, Forest, nil, lit, node, size, first, literals-only, has-unit}
+use Rattle.model.specs.Forest.{and, or, root, at-least, Forest, nil, lit, node, size, first, literals-only, has-unit}
 use Rattle.model.specs.Code.{encode}
 use Rattle.model.specs.Rules.{shares}
 use Rattle.theory_forms.specs.Logic.{true-false, and-split}
@@ -40,3 +40,4 @@ short-literals a (suc i) (node and k f) n s e =
     absurd (omega (arith, length-append (encode k) (encode (first i f)), unit-some a k (t .0), size-length k, size-length (first i f), size-first i f (omega arith)))
 short-literals a (suc i) (node or k f) n s e = true-false (sym s)
 short-literals a (suc i) (node root k f) n s e = true-false (sym s)
+short-literals a (suc i) (node (at-least b) k f) n s e = true-false (sym s)

@@ -10,7 +10,7 @@ use lib.ListN.{length, drop, length-map, length-append}
 use lib.Seq.{drop-at}
 use Rattle.model.specs.Base.{pick}
 use Rattle.model.specs.Literal.{Literal, same}
-use Rattle.model.specs.Forest.{Conn, and, or, root, same-conn, Forest, nil, lit, node, _⊕_, size, has-unit}
+use Rattle.model.specs.Forest.{Conn, and, or, root, at-least, same-conn, Forest, nil, lit, node, _⊕_, size, has-unit}
 use Rattle.model.specs.Code.{leaf, head, encode, conn-kind, number-of}
 use Rattle.model.specs.Rules.{without-unit, shares, groups}
 use Rattle.theory_forms.specs.Logic.{true-false, or-neither}
@@ -167,6 +167,7 @@ module _ (a : Literal) (fit : fits (leaf a) ≡ true) where
   here-node and k s h w = rw (head-kind and (size k) h, head-children and (size k) h) (among-trees k s w)
   here-node or k s h w = rw (head-kind or (size k) h)
   here-node root k s h w = rw (head-kind root (size k) h)
+  here-node (at-least b) k s h w = rw (head-kind (at-least b) (size k) h)
 
   share-lit :
       (x : Literal) (n : ℕ) (s : List ℕ) →
@@ -204,6 +205,7 @@ module _ (a : Literal) (fit : fits (leaf a) ≡ true) where
       go and = refl
       go or = refl
       go root = refl
+      go (at-least b) = refl
 
 -- The groups among trees.
 groups-lit : (x : Literal) (n : ℕ) (s : List ℕ) → fits (leaf x) ≡ true → groups-in (suc n) (number-of (leaf x) ∷ s) ≡ groups-in n s

@@ -13,17 +13,17 @@ use lib.Seq.{slice, slice-empty, slice-cons, take-add, drop-at, length-take-le, 
 use Rattle.model.specs.Base.{pick, all, is-some, then}
 use Rattle.model.specs.Literal.{Literal}
 use Rattle.model.specs.Forest.{Conn, and, Forest, nil, lit, node, _⊕_, size, first, after, literal-at, conjunction-at, literals-only}
-use Rattle.model.specs.Code.{leaf, head, encode, children, number, number-of}
+use Rattle.model.specs.Code.{leaf, head, encode, children, number, conn-kind, number-of}
 use Rattle.model.specs.Rules.{lift, merge, lifts, merges, change, rewrite}
 use Rattle.theory_forms.specs.Logic.{true-false, some-inj, fails-if, pick-keeps, is-some-of, is-some-only, is-some-then, is-some-first, only-some, then-some}
-use Rattle.theory_forms.specs.Forests.{size-⊕, size-first, size-after, past-end, conjunction-here, literal-here}
+use Rattle.theory_forms.specs.Forests.{size-⊕, size-first, size-after, past-end, conjunction-here, literal-here, grouping}
 use Rattle.theory_forms.specs.Numbers.{head-number}
 use Rattle.theory_forms.specs.Scan.{is-literal}
 use Rattle.theory_reading.specs.Leaves.{leaf-literal, head-inner}
 use Rattle.theory_reading.specs.Spans.{child-at}
 use Rattle.theory_reading.specs.Flat.{spell, spell-⊕, Fits, fits-⊕, fits-lit, fits-tree}
 use Rattle.theory_reading.specs.Stretches.{Stretch, forest-in}
-use Rattle.theory_rewriting.specs.Heads.{Headed, rewritten-to}
+use Rattle.theory_rewriting.specs.Heads.{Headed, headed-groups, rewritten-to}
 use Rattle.theory_rewriting.specs.Children.{moved-at, first-left, code, spell-parts, Group, group-head, group-children, group-bounds, opening, child-opened, child-within, child-place, headed-group, child-stands, child-room, child-fits, child-split, child-group, child-literal, literal-within, conjunction-group}
 use Rattle.theory_rewriting.specs.Turns.{family-at, family-11, family-applies, family-turn}
 use Rattle.rule_lift.specs.Asked.{literalChild, othersLiteral}
@@ -130,12 +130,12 @@ module _ {r : ℕ} {l : List ℕ} (s : Stretch l) (h : Headed r l) (i j : ℕ) w
     applies-others q n b = others-literals (headed-group s h) i b ∙ sym (applies-beside q ∙ rw (eq-eqb j 0 n))
 
 -- Where the literal of an inner conjunction moves to before it.
-literal-moved : {l : List ℕ} {c : Conn} {k f : Forest} {z : ℕ} (g : Group l c k f z) (i j : ℕ) {m q u : Forest} {x : Literal} →
+literal-moved : {l : List ℕ} {c : Conn} {k f : Forest} {z : ℕ} (g : Group l c k f z) → grouping c ≡ true → (i j : ℕ) {m q u : Forest} {x : Literal} →
     after i k ≡ node and m q → after j m ≡ lit x u → let a = child-at i l in let b = a + child-at j (drop a l) in
     let new = set (set l 0 (getD l 0 0 + 1)) a (getD l a 0 - 1) in
     take a new ++ (getD new b 0 ∷ take (b - a) (drop a new) ++ drop (b + 1) new) ≡ spell (node c (first i k ⊕ lit x (node and (first j m ⊕ u) q)) f) z
-unfolding spell encode size number _⊕_
-literal-moved {l} {c} {k} {f} {z} g i j {m} {q} {u} {x} e w =
+unfolding spell encode size number _⊕_ grouping conn-kind
+literal-moved {l} {c} {k} {f} {z} g grouped i j {m} {q} {u} {x} e w =
     let a = child-at i l in
     let b = a + child-at j (drop a l) in
     let v = getD l 0 0 + 1 in
@@ -152,8 +152,8 @@ literal-moved {l} {c} {k} {f} {z} g i j {m} {q} {u} {x} e w =
     let split : l ≡ opening c k i ++ (opening and m j ++ number-of (leaf x) ∷ r) = child-split g i h ∙ ap (λ t. opening c k i ++ t) inside in
     let put : set (set l 0 v) a y ≡ (v ∷ code p) ++ ((y ∷ code o) ++ number-of (leaf x) ∷ r) =
     ap (λ t. set (set t 0 v) a y) split ∙ set-at (v ∷ code p) (number-of (head and (size m))) (code o ++ number-of (leaf x) ∷ r) y a (child-place g i h) in
-    let new : v ≡ number-of (head c (size (p ⊕ lit x (node and (o ⊕ u) q)))) = omega (arith, group-head g, head-number c (size (p ⊕ lit x (node and (o ⊕ u) q))), size-after i k, ap size e, size-⊕ p (lit x (node and (o ⊕ u) q)), size-first i k h) in
-    let less : y ≡ number-of (head and (size (o ⊕ u))) = omega (arith, first-left a l, head-number and (size (o ⊕ u)), group-head d, size-after j m, ap size w, size-⊕ o u, size-first j m n) in
+    let new : v ≡ number-of (head c (size (p ⊕ lit x (node and (o ⊕ u) q)))) = omega (arith, group-head g grouped, head-number c (size (p ⊕ lit x (node and (o ⊕ u) q))) grouped, size-after i k, ap size e, size-⊕ p (lit x (node and (o ⊕ u) q)), size-first i k h) in
+    let less : y ≡ number-of (head and (size (o ⊕ u))) = omega (arith, first-left a l, head-number and (size (o ⊕ u)) refl, group-head d refl, size-after j m, ap size w, size-⊕ o u, size-first j m n) in
     moved-at (v ∷ code p) (y ∷ code o) r (set (set l 0 v) a y) (number-of (leaf x)) a b put (child-place g i h) (omega (arith, child-place d j n))
     ∙ ap₂ (λ s t. s ∷ (code p ++ number-of (leaf x) ∷ (t ∷ (code o ++ r)))) new less
     ∙ sym (spell-parts c p (lit x (node and (o ⊕ u) q)) f z ∙ ap (λ t. number-of (head c (size (p ⊕ lit x (node and (o ⊕ u) q)))) ∷ (code p ++ number-of (leaf x) ∷ t)) (spell-parts and o u (q ⊕ f) z))
@@ -185,7 +185,7 @@ module _ {r : ℕ} {l : List ℕ} (s : Stretch l) (h : Headed r l) (i j : ℕ) (
       let here = conjunction-here i k (o .1) in
       let more : getD l 0 0 + children (getD l (child-at i l) 0) - 1 + 1 ≡ getD l 0 0 + size m =
       rw (← first-left (child-at i l) l) (omega (arith, group-children (child-group g i here), group-bounds g)) in
-      rw (at-place, at-head, more-children) at e ∙ child-opened g i here _ more ∙ ap (λ f. spell (f ⊕ h .rest) (h .zeros + 1)) (only-some _ (node c (first i k ⊕ m ⊕ after (suc i) k) nil) (o .2) .1))
+      rw (at-place, at-head, more-children) at e ∙ child-opened g i here _ (headed-groups h (omega arith)) more ∙ ap (λ f. spell (f ⊕ h .rest) (h .zeros + 1)) (only-some _ (node c (first i k ⊕ m ⊕ after (suc i) k) nil) (o .2) .1))
       n
 
   -- The literal moves.
@@ -199,5 +199,5 @@ module _ {r : ℕ} {l : List ℕ} (s : Stretch l) (h : Headed r l) (i j : ℕ) (
       family-turn h i j (h .zeros) t
       (λ new w. let o = then-some (conjunction-at (after i k)) _ (rw (family-11 r a b) at w) in
       let v = then-some (literal-at (after j (o .0))) _ (o .2) in
-      rw (head-there, at-place, inner-place) at e ∙ literal-moved (headed-group s h) i j (conjunction-here i k (o .1)) (literal-here j (o .0) (v .1)) ∙ ap (λ f. spell (f ⊕ h .rest) (h .zeros)) (some-inj (v .2)))
+      rw (head-there, at-place, inner-place) at e ∙ literal-moved (headed-group s h) (headed-groups h (omega arith)) i j (conjunction-here i k (o .1)) (literal-here j (o .0) (v .1)) ∙ ap (λ f. spell (f ⊕ h .rest) (h .zeros)) (some-inj (v .2)))
       n

@@ -9,7 +9,7 @@ use Rattle.model.specs.Forest.{and, or, Forest, nil, lit, node, _⊕_, size}
 use Rattle.model.specs.Code.{encode, literals, weight}
 use Rattle.model.specs.Rules.{shares, units, groups-without, groups}
 use Rattle.theory_forms.specs.Codes.{literals-append}
-use Rattle.theory_rewriting.specs.Mass.{heft-one, mass, mass-⊕, mass-shared}
+use Rattle.theory_rewriting.specs.Mass.{heft-two, mass, mass-⊕, mass-shared}
 
 -- The children of a node that is factored.
 abbrev pub shared-kids : Literal → Forest → Forest
@@ -33,7 +33,7 @@ unfolding weight encode literals mass
 weight-mass nil = refl
 weight-mass (lit x f) = omega (arith, weight-mass f)
 weight-mass (node c k f) =
-    omega (arith, heft-one 2 c, weight-mass k, weight-mass f, length-append (encode k) (encode f), literals-append (encode k) (encode f))
+    omega (arith, heft-two c, weight-mass k, weight-mass f, length-append (encode k) (encode f), literals-append (encode k) (encode f))
 
 pub shared-light :
     (a : Literal) (k f : Forest) →
@@ -42,4 +42,4 @@ pub shared-light :
     weight (encode (node or (shared-kids a k) f)) ≤ weight (encode (node or k f))
 unfolding mass
 shared-light a k f s g =
-    omega (arith, heft-one 2 and, heft-one 2 or, weight-mass (node or (shared-kids a k) f), weight-mass (node or k f), mass-⊕ 2 (units k) (node and (lit a (node or (groups-without a k) nil)) nil), mass-shared 2 a k s)
+    omega (arith, heft-two and, heft-two or, weight-mass (node or (shared-kids a k) f), weight-mass (node or k f), mass-⊕ 2 (units k) (node and (lit a (node or (groups-without a k) nil)) nil), mass-shared 2 a k s)

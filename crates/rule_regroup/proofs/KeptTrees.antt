@@ -8,11 +8,11 @@ use lib.ListN.{length, getD, take, drop, length-map, length-append}
 use lib.Seq.{take-at, drop-at}
 use Rattle.model.specs.Base.{pick}
 use Rattle.model.specs.Literal.{Literal}
-use Rattle.model.specs.Forest.{Conn, and, or, root, Forest, nil, lit, node, size, has-unit}
-use Rattle.model.specs.Code.{leaf, head, encode, children, number, number-of}
+use Rattle.model.specs.Forest.{Conn, and, or, root, at-least, Forest, nil, lit, node, size, has-unit}
+use Rattle.model.specs.Code.{leaf, head, encode, children, number, conn-kind, number-of}
 use Rattle.model.specs.Rules.{without-unit, shares, units, groups-without}
 use Rattle.theory_forms.specs.Logic.{true-false, and-split}
-use Rattle.theory_forms.specs.Forests.{size-⊕}
+use Rattle.theory_forms.specs.Forests.{grouping, size-⊕}
 use Rattle.theory_forms.specs.Numbers.{fits, head-number, head-children}
 use Rattle.theory_forms.specs.Scan.{is-literal}
 use Rattle.theory_reading.specs.Spans.{child-at, span-encode}
@@ -83,12 +83,13 @@ units-trees a (node c k f) r w =
 module _ (a : Literal) (fit : fits (leaf a) ≡ true) where
   less-trees :
       (c : Conn) (k : Forest) (s : List ℕ) →
+      grouping c ≡ true →
       fits (head c (size k)) ≡ true →
       Fits k →
       has-unit a k ≡ true →
       less-unit (number-of (leaf a)) (number-of (head c (size k)) ∷ (code k ++ s)) ≡ number-of (head c (size (without-unit a k))) ∷ code (without-unit a k)
   unfolding number size
-  less-trees c k s h w e =
+  less-trees c k s o h w e =
       let d = cut a fit k s w e in
       let p = d .before in
       let q = d .later in
@@ -105,7 +106,7 @@ module _ (a : Literal) (fit : fits (leaf a) ≡ true) where
       let left : take (1 + u - 1) (code k ++ s) ≡ code p = ap (take (1 + u - 1)) spread ∙ take-at (code p) (x ∷ (code q ++ s)) (1 + u - 1) (omega arith) in
       let rest : drop (1 + u + 1) l ≡ code q ++ s = ap (drop (1 + u + 1)) cut-after ∙ drop-at upto (code q ++ s) (1 + u + 1) (omega (arith, length-append (code p) (x ∷ []))) in
       let right : take (suc (length (code k)) - (1 + u + 1)) (drop (1 + u + 1) l) ≡ code q = ap (take (suc (length (code k)) - (1 + u + 1))) rest ∙ take-at (code q) s (suc (length (code k)) - (1 + u + 1)) (omega arith) in
-      let fewer : y - 1 ≡ number-of (head c (size (without-unit a k))) = omega (arith, head-number c (size k), head-number c (size (without-unit a k)), ap size (d .whole), size-⊕ p (lit a q), ap size (d .less), size-⊕ p q) in
+      let fewer : y - 1 ≡ number-of (head c (size (without-unit a k))) = omega (arith, head-number c (size k) o, head-number c (size (without-unit a k)) o, ap size (d .whole), size-⊕ p (lit a q), ap size (d .less), size-⊕ p q) in
       parts ∙ ap₂ (λ z t. z ∷ t) fewer (ap₂ _++_ left right ∙ sym (ap code (d .less) ∙ code-⊕ p q))
 
   pub groups-kept :
@@ -113,7 +114,7 @@ module _ (a : Literal) (fit : fits (leaf a) ≡ true) where
       Fits f →
       shares a f ≡ true →
       gathered true (number-of (leaf a)) (size f) (code f ++ r) ≡ code (groups-without a f)
-  unfolding shares groups-without size pick
+  unfolding shares groups-without size pick grouping conn-kind
   groups-kept nil r w h = gathered-nil true (number-of (leaf a)) (code nil ++ r)
   groups-kept (lit x f) r w h =
       let s = fits-lit x f w in
@@ -125,7 +126,8 @@ module _ (a : Literal) (fit : fits (leaf a) ≡ true) where
       let t = and-split (has-unit a k) (shares a f) h in
       ap (gathered true (number-of (leaf a)) (suc (size f))) (node-before and k f r)
       ∙ gathered-node true (number-of (leaf a)) and k (size f) (code f ++ r) (s .0) (s .1)
-      ∙ ap₂ _++_ (less-trees and k (code f ++ r) (s .0) (s .1) (t .0)) (groups-kept f r (s .2) (t .1))
+      ∙ ap₂ _++_ (less-trees and k (code f ++ r) refl (s .0) (s .1) (t .0)) (groups-kept f r (s .2) (t .1))
       ∙ sym (code-node and (without-unit a k) (groups-without a f))
   groups-kept (node or k f) r w h = true-false (sym h)
   groups-kept (node root k f) r w h = true-false (sym h)
+  groups-kept (node (at-least b) k f) r w h = true-false (sym h)

@@ -2,7 +2,7 @@
 use mathlib.Core.Bool.{true}
 use mathlib.Core.List.{List, _∷_, _++_, append-nil}
 use mathlib.Core.Option.{some}
-use mathlib.Core.Path.{_≡_, sym, ap, ap₂, _∙_}
+use mathlib.Core.Path.{_≡_, refl, sym, ap, ap₂, _∙_}
 use Prim.Native.Nat.{ℕ, _+_, _-_, _≤_, _<_}
 use native.Mathlib.Omega.{arith}
 use borrow.Author.Tests.{le-leb}
@@ -14,14 +14,14 @@ use Rattle.model.specs.Forest.{Conn, and, or, Forest, nil, lit, node, _⊕_, si
 use Rattle.model.specs.Code.{leaf, head, encode, weight, children, number, conn-kind, conn-value, number-of}
 use Rattle.model.specs.Rules.{factor, change, row-of, table, rewrite, shares, units, groups-without, groups}
 use Rattle.theory_forms.specs.Logic.{some-inj, pick-true}
-use Rattle.theory_forms.specs.Forests.{conn-of-kind, size-⊕, groups-size}
+use Rattle.theory_forms.specs.Forests.{grouping, conn-of-kind, size-⊕, groups-size}
 use Rattle.theory_forms.specs.Numbers.{fits, head-number}
 use Rattle.theory_reading.specs.Spans.{span, span-encode, child-at}
 use Rattle.theory_reading.specs.Flat.{spell, Fits}
 use Rattle.theory_reading.specs.Stretches.{Stretch, forest-in, live, live-numbers}
 use Rattle.theory_rewriting.specs.Heads.{Headed, rewritten-to}
 use Rattle.theory_rewriting.specs.Children.{code, Group, group-head, group-children, group-few, headed-group, literal-fits, conjunction-group}
-use Rattle.theory_rewriting.specs.Turns.{family-at, family-turn}
+use Rattle.theory_rewriting.specs.Turns.{family-at, last-at, family-turn}
 use Rattle.rule_factor.specs.Walks.{unit-of, sharing, all-share}
 use Rattle.rule_factor.proofs.TreeNumbers.{code-⊕, code-lit, code-node}
 use Rattle.rule_factor.proofs.WalkedTrees.{share-trees}
@@ -55,8 +55,8 @@ shared-code a k =
     code-⊕ (units k) (node and (lit a (node or (groups-without a k) nil)) nil) ∙ ap (λ t. code (units k) ++ t) (conjunction-code a k)
 
 shared-head : (a : Literal) (k : Forest) → number-of (head or (size k)) + 1 - groups k ≡ number-of (head or (size (shared-kids a k)))
-unfolding number size
-shared-head a k = omega (arith, head-number or (size k), head-number or (size (shared-kids a k)), size-⊕ (units k) (node and (lit a (node or (groups-without a k) nil)) nil), size-units k)
+unfolding number size grouping conn-kind
+shared-head a k = omega (arith, head-number or (size k) refl, head-number or (size (shared-kids a k)) refl, size-⊕ (units k) (node and (lit a (node or (groups-without a k) nil)) nil), size-units k)
 
 factored-trees :
     (a : Literal) →
@@ -71,8 +71,8 @@ factored-trees a h k r w s =
 
 module _ {l : List ℕ} (s : Stretch l) (h : Headed 14 l) where
   rule-conn : h .conn ≡ or
-  unfolding row-of table conn-kind
-  rule-conn = conn-of-kind (h .conn) or (sym (h .its-kind) ∙ ap (λ w. w .kind) (sym (some-inj (h .its-row))))
+  unfolding row-of table conn-kind grouping
+  rule-conn = conn-of-kind (h .conn) or refl (sym (h .its-kind) ∙ ap (λ w. w .kind) (sym (some-inj (h .its-row))))
 
   rule-group : Group l or (h .children) (h .rest) (h .zeros)
   rule-group = rw rule-conn at (headed-group s h)
@@ -142,11 +142,11 @@ module _ {l : List ℕ} (s : Stretch l) (h : Headed 14 l) where
     pub groups-few :
         let g = sharing (unit-of j (drop (child-at i l) l)) (children (getD l 0 0)) (drop 1 l) in
         (g < kind-factor) × (g ≤ getD l 0 0) × (getD l 0 0 < 20480)
-    unfolding number conn-kind
+    unfolding number conn-kind grouping
     groups-few =
         let few = group-few rule-group in
         let less = groups-size (h .children) in
-        (omega (arith, groups-is), omega (arith, groups-is, group-head rule-group), omega (arith, group-head rule-group))
+        (omega (arith, groups-is), omega (arith, groups-is, group-head rule-group refl), omega (arith, group-head rule-group refl))
 
     -- What the tree becomes, and the stretch.
     tree-is : tree-after i j l ≡ code (node or (shared-kids (p .literal) (h .children)) nil)
@@ -186,7 +186,7 @@ module _ {l : List ℕ} (s : Stretch l) (h : Headed 14 l) where
         out ≡ front ++ replicate z 0 →
         length out ≡ length l →
         out ≡ rewritten-to 14 i j l
-    unfolding family-at pick change spell _⊕_
+    unfolding family-at last-at pick change spell _⊕_
     turned z t begun e n =
         family-turn h i j z t
         (λ g w. e

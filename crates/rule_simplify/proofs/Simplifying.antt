@@ -9,16 +9,16 @@ use lib.Dec.{eqb, leb}
 use lib.ListN.{length, getD, take, drop, set, replicate, length-drop}
 use lib.Seq.{drop-cons}
 use Rattle.model.specs.Base.{pick, maybe, is-some, only-if}
-use Rattle.model.specs.Forest.{Conn, and, or, root, Forest, nil, node, constant, _⊕_, size, first, after, constant-at}
+use Rattle.model.specs.Forest.{Conn, and, or, root, at-least, Forest, nil, node, constant, _⊕_, size, first, after, constant-at}
 use Rattle.model.specs.Code.{head, value, number, conn-kind, number-of}
 use Rattle.model.specs.Rules.{neutral, deciding, absorb, omit, unwrap, Family, table, change, row-of, rewrite}
-use Rattle.theory_forms.specs.Logic.{and-split, and-join, same-test, fails-if, pick-keeps, is-some-only, only-some}
-use Rattle.theory_forms.specs.Forests.{constant-here, past-end}
+use Rattle.theory_forms.specs.Logic.{true-false, and-split, and-join, same-test, fails-if, pick-keeps, is-some-only, only-some}
+use Rattle.theory_forms.specs.Forests.{grouping, neutral-groups, deciding-groups, constant-here, past-end}
 use Rattle.theory_forms.specs.Numbers.{head-number}
 use Rattle.theory_reading.specs.Spans.{child-at}
 use Rattle.theory_reading.specs.Flat.{spell, spell-node}
 use Rattle.theory_reading.specs.Stretches.{Stretch, forest-in}
-use Rattle.theory_rewriting.specs.Heads.{Headed, rewritten-to}
+use Rattle.theory_rewriting.specs.Heads.{Headed, headed-groups, rewritten-to}
 use Rattle.theory_rewriting.specs.Children.{Group, code, headed-group, group-head, group-few, child-place, child-split, child-later, child-constant, child-opened, spell-zeros, removed-at, applied-child}
 use Rattle.theory_rewriting.specs.Turns.{family-at, family-1, family-4, family-7, family-of, family-applies, family-turn}
 use Rattle.rule_simplify.specs.Constants.{wanted, group-of, constantFor}
@@ -63,16 +63,22 @@ module _ (r : ℕ) (c : Conn) (i j : ℕ) (k : Forest) where
           let o = and-split (eqb i 0 && eqb j 0) (eqb (size k) 1) (sym (is-some-only _ _) ∙ t) in
           eqb-true j 0 (and-split (eqb i 0) (eqb j 0) (o .0) .1)
 
-group-is : (c : Conn) → group-of (conn-kind c) ≡ c
-unfolding group-of conn-kind pick
-group-is and = refl
-group-is or = refl
-group-is root = refl
+group-is : (c : Conn) → grouping c ≡ true → group-of (conn-kind c) ≡ c
+unfolding group-of conn-kind grouping pick
+group-is and g = refl
+group-is or g = refl
+group-is root g = refl
+group-is (at-least a) g = true-false (sym g)
 
--- The number that is looked for.
-constant-number : {r : ℕ} {l : List ℕ} (h : Headed r l) → constantFor r ≡ number (conn-kind (wanted (family-at r) (h .conn))) 0
+-- The number that is looked for, and that it is one of document 01's connectives.
+constant-number : {r : ℕ} {l : List ℕ} (h : Headed r l) → r ≤ 14 → constantFor r ≡ number (conn-kind (wanted (family-at r) (h .conn))) 0
 unfolding constantFor maybe
-constant-number {r} h = rw (h .its-row, family-of r (h .its-row), h .its-kind, group-is (h .conn))
+constant-number {r} h low = rw (h .its-row, family-of r (h .its-row), h .its-kind, group-is (h .conn) (headed-groups h low))
+
+wanted-groups : (r : ℕ) (c : Conn) → r ≤ 6 → grouping (wanted (family-at r) c) ≡ true
+unfolding family-at pick wanted
+wanted-groups r c b =
+    rw (le-leb r 6 b) (pick-keeps (λ x. grouping (wanted x c) ≡ true) (leb r 3) (deciding-groups c) (neutral-groups c))
 
 -- The test, on the numbers.
 module _ {r : ℕ} {l : List ℕ} (s : Stretch l) (h : Headed r l) (i j : ℕ) where
@@ -93,15 +99,15 @@ module _ {r : ℕ} {l : List ℕ} (s : Stretch l) (h : Headed r l) (i j : ℕ) w
       let c = h .conn in
       let k = h .children in
       let asked : is-some (rewrite r i j (forest-in l)) ≡ (eqb j 0 && constant-at (wanted (family-at r) c) (after i k)) = family-applies h i j ∙ constant-asked r c i j k b in
-      rw (asked, constant-number h, eq-eqb j 0 e) (child-constant (headed-group s h) i n (wanted (family-at r) c))
+      rw (asked, constant-number h (omega arith), eq-eqb j 0 e) (child-constant (headed-group s h) i n (wanted (family-at r) c) (wanted-groups r c b))
 
 -- Where a constant is written after the head, and the other numbers of the children go.
-only-child : {l : List ℕ} {c : Conn} {k f : Forest} {z : ℕ} → Group l c k f z → 1 ≤ size k → (d : Conn) →
+only-child : {l : List ℕ} {c : Conn} {k f : Forest} {z : ℕ} → Group l c k f z → grouping c ≡ true → 1 ≤ size k → (d : Conn) → grouping d ≡ true →
     let end = child-at (size k) l in
     let new = set (set l 0 (getD l 0 0 - value (getD l 0 0) + 1)) 1 (number (conn-kind d) 0) in
     take 2 new ++ (drop (2 + (end - 2)) new ++ replicate (end - 2) 0) ≡ spell (node c (constant d) f) (z + (end - 2))
 unfolding number size _⊕_ value
-only-child {l} {c} {k} {f} {z} g n d =
+only-child {l} {c} {k} {f} {z} g o n d known =
     let x = getD l 0 0 - value (getD l 0 0) + 1 in
     let y = number (conn-kind d) 0 in
     let end = child-at (size k) l in
@@ -110,10 +116,10 @@ only-child {l} {c} {k} {f} {z} g n d =
     let long : length old + 1 ≡ end = omega (arith, child-place g (size k) (omega arith)) in
     let split : l ≡ number-of (head c (size k)) ∷ (getD old 0 0 ∷ (drop 1 old ++ spell f z)) =
     child-split g (size k) (omega arith) ∙ ap₂ (λ u m. number-of (head c (size k)) ∷ (u ++ spell (m ⊕ f) z)) (drop-cons old 0 0 (omega (arith, child-later g (size k) (omega arith)))) (past-end (size k) k (omega arith)) in
-    let one : x ≡ number-of (head c 1) = omega (arith, group-head g, group-few g, head-number c 1) in
+    let one : x ≡ number-of (head c 1) = omega (arith, group-head g o, group-few g, head-number c 1 o) in
     removed-at (x ∷ y ∷ []) (drop 1 old) (spell f z) (set (set l 0 x) 1 y) 2 (end - 2) (ap (λ u. set (set u 0 x) 1 y) split) refl (omega (arith, length-drop 1 old))
     ∙ ap₂ (λ u m. u ∷ (y ∷ m)) one (spell-zeros f z (end - 2))
-    ∙ sym (spell-node c (constant d) f w ∙ ap (λ u. number-of (head c 1) ∷ u) (spell-node d nil f w ∙ ap (λ u. u ∷ spell f w) (head-number d 0)))
+    ∙ sym (spell-node c (constant d) f w ∙ ap (λ u. number-of (head c 1) ∷ u) (spell-node d nil f w ∙ ap (λ u. u ∷ spell f w) (head-number d 0 known)))
 
 -- The step, on the numbers.
 module _ {r : ℕ} {l out : List ℕ} (s : Stretch l) (h : Headed r l) (i j : ℕ) (t : is-some (rewrite r i j (forest-in l)) ≡ true) (n : length out ≡ length l) where
@@ -140,7 +146,7 @@ module _ {r : ℕ} {l out : List ℕ} (s : Stretch l) (h : Headed r l) (i j : �
       family-turn h i j (h .zeros + 1) t
       (λ g w. let o = only-some (eqb j 0 && constant-at (neutral c) (after i k)) (node c (first i k ⊕ after (suc i) k) nil) (rw (family-4 r a b) at w) in
       let here = constant-here (neutral c) i k (and-split (eqb j 0) _ (o .0) .1) in
-      e ∙ child-opened (headed-group s h) i here v (omega arith) ∙ ap (λ m. spell (m ⊕ h .rest) (h .zeros + 1)) (o .1))
+      e ∙ child-opened (headed-group s h) i here v (headed-groups h (omega arith)) (omega arith) ∙ ap (λ m. spell (m ⊕ h .rest) (h .zeros + 1)) (o .1))
       n
 
   -- Only the constant stays, after a head with one child.
@@ -151,9 +157,9 @@ module _ {r : ℕ} {l out : List ℕ} (s : Stretch l) (h : Headed r l) (i j : �
   turns-absorb b e =
       let d = deciding (h .conn) in
       let k = h .children in
-      let sought : constantFor r ≡ number (conn-kind d) 0 = constant-number h ∙ rw (family-1 r b) in
-      let there = applied-child s h j t .there in
+      let sought : constantFor r ≡ number (conn-kind d) 0 = constant-number h (omega arith) ∙ rw (family-1 r b) in
+      let there = applied-child s h j (omega arith) t .there in
       family-turn h i j (h .zeros + (child-at (size k) l - 2)) t
       (λ g w. let o = only-some (eqb j 0 && constant-at d (after i k)) (node (h .conn) (constant d) nil) (rw (family-1 r b) at w) in
-      rw sought at e ∙ only-child (headed-group s h) (omega arith) d ∙ ap (λ m. spell (m ⊕ h .rest) (h .zeros + (child-at (size k) l - 2))) (o .1))
+      rw sought at e ∙ only-child (headed-group s h) (headed-groups h (omega arith)) (omega arith) d (deciding-groups (h .conn)) ∙ ap (λ m. spell (m ⊕ h .rest) (h .zeros + (child-at (size k) l - 2))) (o .1))
       n

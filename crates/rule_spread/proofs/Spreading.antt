@@ -21,7 +21,7 @@ use Rattle.model.specs.Rules.{Row, table, row-of, neutral, deciding, assigned, 
 use Rattle.theory_forms.specs.Logic.{some-inj, is-some-only, pick-true, pick-false, only-some, then-some}
 use Rattle.theory_forms.specs.Lists.{any-append}
 use Rattle.theory_forms.specs.Literals.{option-complement}
-use Rattle.theory_forms.specs.Forests.{conn-of-kind, cut-at, size-⊕, literal-here, size-assigned}
+use Rattle.theory_forms.specs.Forests.{conn-of-kind, cut-at, size-⊕, literal-here, size-assigned, grouping}
 use Rattle.theory_forms.specs.Numbers.{amount, fits}
 use Rattle.theory_reading.specs.Leaves.{leaf-literal, leaf-value, leaf-test, head-inner, head-unlike}
 use Rattle.theory_reading.specs.Spans.{child-at}
@@ -266,13 +266,13 @@ abbrev Put : ℕ → Conn → Type 0
 Put r c = (empty (eqb r 9) ≡ number-of (head (neutral c) 0)) × (empty (not (eqb r 9)) ≡ number-of (head (deciding c) 0))
 
 empty-groups : (r : ℕ) {w : Row} (c : Conn) → 9 ≤ r → r ≤ 10 → row-of r ≡ some w → w .kind ≡ conn-kind c → Put r c
-unfolding row-of table empty pick neutral deciding number-of number conn-kind conn-value
+unfolding row-of table empty pick neutral deciding number-of number conn-kind conn-value grouping
 empty-groups r {w} c lo hi e k =
     ⊎-elim
-    (λ q. let same : or ≡ c = conn-of-kind or c (ap (λ v. v .kind) (some-inj (ap row-of q ∙ e)) ∙ k) in
+    (λ q. let same : or ≡ c = sym (conn-of-kind c or refl (sym (ap (λ v. v .kind) (some-inj (ap row-of q ∙ e)) ∙ k))) in
     subst (λ n. Put n c) q (subst (Put 9) same (refl, refl)))
     (λ q. let t : 10 ≡ r = omega arith in
-    let same : root ≡ c = conn-of-kind root c (ap (λ v. v .kind) (some-inj (ap row-of t ∙ e)) ∙ k) in
+    let same : root ≡ c = sym (conn-of-kind c root refl (sym (ap (λ v. v .kind) (some-inj (ap row-of t ∙ e)) ∙ k))) in
     subst (λ n. Put n c) t (subst (Put 10) same (refl, refl)))
     (eq-or-lt-of-le lo)
 

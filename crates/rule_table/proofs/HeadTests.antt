@@ -75,15 +75,16 @@ applied-headed r i j {l} s t =
     (λ h. true-false (sym t ∙ sym (head-wrong r s h i j)))
     (either (headed r l))
 
--- Past the last child no rule applies.
+-- Past the last child no rule applies that names one.
 pub past-children :
     (r i j : ℕ) {l : List ℕ} →
     Stretch l →
     Headed r l →
+    r ≤ 15 →
     children (getD l 0 0) ≤ i →
     false ≡ is-some (rewrite r i j (forest-in l))
 unfolding kids is-some
-past-children r i j {l} s h past =
+past-children r i j {l} s h low past =
     let count : children (getD l 0 0) ≡ size (h .children) = group-children (headed-group s h) in
     let few : size (kids (forest-in l)) ≡ size (h .children) = ap (λ f. size (kids f)) (h .forest) in
-    sym (ap is-some (past-last r i j (forest-in l) (omega arith)))
+    sym (ap is-some (past-last r i j (forest-in l) low (omega arith)))

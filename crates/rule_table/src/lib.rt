@@ -1,4 +1,4 @@
-// The table of the fourteen rules, the node kind and the fewest children of each, read by the rule's number; and the test of a node by it.
+// The table of the seventeen rules, the node kind and the fewest children of each, read by the rule's number; and the test of a node by it.
 ghost use mathlib.Core.Path.{_≡_};
 ghost use Prim.Native.Nat.{_≤_};
 ghost use Rattle.model.specs.Limits.{«last-rule»};
@@ -9,9 +9,9 @@ ghost use Rattle.rule_table.specs.Headings.{headed};
 use common_limits::KIND_FACTOR;
 use common_limits::LAST_RULE;
 
-const KINDS: [usize; LAST_RULE] = [3, 4, 5, 3, 4, 5, 3, 4, 4, 5, 3, 5, 3, 4];
+const KINDS: [usize; LAST_RULE] = [3, 4, 5, 3, 4, 5, 3, 4, 4, 5, 3, 5, 3, 4, 6, 6, 6];
 
-const FEWEST: [usize; LAST_RULE] = [2, 2, 2, 1, 1, 1, 1, 1, 2, 2, 1, 1, 1, 2];
+const FEWEST: [usize; LAST_RULE] = [2, 2, 2, 1, 1, 1, 1, 1, 2, 2, 1, 1, 1, 2, 1, 0, 0];
 
 // The kind of node that a rule is for.
 pub fn kind_for(rule: usize) -> usize

@@ -44,6 +44,24 @@ high-more {r} {from} to t h here q a b =
     (λ e. let same : to ≡ q = omega (arith, ltb-false q to e) in subst (λ k. r ≤ getD t k 0) same here)
     (either (ltb q to))
 
+-- A search that passes over places whose bounds are past its rule comes to a place further on.
+pub come-further :
+    {rule place : ℕ} {s sizes low : List ℕ} →
+    Come-to rule place s sizes low →
+    {next : ℕ} →
+    next ≤ used-in s →
+    High (rule + 1) place next low →
+    Come-to rule next s sizes low
+come-further {place = place} w within high =
+    record {
+      tables = w .tables;
+      some-rule = w .some-rule;
+      past-all = w .past-all;
+      high = w .high;
+      within = within;
+      past = λ q a b. ⊎-elim (λ e. w .past q a (ltb-true q place e)) (λ e. high q (ltb-false q place e) b) (either (ltb q place));
+    }
+
 -- One entry of a table, after a store.
 stored :
     (t : List ℕ) (place x q : ℕ) →

@@ -3,8 +3,8 @@
 ghost use mathlib.Core.Path.{_≡_};
 ghost use mathlib.Core.Option.{none};
 ghost use Prim.Native.Nat.{_+_, _≤_, _<_};
-ghost use lib.ListN.{getD, drop};
-ghost use Rattle.model.specs.Limits.{«last-rule», «no-rule»};
+ghost use lib.ListN.{length, getD, drop};
+ghost use Rattle.model.specs.Limits.{«sheet-room», «last-rule», «no-rule»};
 ghost use Rattle.model.specs.Code.{decode};
 ghost use Rattle.model.specs.Strategy.{«least-i», «least-place», next};
 ghost use Rattle.model.specs.Sheet.{«used-in», «nodes-in»};
@@ -47,6 +47,25 @@ fn try_at(sheet: &[u16], sizes: &[u16], low: &mut [u16], rule: usize, place: usi
     Spot::Nowhere
 }
 
+// The first place from one on, and before another, whose bound is not past a rule; that other where all are.
+fn first_waiting(low: &[u16], rule: usize, from: usize, to: usize) -> usize
+    requires { ⌜ (from ≤ to)
+        × (to ≤ length (now low))
+        × (to ≤ «sheet-room») ⌝ }
+    ensures { λ r. ⌜ (from ≤ r)
+        × (r ≤ to)
+        × High (rule + 1) from r (now (low .entry)) ⌝ }
+{
+    let mut place = from;
+    while place < to {
+        if common_nodes::wide16(low[place]) <= rule {
+            return place;
+        }
+        place += 1;
+    }
+    place
+}
+
 // The least place for a rule that all bounds have come to, from a start on before which all are past it.
 fn least_place(sheet: &[u16], sizes: &[u16], low: &mut [u16], rule: usize, start: usize) -> Next
     requires { ⌜ rule ≤ «last-rule» ⌝ }
@@ -55,7 +74,7 @@ fn least_place(sheet: &[u16], sizes: &[u16], low: &mut [u16], rule: usize, start
     ensures { λ r. ⌜ «Come-to» (floorOf (rule + 1) r) (placeOf r) (now (sheet .entry)) (now (sizes .entry)) (now (low .exit)) ⌝ }
 {
     let used = common_nodes::wide16(sheet[1]);
-    let mut place = start;
+    let mut place = first_waiting(low, rule, start, used);
     while place < used {
         let spot = try_at(sheet, sizes, low, rule, place);
         if let Spot::At(i, j) = spot {
@@ -66,7 +85,7 @@ fn least_place(sheet: &[u16], sizes: &[u16], low: &mut [u16], rule: usize, start
                 j: j,
             });
         }
-        place += 1;
+        place = first_waiting(low, rule, place + 1, used);
     }
     Next::Nothing
 }

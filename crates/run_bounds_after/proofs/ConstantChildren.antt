@@ -1,5 +1,5 @@
 -- The children of a node of a sheet, passed one after another: whether one is a constant.
-use mathlib.Core.Bool.{true, false}
+use mathlib.Core.Bool.{true}
 use mathlib.Core.List.{List}
 use mathlib.Core.Logic.{⊎-elim}
 use mathlib.Core.Path.{_≡_, refl, sym, ap, _∙_}
@@ -10,42 +10,20 @@ use lib.Dec.{eqb, ltb}
 use lib.ListN.{getD, drop, length-drop}
 use lib.Seq.{drop-drop, getD-drop}
 use Rattle.model.specs.Limits.{sheet-room}
-use Rattle.model.specs.Forest.{Conn, and, or, root, Forest, nil, lit, node, size, after, kids, constant-at}
-use Rattle.model.specs.Code.{Node, encode, decode, number, conn-kind}
+use Rattle.model.specs.Forest.{Conn, and, or, Forest, nil, lit, node, size, after, kids, constant-at}
+use Rattle.model.specs.Code.{encode, decode, number, conn-kind}
 use Rattle.model.specs.Sheet.{used-in, nodes-in}
 use Rattle.theory_forms.specs.Logic.{either}
-use Rattle.theory_forms.specs.Forests.{past-end}
-use Rattle.theory_forms.specs.Rooted.{no-root, no-root-node, Rooted, below-root}
-use Rattle.theory_forms.specs.Shape.{shaped-rooted}
+use Rattle.theory_forms.specs.Forests.{grouping, past-end}
 use Rattle.theory_forms.specs.Sheets.{Formed}
 use Rattle.theory_reading.specs.Spans.{arity, arity-none, arity-leaf, arity-head, span, child-at}
 use Rattle.theory_reading.specs.Flat.{spell, Fits, fits-lit, fits-tree}
 use Rattle.theory_rewriting.specs.Children.{Group, first-left, child-constant, child-room}
 use Rattle.search_sizes.specs.TreeHops.{inner-at}
 use Rattle.search_place.proofs.LentStretch.{sheet-spelled}
+use Rattle.locality.specs.Assigned.{Plain}
 use Rattle.run_bounds_after.specs.SetBack.{Constant-free}
 use Rattle.run_bounds_after.proofs.ZoneChildren.{group-of}
-
--- The root stands at the head of a sheet alone, so that no child of a node is an empty root.
-kids-no-root : (f : Forest) → no-root f ≡ true → no-root (kids f) ≡ true
-unfolding no-root kids
-kids-no-root nil e = refl
-kids-no-root (lit l f) e = refl
-kids-no-root (node c k f) e = no-root-node c k f e .1
-
-below-place : (p : ℕ) (ns : List Node) → Rooted ns → no-root (kids (decode (drop p ns))) ≡ true
-unfolding kids
-below-place zero ns w = ap (λ f. no-root (kids f)) (w .whole) ∙ w .inside
-below-place (suc p) ns w = kids-no-root (decode (drop (suc p) ns)) (below-root p ns w)
-
-no-empty-root : (i : ℕ) (f : Forest) → no-root f ≡ true → constant-at root (after i f) ≡ false
-unfolding no-root after constant-at
-no-empty-root zero nil e = refl
-no-empty-root zero (lit l f) e = refl
-no-empty-root zero (node c k f) e = rw (no-root-node c k f e .0)
-no-empty-root (suc i) nil e = refl
-no-empty-root (suc i) (lit l f) e = no-empty-root i f e
-no-empty-root (suc i) (node c k f) e = no-empty-root i f (no-root-node c k f e .2)
 
 -- The first number of a forest announces the children of its first tree.
 announced : (f : Forest) (z : ℕ) → Fits f → arity (getD (spell f z) 0 0) ≡ size (kids f)
@@ -60,7 +38,7 @@ abbrev children : List ℕ → ℕ → Forest
 children s p = kids (decode (drop p (nodes-in s)))
 
 abbrev pub Plain-child : List ℕ → ℕ → ℕ → Type 0
-Plain-child s p i = (d : Conn) → constant-at d (after i (children s p)) ≡ false
+Plain-child s p i = Plain (after i (children s p))
 
 module _ {s : List ℕ} (h : Formed s) {p : ℕ} (lt : p < used-in s) where
   -- How many children the node there announces.
@@ -72,10 +50,10 @@ module _ {s : List ℕ} (h : Formed s) {p : ℕ} (lt : p < used-in s) where
   -- Past the last child no child is a constant.
   pub passed-all : {i : ℕ} → ((j : ℕ) → j < i → Plain-child s p j) → arity (getD s (2 + p) 0) ≤ i → Constant-free p (nodes-in s)
   unfolding constant-at
-  passed-all {i} none le d c =
+  passed-all {i} none le c =
       ⊎-elim
-      (λ e. none c (ltb-true c i e) d)
-      (λ e. ap (constant-at d) (past-end c (children s p) (omega (arith, ltb-false c i e, counted))))
+      (λ e. none c (ltb-true c i e))
+      (λ e. rw (past-end c (children s p) (omega (arith, ltb-false c i e, counted))) (refl, refl))
       (either (ltb c i))
 
   -- Where there is one more child, which begins at a place.
@@ -96,16 +74,14 @@ module _ {s : List ℕ} (h : Formed s) {p : ℕ} (lt : p < used-in s) where
     child-inside =
         omega (arith, stands-at, child-room (group-here .2) i (omega (arith, left)), left, length-drop (2 + p) s, h .whole, h .used)
 
-    asked : (d : Conn) → eqb (getD s (2 + at) 0) (number (conn-kind d) 0) ≡ constant-at d (after i (children s p))
-    asked d =
+    asked : (d : Conn) → grouping d ≡ true → eqb (getD s (2 + at) 0) (number (conn-kind d) 0) ≡ constant-at d (after i (children s p))
+    asked d o =
         let l = drop (2 + p) s in
         let sum : 2 + at ≡ 2 + p + child-at i l = omega (arith, stands-at) in
         let there : getD s (2 + at) 0 ≡ getD l (child-at i l) 0 = ap (λ k. getD s k 0) sum ∙ sym (getD-drop (2 + p) s (child-at i l) 0) in
-        ap (λ x. eqb x (number (conn-kind d) 0)) there ∙ child-constant (group-here .2) i left d
+        ap (λ x. eqb x (number (conn-kind d) 0)) there ∙ child-constant (group-here .2) i left d o
 
-    -- An empty conjunction and an empty disjunction are all the constants that it could be.
     pub plain-child : (getD s (2 + at) 0 ≡ 12288 → ⊥) → (getD s (2 + at) 0 ≡ 16384 → ⊥) → Plain-child s p i
-    unfolding number conn-kind
-    plain-child a o and = sym (asked and) ∙ ne-eqb (getD s (2 + at) 0) 12288 a
-    plain-child a o or = sym (asked or) ∙ ne-eqb (getD s (2 + at) 0) 16384 o
-    plain-child a o root = no-empty-root i (children s p) (below-place p (nodes-in s) (shaped-rooted (h .shaped)))
+    unfolding number conn-kind grouping
+    plain-child a o =
+        (sym (asked and refl) ∙ ne-eqb (getD s (2 + at) 0) 12288 a, sym (asked or refl) ∙ ne-eqb (getD s (2 + at) 0) 16384 o)

@@ -9,6 +9,7 @@ use Rattle.model.specs.Code.{Node}
 use Rattle.model.specs.Rules.{step}
 use Rattle.theory_rewriting.specs.Turns.{family-at}
 use Rattle.locality.specs.Zones as L
+use Rattle.locality.specs.Locality.{Level}
 use Rattle.search_place.specs.declared.Redex.{Redex}
 use Rattle.run_bounds_after.specs.declared.Zone.{Zone}
 
@@ -31,7 +32,7 @@ pub record Zoned (x : Redex) (ns : List Node) (z : Zone) : Type 0 where
   pub after : (q : ℕ) → z .new ≤ q → q < length (after-step x ns) →
       (drop q (after-step x ns) ≡ drop (q + (z .old - z .new)) ns)
       × (q + (z .old - z .new) < length ns)
-  pub level : 9 ≤ x .rule → x .rule ≤ 12 → z .old ≡ z .new
+  pub level : Level (x .rule) → z .old ≡ z .new
   pub spread : 9 ≤ x .rule → x .rule ≤ 10 →
       (z .from ≡ x .place)
       × (z .new ≡ L.tree-end (x .place) ns)

@@ -88,7 +88,8 @@ fn unmoved(from: usize, to: usize) -> Zone
     }
 }
 
-// The zone of a step that applies. Rule 14 makes a tree anew: from the place on all is left open.
+// The zone of a step that applies. Rule 14 makes a tree anew: from the place on all is left open. Rule 17 changes a head alone: its zone
+// is empty.
 pub fn zone_of(sheet: &[u16], sizes: &[u16], redex: Redex) -> Zone
     requires { ⌜ Measured (now sheet) (now sizes) ⌝ }
     requires { ⌜ Applies redex (now sheet) ⌝ }
@@ -103,11 +104,16 @@ pub fn zone_of(sheet: &[u16], sizes: &[u16], redex: Redex) -> Zone
             old: end,
             new: place + 2,
         },
-        4..=6 => node_gone(child_place(sheet, place, redex.i)),
+        4..=6 | 13 | 15 => node_gone(child_place(sheet, place, redex.i)),
         7..=8 => node_gone(place),
         9..=10 => unmoved(place, end),
         11..=12 => lifted_zone(sheet, redex),
-        13..=13 => node_gone(child_place(sheet, place, redex.i)),
+        16 => Zone {
+            from: place,
+            old: end,
+            new: place + 1,
+        },
+        17 => unmoved(place + 1, place + 1),
         _ => unmoved(place, SHEET_ROOM),
     }
 }

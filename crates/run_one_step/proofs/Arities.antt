@@ -1,6 +1,7 @@
 -- A step of rule 9 or 10 keeps the number of children of each node, and so the sizes of all trees.
 use mathlib.Core.Bool.{true}
 use mathlib.Core.List.{List, [], _∷_, _++_, map, map-append}
+use mathlib.Core.Logic.{inl}
 use mathlib.Core.Path.{_≡_, refl, sym, ap, ap₂, _∙_}
 use Prim.Native.Nat.{ℕ, zero, suc, _+_, _-_, _≤_, _<_}
 use native.Mathlib.Omega.{arith}
@@ -132,7 +133,7 @@ sizes-still s u h k x a same low top t sizes q le l =
     let did = O.did s h x a in
     let its : Turned spreads p (x .i) (x .j) ns (after-step x ns) = rw (family-9 r low top) at (turned r p (x .i) (x .j) ns one did) in
     let arms-same : map below (nodes-in u) ≡ map below ns = ap (map below) same ∙ turned-arms p (x .i) (x .j) ns (after-step x ns) its in
-    let level = level-length r p (x .i) (x .j) ns one did low (omega arith) in
+    let level = level-length r p (x .i) (x .j) ns one did (inl (low, omega arith)) in
     let used : used-in u ≡ used-in s = sym (k .count) ∙ ap length same ∙ level ∙ h .count in
     let arities : map arity (drop 2 u) ≡ map arity (drop 2 s) =
     sheet-arities u k ∙ ap₂ (λ xs n. xs ++ map arity (replicate (sheet-room - n) 0)) arms-same used ∙ sym (sheet-arities s h) in

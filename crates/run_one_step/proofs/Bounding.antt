@@ -88,7 +88,7 @@ module _ (s : List ℕ) (h : Formed s) (x : Redex) (a : Applies x s) {p : Plan} 
       {q : ℕ} →
       Spared (x .rule) (p .place) q (after-step x (nodes-in s)) low up →
       length (after-step x (nodes-in s)) ≡ length (nodes-in s)
-  level y = level-length (x .rule) (x .place) (x .i) (x .j) (nodes-in s) (O.one s h x a) (O.did s h x a) (y .nine) (omega (arith, y .ten))
+  level y = level-length (x .rule) (x .place) (x .i) (x .j) (nodes-in s) (O.one s h x a) (O.did s h x a) (inl (y .nine, omega (arith, y .ten)))
 
   pub bounds-after : Bounds (nodes-in s) low → Bounds (after-step x (nodes-in s)) up
   bounds-after b q r l one lt = go (entry q l)

@@ -68,7 +68,7 @@ module _ {s t low : List ℕ} {x : Redex} (c : Come-to (x .rule) (x .place) s t 
         order = f .zoned .from-new;
         within = omega (arith, f .zoned .new-old, f .zoned .old-within);
         same = λ low top. sizes-still s u h formed-after x a same low top t each;
-        outside = λ low top. sizes-outside s u h formed-after x a same (f .zoned) (omega arith) top t each;
+        outside = λ even. sizes-outside s u h formed-after x a same (f .zoned) even t each;
         few = few;
         past = sizes-past s u h formed-after t each most before behind;
       }
@@ -80,7 +80,7 @@ module _ {s t low : List ℕ} {x : Redex} (c : Come-to (x .rule) (x .place) s t 
       let w = step-extent (x .rule) (x .place) (x .i) (x .j) (nodes-in s) (O.one s h x a) (O.did s h x a) in
       let its = ap (λ k. zone k (x .place) (x .i) (x .j) (nodes-in s) (after-step x (nodes-in s)) .new) (family-9 (x .rule) low top) in
       let end = f .zoned .spread low top in
-      (end .0 ∙ sym (f .place), omega (arith, end .1, f .place, O.tall s h x a), omega (arith, end .1, used, w .new-within))
+      (end .0 ∙ sym (f .place), omega (arith, end .1, f .place, O.tall s h x a (omega arith)), omega (arith, end .1, used, w .new-within))
 
   -- The tables after it.
   module _ {v up : List ℕ} (measured : Measured u v) (long : length up ≡ sheet-room) (followed : Followed (x .rule) p (nodes-in u) low up) where

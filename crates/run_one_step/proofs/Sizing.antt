@@ -18,8 +18,7 @@ use Rattle.theory_reading.specs.Spans.{span}
 use Rattle.theory_forms.specs.Sheets.{Formed}
 use Rattle.theory_reading.specs.Stretches.{stands}
 use Rattle.locality.specs.Zones.{tree-length, tree-end}
-use Rattle.locality.specs.Locality.{level-length}
-use Rattle.locality.specs.Locality.{length-before, length-holding, length-at}
+use Rattle.locality.specs.Locality.{length-before, length-holding, length-at, Level, level-length}
 use Rattle.search_sizes.specs.SizeTables.{Sizes-from}
 use Rattle.search_place.specs.declared.Redex.{Redex}
 use Rattle.search_place.specs.Redexes.{Applies}
@@ -64,9 +63,9 @@ same-length : (q : ℕ) (ns ms : List Node) → drop q ms ≡ drop q ns → tree
 unfolding tree-length
 same-length q ns ms e = ap (λ xs. length (encode (first 1 (decode xs)))) e
 
-module _ (s u : List ℕ) (h : Formed s) (k : Formed u) (x : Redex) (a : Applies x s) (same : nodes-in u ≡ after-step x (nodes-in s)) {z : Zone} (w : Zoned x (nodes-in s) z) (low : 9 ≤ x .rule) (top : x .rule ≤ 12) where
+module _ (s u : List ℕ) (h : Formed s) (k : Formed u) (x : Redex) (a : Applies x s) (same : nodes-in u ≡ after-step x (nodes-in s)) {z : Zone} (w : Zoned x (nodes-in s) z) (even : Level (x .rule)) where
   level : length (after-step x (nodes-in s)) ≡ length (nodes-in s)
-  level = level-length (x .rule) (x .place) (x .i) (x .j) (nodes-in s) (O.one s h x a) (O.did s h x a) low top
+  level = level-length (x .rule) (x .place) (x .i) (x .j) (nodes-in s) (O.one s h x a) (O.did s h x a) even
 
   used-same : used-in u ≡ used-in s
   used-same = sym (k .count) ∙ ap length same ∙ level ∙ h .count
@@ -92,7 +91,7 @@ module _ (s u : List ℕ) (h : Formed s) (k : Formed u) (x : Redex) (a : Applies
       go (inl lt) = before lt (⊎-elim (λ e. inl (eqb-true q (x .place) e)) (λ e. inr (eqb-false q (x .place) e)) (either (eqb q (x .place))))
       go (inr le) =
           let there = w .after q le (omega (arith, level, h .count)) .0 in
-          let still : q + (z .old - z .new) ≡ q = omega (arith, w .level low top) in
+          let still : q + (z .old - z .new) ≡ q = omega (arith, w .level even) in
           same-length q (nodes-in s) (after-step x (nodes-in s)) (there ∙ ap (λ n. drop n (nodes-in s)) still)
 
   pub sizes-outside :

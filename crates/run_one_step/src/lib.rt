@@ -17,7 +17,7 @@ use run_bounds_after::Plan;
 use run_bounds_after::Zone;
 use search_place::Redex;
 
-// The sizes after a step. Rules 9 and 10 keep every size, rules 11 and 12 those outside the zone; the others keep those past all
+// The sizes after a step. Rules 9 and 10 keep every size, rules 11, 12 and 17 those outside the zone; the others keep those past all
 // nodes, old and new.
 fn resize(sheet: &[u16], sizes: &mut [u16], rule: usize, zone: Zone, most: usize)
     requires { ⌜ «Sizes-left» rule most zone (now sheet) (now sizes) ⌝ }
@@ -25,7 +25,7 @@ fn resize(sheet: &[u16], sizes: &mut [u16], rule: usize, zone: Zone, most: usize
 {
     match rule {
         9..=10 => {}
-        11..=12 => search_sizes::refill(&sheet[2..], sizes, zone.from, zone.new),
+        11..=12 | 17 => search_sizes::refill(&sheet[2..], sizes, zone.from, zone.new),
         _ => search_sizes::refill(&sheet[2..], sizes, 0, most),
     }
 }

@@ -10,10 +10,11 @@ use borrow.Author.Tests.{eq-eqb, ne-eqb, le-leb, lt-ltb, ltb-true}
 use lib.Dec.{eqb, ltb, leb}
 use lib.ListN.{length, getD, drop, length-drop}
 use lib.Seq.{getD-drop}
-use Rattle.model.specs.Base.{pick, only-if, is-some, then}
+use Rattle.model.specs.Base.{pick, only-if, first-of, is-some, then}
 use Rattle.model.specs.Forest.{Conn, and, Forest, size, after, _⊕_, conjunction-at, literal-at}
 use Rattle.model.specs.Code.{kind, children}
-use Rattle.model.specs.Rules.{Family, absorbs, omits, unwraps, spreads, merges, change, absorb, omit, unwrap, spread, merge, rewrite}
+use Rattle.model.specs.Rules.{Family, absorbs, omits, unwraps, spreads, merges, drops}
+use Rattle.model.specs.Rules.{change, absorb, omit, unwrap, spread, merge, lower, drop-member, rewrite}
 use Rattle.model.specs.Strategy.{redex, least-j}
 use Rattle.theory_forms.specs.Logic.{is-some-of, pick-keeps, either}
 use Rattle.theory_forms.specs.Scan.{is-literal}
@@ -21,13 +22,13 @@ use Rattle.theory_reading.specs.Spans.{child-at}
 use Rattle.theory_reading.specs.Stretches.{Stretch, forest-in}
 use Rattle.theory_rewriting.specs.Heads.{Headed}
 use Rattle.theory_rewriting.specs.Children.{Group, headed-group, group-children, first-left, child-room, child-conjunction}
-use Rattle.theory_rewriting.specs.Turns.{family-at, family-applies}
+use Rattle.theory_rewriting.specs.Turns.{family-at, family-15, family-applies}
 use Rattle.rule_lift.specs.Asked.{literalChild}
 use Rattle.theory_rewriting.specs.Children.{conjunction-group}
 use Rattle.rule_lift.proofs.Lifting.{applies-nothing, applies-literal}
 use Rattle.search_place.proofs.SearchLevels.{j-found, j-none}
 
--- But for rules 11, 12 and 14 an inner child other than 0 gives nothing.
+-- Of the rules that name a child, but for 11, 12 and 14 an inner child other than 0 gives nothing.
 abbrev Flat : Family → Type 0
 Flat x = (c : Conn) (i j : ℕ) (k : Forest) → (j ≡ 0 → ⊥) → change x c i j k ≡ none
 
@@ -44,26 +45,38 @@ flat-merges : Flat merges
 unfolding change merge only-if
 flat-merges c i j k n = then-never (conjunction-at (after i k)) _ (λ m. rw (ne-eqb j 0 n))
 
-flat-family : (r : ℕ) → (r ≤ 10) ⊎ (r ≡ 13) → Flat (family-at r)
+flat-drops : Flat drops
+unfolding change drop-member omit lower only-if first-of
+flat-drops c i j k n = rw (ne-eqb j 0 n)
+
+-- The rules from 1 to 10, which look at the children and into none of them, and 15, which does so too; and 13.
+abbrev pub Beside : ℕ → Type 0
+Beside r = (r ≤ 10) ⊎ (r ≡ 15)
+
+abbrev pub No-inner : ℕ → Type 0
+No-inner r = Beside r ⊎ (r ≡ 13)
+
+flat-family : (r : ℕ) → No-inner r → Flat (family-at r)
 unfolding family-at change absorb omit spread only-if pick
-flat-family r (inl low) =
+flat-family r (inl (inl low)) =
     let absorbing : Flat absorbs = λ c i j k n. rw (ne-eqb j 0 n) in
     let omitting : Flat omits = λ c i j k n. rw (ne-eqb j 0 n) in
     let spreading : Flat spreads = λ c i j k n. then-never (literal-at (after i k)) _ (λ l. rw (ne-eqb j 0 n)) in
     rw (le-leb r 10 low)
     (pick-keeps Flat (leb r 3) absorbing (pick-keeps Flat (leb r 6) omitting (pick-keeps Flat (leb r 8) flat-unwraps spreading)))
+flat-family r (inl (inr e)) = rw (e, family-15) flat-drops
 flat-family r (inr e) = rw e flat-merges
 
 module _ {r : ℕ} {l : List ℕ} (s : Stretch l) (h : Headed r l) (i : ℕ) where
   -- For such a rule the answer at 0 is the answer.
   pub flat-found :
-      (r ≤ 10) ⊎ (r ≡ 13) →
+      No-inner r →
       is-some (rewrite r i 0 (forest-in l)) ≡ true →
       (p : ℕ) →
       some (redex r p i 0) ≡ least-j r p i (forest-in l)
   flat-found flat t p = j-found r p (forest-in l) i 0 t (λ k m. absurd (omega arith))
 
-  pub flat-none : (r ≤ 10) ⊎ (r ≡ 13) → is-some (rewrite r i 0 (forest-in l)) ≡ false → (p : ℕ) → none ≡ least-j r p i (forest-in l)
+  pub flat-none : No-inner r → is-some (rewrite r i 0 (forest-in l)) ≡ false → (p : ℕ) → none ≡ least-j r p i (forest-in l)
   unfolding is-some
   flat-none flat t p = j-none r p (forest-in l) i (λ j m. go j)
     where

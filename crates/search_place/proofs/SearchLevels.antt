@@ -56,16 +56,17 @@ module _ (r p : ℕ) (f : Forest) where
   unfolding least-i
   i-found i l e h = sym (least-is (record { number = i; below = l; answer = sym e; smaller = λ k m. sym (h k m) }))
 
-  pub i-none : ((i : ℕ) → i < size (kids f) → none ≡ least-j r p i f) → none ≡ least-i r p f
+  pub i-none : r ≤ 15 → ((i : ℕ) → i < size (kids f) → none ≡ least-j r p i f) → none ≡ least-i r p f
   unfolding least-i is-some
-  i-none h = sym (least-none _ _ .1 (λ i l. sym (go i (either (ltb i (size (kids f)))))))
+  i-none low h = sym (least-none _ _ .1 (λ i l. sym (go i (either (ltb i (size (kids f)))))))
     where
       go : (i : ℕ) → (ltb i (size (kids f)) ≡ true) ⊎ (ltb i (size (kids f)) ≡ false) → none ≡ least-j r p i f
       go i (inl t) = h i (ltb-true i (size (kids f)) t)
-      go i (inr t) = j-none i (λ j m. ap is-some (past-last r i j f (ltb-false i (size (kids f)) t)))
+      go i (inr t) = j-none i (λ j m. ap is-some (past-last r i j f low (ltb-false i (size (kids f)) t)))
 
   pub i-never : ((i j : ℕ) → false ≡ is-some (rewrite r i j f)) → none ≡ least-i r p f
-  i-never h = i-none (λ i l. j-none i (λ j m. sym (h i j)))
+  unfolding least-i
+  i-never h = sym (least-none _ _ .1 (λ i l. sym (j-none i (λ j m. sym (h i j)))))
 
 -- Places.
 module _ (r : ℕ) (ns : List Node) where

@@ -1,1 +1,2 @@
 pub mod Redexes
+pub mod Sought

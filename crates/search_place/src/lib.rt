@@ -1,5 +1,6 @@
 // The search at one place: the least child and inner child at which a rule applies.
 ghost use mathlib.Core.Path.{_≡_};
+ghost use mathlib.Core.Logic.{_⊎_};
 ghost use Prim.Native.Nat.{ℕ, _≤_, _<_};
 ghost use lib.ListN.{length, getD, drop};
 ghost use Rattle.model.specs.Limits.{«last-rule»};
@@ -12,6 +13,7 @@ ghost use Rattle.theory_rewriting.specs.Heads.{Headed};
 ghost use Rattle.search_sizes.specs.SizeTables.{«Sizes-of», Measured};
 ghost use Rattle.search_sizes.specs.FirstApplying.{«First-child»};
 ghost use Rattle.search_place.specs.Redexes.{spotOf};
+ghost use Rattle.search_place.specs.Sought.{Sought};
 
 // Where a rule applies to a node: the child and the inner child.
 pub enum Spot {
@@ -98,7 +100,7 @@ fn least_factored(part: &[u16], sizes: &[u16], i: usize, at: usize) -> Spot
 
 // The least inner child for child i and a rule that looks into it.
 fn least_inner(part: &[u16], sizes: &[u16], rule: usize, i: usize, at: usize) -> Spot
-    requires { ⌜ (11 ≤ rule) × (rule ≤ «last-rule») ⌝ }
+    requires { ⌜ (11 ≤ rule) × (rule ≤ 14) ⌝ }
     requires { ⌜ Stretch (now part) ⌝ }
     requires { ⌜ Headed rule (now part) ⌝ }
     requires { ⌜ (i < children (getD (now part) 0 0))
@@ -115,7 +117,7 @@ fn least_inner(part: &[u16], sizes: &[u16], rule: usize, i: usize, at: usize) ->
 
 // The least child and inner child for such a rule.
 fn least_inside(part: &[u16], sizes: &[u16], rule: usize) -> Spot
-    requires { ⌜ (11 ≤ rule) × (rule ≤ «last-rule») ⌝ }
+    requires { ⌜ (11 ≤ rule) × (rule ≤ 14) ⌝ }
     requires { ⌜ Stretch (now part) ⌝ }
     requires { ⌜ Headed rule (now part) ⌝ }
     requires { ⌜ «Sizes-of» (now part) (now sizes) ⌝ }
@@ -135,20 +137,20 @@ fn least_inside(part: &[u16], sizes: &[u16], rule: usize) -> Spot
     Spot::Nowhere
 }
 
-// The first child that is the constant which a rule of 1 to 6 looks for; as many as there are children where there is none.
-fn first_constant(part: &[u16], sizes: &[u16], rule: usize) -> usize
-    requires { ⌜ (1 ≤ rule) × (rule ≤ 6) ⌝ }
+// The first child that is one of the constants which a rule looks for; as many as there are children where there is none.
+fn first_constant(part: &[u16], sizes: &[u16], rule: usize, one: u16, other: u16) -> usize
     requires { ⌜ Stretch (now part) ⌝ }
     requires { ⌜ Headed rule (now part) ⌝ }
     requires { ⌜ «Sizes-of» (now part) (now sizes) ⌝ }
+    requires { ⌜ Sought rule one other (now part) ⌝ }
     ensures { λ r. ⌜ «First-child» rule r (now (part .entry)) ⌝ }
 {
-    let constant = rule_simplify::constant_for(rule);
     let k = common_nodes::children_of(common_nodes::wide16(part[0]));
     let mut i = 0;
     let mut at = 1;
     while i < k {
-        if part[at] == constant {
+        let x = part[at];
+        if x == one || x == other {
             return i;
         }
         at += common_nodes::wide16(sizes[at]);
@@ -171,19 +173,36 @@ fn only_child(part: &[u16], rule: usize) -> usize
     k
 }
 
-// The first child with which a rule of 1 to 10 applies, which looks at its children and into none of them.
+// The first child with which a rule of 1 to 10 or 15 applies, which looks at its children and into none of them.
 fn first_beside(part: &[u16], sizes: &[u16], rule: usize) -> usize
-    requires { ⌜ (1 ≤ rule) × (rule ≤ 10) ⌝ }
+    requires { ⌜ (1 ≤ rule) × ((rule ≤ 10) ⊎ (rule ≡ 15)) ⌝ }
     requires { ⌜ Stretch (now part) ⌝ }
     requires { ⌜ Headed rule (now part) ⌝ }
     requires { ⌜ «Sizes-of» (now part) (now sizes) ⌝ }
     ensures { λ r. ⌜ «First-child» rule r (now (part .entry)) ⌝ }
 {
     match rule {
-        1..=6 => first_constant(part, sizes, rule),
+        1..=6 => {
+            let constant = rule_simplify::constant_for(rule);
+            first_constant(part, sizes, rule, constant, constant)
+        }
         7..=8 => only_child(part, rule),
+        15..=15 => first_constant(part, sizes, rule, rule_least::FALSE, rule_least::TRUE),
         _ => search_recurring::first_recurring(part, sizes, rule),
     }
+}
+
+// Rules 16 and 17 are about the node alone, and have use for no child but 0.
+fn least_ended(part: &[u16], rule: usize) -> Spot
+    requires { ⌜ (16 ≤ rule) × (rule ≤ 17) ⌝ }
+    requires { ⌜ Stretch (now part) ⌝ }
+    requires { ⌜ Headed rule (now part) ⌝ }
+    ensures { λ r. ⌜ ((p : ℕ) → spotOf rule p r ≡ «least-i» rule p («forest-in» (now (part .entry)))) ⌝ }
+{
+    if rule_least::ends(part, rule, 0, 0) {
+        return Spot::At(0, 0);
+    }
+    Spot::Nowhere
 }
 
 // The least child and inner child for a rule at the first tree of a stretch.
@@ -199,14 +218,15 @@ pub fn least_child(part: &[u16], sizes: &[u16], rule: usize) -> Spot
         return Spot::Nowhere;
     }
     match rule {
-        1..=10 => {
+        11..=14 => least_inside(part, sizes, rule),
+        16..=17 => least_ended(part, rule),
+        _ => {
             let i = first_beside(part, sizes, rule);
             if i < common_nodes::children_of(common_nodes::wide16(part[0])) {
                 return Spot::At(i, 0);
             }
             Spot::Nowhere
         }
-        _ => least_inside(part, sizes, rule),
     }
 }
 

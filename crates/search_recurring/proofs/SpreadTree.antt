@@ -1,6 +1,6 @@
 -- The first tree of a stretch whose head is right for rule 9 or 10: where it ends, and with which children the rule applies.
 use mathlib.Core.List.{List}
-use mathlib.Core.Path.{_≡_, refl, sym, ap, _∙_}
+use mathlib.Core.Path.{_≡_, refl, ap, _∙_}
 use Prim.Native.Nat.{ℕ, _≤_, _<_}
 use native.Mathlib.Omega.{arith}
 use lib.ListN.{length, getD, drop}
@@ -8,12 +8,11 @@ use Rattle.model.specs.Base.{is-some}
 use Rattle.model.specs.Code.{children}
 use Rattle.model.specs.Forest.{size}
 use Rattle.model.specs.Rules.{rewrite}
-use Rattle.theory_forms.specs.Numbers.{head-number}
 use Rattle.theory_reading.specs.Flat.{fits-tree}
 use Rattle.theory_reading.specs.Spans.{child-at, span, arity, arity-head}
 use Rattle.theory_reading.specs.Stretches.{Stretch, forest-in}
 use Rattle.theory_rewriting.specs.Heads.{Headed}
-use Rattle.theory_rewriting.specs.Children.{Group, headed-group, group-head, group-children, group-long, child-room}
+use Rattle.theory_rewriting.specs.Children.{Group, headed-group, group-first, group-children, group-long, child-room}
 use Rattle.search_sizes.specs.TreeHops.{span-tree}
 use Rattle.rule_spread.specs.Assigning.{spreads-from}
 use Rattle.theory_rewriting.specs.Children.{child-inside}
@@ -32,7 +31,7 @@ module _ {r : ℕ} {l : List ℕ} (s : Stretch l) (h : Headed r l) where
   head-arity : arity (getD l 0 0) ≡ size (h .children)
   head-arity =
       let c = h .conn in
-      ap arity (group-head group ∙ sym (head-number c (size (h .children)))) ∙ arity-head c (size (h .children)) (fits-tree c (h .children) (h .rest) (group .fitting) .0)
+      ap arity (group-first group) ∙ arity-head c (size (h .children)) (fits-tree c (h .children) (h .rest) (group .fitting) .0)
 
   module _ {end : ℕ} (tree : end ≡ span 1 (drop 0 l)) where
     end-place : end ≡ child-at (size (h .children)) l

@@ -1,12 +1,16 @@
 -- Hops over trees that stand one after another, by their sizes.
 use mathlib.Core.List.{List, [], _∷_}
-use mathlib.Core.Path.{_≡_, ap, _∙_}
+use mathlib.Core.Path.{_≡_, refl, ap, _∙_}
 use Prim.Native.Nat.{ℕ, zero, suc, _+_, _-_, _≤_, _<_}
 use native.Mathlib.Nat.{zero-add, suc-add}
 use native.Mathlib.Omega.{arith}
 use borrow.Author.Count.{below-more}
+use lib.Dec.{eqb}
 use lib.ListN.{length, getD, drop, length-drop}
 use lib.Seq.{drop-drop}
+use Rattle.model.specs.Code.{kind, value, children}
+use Rattle.theory_forms.specs.Logic.{pick-keeps}
+use Rattle.theory_forms.specs.Scan.{is-literal}
 use Rattle.theory_reading.specs.Spans.{arity, span, span-none, span-over, span-more, span-step, span-within, child-at}
 use Rattle.search_sizes.specs.SizeTables.{Sizes-of}
 
@@ -36,6 +40,15 @@ pub span-tree : (i : ℕ) (s : List ℕ) → i < length s → i + span 1 (drop i
 span-tree i s h =
     let none : 1 - 1 + arity (getD s i 0) ≡ arity (getD s i 0) = omega arith in
     span-step 1 i s (omega arith) h ∙ ap (λ k. i + 1 + span k (drop (i + 1) s)) none
+
+-- A node of value 0 has no children, whatever its kind; a node without children is its tree.
+pub no-children : (x : ℕ) → value x ≡ 0 → arity x ≡ 0
+unfolding arity children
+no-children x e =
+    pick-keeps (λ k. k ≡ 0) (is-literal x) refl (rw e (pick-keeps (λ k. k ≡ 0) (eqb (kind x) 6) refl refl))
+
+pub childless : (i : ℕ) (s : List ℕ) → i < length s → arity (getD s i 0) ≡ 0 → i + span 1 (drop i s) ≡ i + 1
+childless i s h e = span-tree i s h ∙ ap (λ k. i + 1 + span k (drop (i + 1) s)) e ∙ omega (arith, span-none (drop (i + 1) s))
 
 -- A tree has a number at least, and lies within the list.
 pub span-one : (i : ℕ) (s : List ℕ) → i < length s → (1 ≤ span 1 (drop i s)) × (i + span 1 (drop i s) ≤ length s)

@@ -6,7 +6,7 @@ ghost use Rattle.model.specs.Limits.{«sheet-room»};
 ghost use Rattle.theory_reading.specs.Spans.{span};
 ghost use Rattle.search_sizes.specs.SizeTables.{«Sizes-from»};
 
-// The end of the tree at a place, by the sizes of those after it.
+// The end of the tree at a place, by the sizes of those after it. A literal has no children, and neither has a node of value 0.
 fn end_at(s: &[u16], sizes: &[u16], place: usize) -> usize
     requires { ⌜ (place < length (now s))
         × (length (now s) ≤ «sheet-room»)
@@ -15,8 +15,12 @@ fn end_at(s: &[u16], sizes: &[u16], place: usize) -> usize
     ensures { λ r. ⌜ (r ≡ place + span 1 (drop place (now (s .entry))))
         × (r ≤ «sheet-room») ⌝ }
 {
-    let mut pending = common_nodes::arity_of(common_nodes::wide16(s[place]));
+    let node = common_nodes::wide16(s[place]);
     let mut next = place + 1;
+    if common_nodes::is_literal(node) || common_nodes::value_of(node) == 0 {
+        return next;
+    }
+    let mut pending = common_nodes::children_of(node);
     while 0 < pending && next < s.len() {
         next += common_nodes::wide16(sizes[next]);
         pending -= 1;

@@ -6,8 +6,9 @@ ghost use Prim.Native.Nat.{_≤_};
 ghost use lib.Dec.{eqb};
 ghost use lib.ListN.{length, take};
 ghost use Rattle.model.specs.Base.{all};
-ghost use Rattle.model.specs.Limits.{«sheet-room»};
-ghost use Rattle.model.specs.Code.{«node-of», «one-tree»};
+ghost use Rattle.model.specs.Limits.{«most-options», «sheet-room»};
+ghost use Rattle.model.specs.Forest.{«all-seated»};
+ghost use Rattle.model.specs.Code.{decode, «node-of», «one-tree»};
 ghost use Rattle.model.specs.Sheet.{rooted, «is-sheet»};
 use common_limits::MOST_OPTIONS;
 use common_limits::SHEET_LENGTH;
@@ -15,32 +16,31 @@ use common_limits::SHEET_ROOM;
 use common_nodes::Trees;
 use common_weight::MOST_WEIGHT;
 
-// The first so many numbers are one tree with the root at its head and nowhere else, for n options.
+// The first so many numbers are one tree with the root at its head and nowhere else, for n options, its members in their seats.
 fn is_rooted_tree(s: &[u16], used: usize, n: usize) -> bool
-    requires { ⌜
-        (1 ≤ used)
+    requires { ⌜ (1 ≤ used)
         × (used ≤ «sheet-room»)
-        × (used ≤ length (now s)) ⌝ }
-    ensures { λ r. ⌜
-        r
-        ≡ (rooted n (take used (now (s .entry)))
-        && «one-tree» (map «node-of» (take used (now (s .entry))))) ⌝ }
+        × (used ≤ length (now s))
+        × (n ≤ «most-options») ⌝ }
+    ensures { λ r. ⌜ r ≡ (rooted n (take used (now (s .entry)))
+        && «one-tree» (map «node-of» (take used (now (s .entry))))
+        && «all-seated» (decode (map «node-of» (take used (now (s .entry)))))) ⌝ }
 {
     let head = common_nodes::wide16(s[0]);
     if common_nodes::kind_of(head) != 5 {
         return false;
     }
-    let mut trees = Trees::Count(0);
+    let mut trees = 0;
     let mut i = used;
     while 1 < i {
         i -= 1;
-        trees = common_nodes::join(common_nodes::wide16(s[i]), n, trees);
+        let joined = common_members::join_sheet(&s[i..used], n, trees);
+        let Trees::Count(t) = joined else {
+            return false;
+        };
+        trees = t;
     }
-    if let Trees::Count(t) = trees {
-        t == common_nodes::children_of(head)
-    } else {
-        false
-    }
+    trees == common_nodes::children_of(head)
 }
 
 // Every number is zero. All are read, with no way out before the last, so that the machine can take many at a time.

@@ -25,7 +25,7 @@ use Rattle.theory_forms.specs.Sheets.{Formed}
 use Rattle.theory_reading.specs.Stretches.{Stretch, forest-in, spell-to, live, live-numbers, sheet-stretch}
 use Rattle.theory_rewriting.specs.SheetPlaces.{lend, place-used, before-place}
 use Rattle.theory_rewriting.specs.Heads.{Headed, rewritten-to}
-use Rattle.locality.specs.Locality.{level-length}
+use Rattle.locality.specs.Locality.{Level, level-length}
 use Rattle.rule_table.proofs.HeadTests.{applied-headed}
 use Rattle.model.specs.Results.{stepped}
 
@@ -75,17 +75,16 @@ module _ (s : List ℕ) (h : Formed s) where
   pub turned-level :
       (r p i j : ℕ) →
       is-some (M.step r p i j (nodes-in s)) ≡ true →
-      9 ≤ r →
-      r ≤ 12 →
+      Level r →
       take (2 + p) s ++ rewritten-to r i j (drop (2 + p) s) ≡ stepped s r p i j
   unfolding stepped maybe sheet-of then M.step
-  turned-level r p i j t low high =
+  turned-level r p i j t level =
       let ns = nodes-in s in
       let facts = h in
       let w = is-some-of (rewrite r i j (decode (drop p ns))) (sym (is-some-then (rewrite r i j (decode (drop p ns))) (λ f. take p ns ++ encode f)) ∙ t) in
       let ms = take p ns ++ encode (w .0) in
       let did = step-some r p i j ns (w .1) in
-      let count : used-in s ≡ length ms = sym (facts .count) ∙ sym (level-length r p i j ns (shaped-trees (facts .shaped)) did low high) in
+      let count : used-in s ≡ length ms = sym (facts .count) ∙ sym (level-length r p i j ns (shaped-trees (facts .shaped)) did level) in
       turned-numbers r p i j (place-used s h r p i j t) (w .1)
       ∙ ap (λ u. options-in s ∷ u ∷ (map number-of ms ++ replicate (sheet-room - length ms) 0)) count
       ∙ ap (λ o. sheet-of (options-in s) (maybe ns (λ xs. xs) o)) (sym did)
@@ -143,5 +142,5 @@ module _ (s : List ℕ) (h : Formed s) (r p i j : ℕ) (t : is-some (M.step r p 
         ∙ turned-sheet s h r p i j t
 
     -- Where the step keeps the number of nodes it is that as it is.
-    pub back-level : 9 ≤ r → r ≤ 12 → putMid (2 + p) (length s - (2 + p)) s ys ≡ stepped s r p i j
-    back-level low up = back ∙ turned-level s h r p i j t low up
+    pub back-level : Level r → putMid (2 + p) (length s - (2 + p)) s ys ≡ stepped s r p i j
+    back-level level = back ∙ turned-level s h r p i j t level

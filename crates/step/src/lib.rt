@@ -15,9 +15,10 @@ ghost use Rattle.theory_reading.specs.Stretches.{Stretch, «forest-in»};
 ghost use Rattle.theory_rewriting.specs.Heads.{Headed, «rewritten-to»};
 ghost use Rattle.theory_forms.specs.Sheets.{Formed};
 
-// Whether the rule applies to the first tree of the stretch, whose head is right for it and whose child i stands at a place.
+// Whether a rule that names a child applies to the first tree of the stretch, whose head is right for it and whose child i stands at a
+// place.
 pub fn applies_headed(part: &[u16], rule: usize, i: usize, j: usize, at: usize) -> bool
-    requires { ⌜ (1 ≤ rule) × (rule ≤ «last-rule») ⌝ }
+    requires { ⌜ (1 ≤ rule) × (rule ≤ 15) ⌝ }
     requires { ⌜ Stretch (now part) ⌝ }
     requires { ⌜ Headed rule (now part) ⌝ }
     requires { ⌜ (i < children (getD (now part) 0 0)) × (at ≡ «child-at» i (now part)) ⌝ }
@@ -27,7 +28,8 @@ pub fn applies_headed(part: &[u16], rule: usize, i: usize, j: usize, at: usize) 
         1..=8 => rule_simplify::applies(part, rule, i, j, at),
         9..=10 => rule_spread::applies(part, rule, i, j, at),
         11..=13 => rule_lift::applies(part, rule, i, j, at),
-        _ => rule_factor::applies(part, i, j, at),
+        14..=14 => rule_factor::applies(part, i, j, at),
+        _ => rule_least::drops(part, i, j, at),
     }
 }
 
@@ -43,7 +45,9 @@ pub fn turn(part: &mut [u16], rule: usize, i: usize, j: usize)
         1..=8 => rule_simplify::turn(part, rule, i, j),
         9..=10 => rule_spread::turn(part, rule, i, j),
         11..=13 => rule_lift::turn(part, rule, i, j),
-        _ => rule_regroup::turn(part, i, j),
+        14..=14 => rule_regroup::turn(part, i, j),
+        15..=15 => rule_least::drop_member(part, i, j),
+        _ => rule_least::end(part, rule, i, j),
     }
 }
 
@@ -56,6 +60,9 @@ pub fn applies(part: &[u16], rule: usize, i: u64, j: u64) -> bool
     if !rule_table::is_headed(part, rule) {
         return false;
     }
+    if 15 < rule {
+        return rule_least::ends(part, rule, i as usize, j as usize);
+    }
     let k = common_nodes::children_of(common_nodes::wide16(part[0]));
     if k as u64 <= i {
         return false;
@@ -66,7 +73,7 @@ pub fn applies(part: &[u16], rule: usize, i: u64, j: u64) -> bool
 }
 
 // The step on a sheet on which it applies: from its place on the numbers are rewritten, and the used count follows, but for rules 9
-// to 12, which keep the number of nodes.
+// to 12 and 17, which keep the number of nodes.
 pub fn apply(sheet: &mut [u16], rule: usize, place: usize, i: usize, j: usize)
     requires { ⌜ Formed (now sheet) ⌝ }
     requires { ⌜ «is-some» (M.step rule place i j («nodes-in» (now sheet))) ≡ true ⌝ }
@@ -76,6 +83,7 @@ pub fn apply(sheet: &mut [u16], rule: usize, place: usize, i: usize, j: usize)
     turn(&mut sheet[from..], rule, i, j);
     match rule {
         9..=12 => {}
+        17..=17 => {}
         _ => sheet[1] = sheet_shifts::live_count(&sheet[2..]) as u16,
     }
 }

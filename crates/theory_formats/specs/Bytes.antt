@@ -40,6 +40,20 @@ pub word-drop : (n k : ℕ) (b : List ℕ) → word (drop n b) k ≡ word b (n +
 unfolding word
 word-drop n k b = let one : n + suc k ≡ suc (n + k) = omega arith in rw (getD-drop n b k 0, getD-drop n b (suc k) 0, one)
 
+pub word-among : (n i : ℕ) (b : List ℕ) → i < n → getD (words n b) i 0 ≡ word b (2 * i)
+unfolding words
+word-among zero i b h = absurd (omega arith)
+word-among (suc n) zero b h = refl
+word-among (suc n) (suc i) b h =
+    let next : 2 + 2 * i ≡ 2 * suc i = omega arith in
+    word-among n i (drop 2 b) (omega arith) ∙ word-drop 2 (2 * i) b ∙ ap (word b) next
+
+pub take-words : (k n : ℕ) (b : List ℕ) → k ≤ n → take k (words n b) ≡ words k b
+unfolding words
+take-words zero n b h = refl
+take-words (suc k) zero b h = absurd (omega arith)
+take-words (suc k) (suc n) b h = ap (λ xs. word b 0 ∷ xs) (take-words k n (drop 2 b) (omega arith))
+
 pub length-bytes : (xs : List ℕ) → length (bytes-of xs) ≡ 2 * length xs
 unfolding bytes-of
 length-bytes [] = refl

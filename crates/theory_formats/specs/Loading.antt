@@ -1,5 +1,5 @@
 -- Loading: what an accepted book holds, and that the sheet which it fills is a sheet and means what its bodies mean.
-use mathlib.Core.Bool.{true}
+use mathlib.Core.Bool.{true, _&&_}
 use mathlib.Core.List.{List, [], _∷_, _++_, map, flatten, map-append}
 use mathlib.Core.Option.{some}
 use mathlib.Core.Path.{_≡_, refl, sym, ap, ap₂, _∙_}
@@ -7,17 +7,18 @@ use Prim.Native.Nat.{ℕ, _≤_}
 use native.Mathlib.Omega.{arith}
 use lib.ListN.{length, drop}
 use Rattle.model.specs.Base.{all}
-use Rattle.model.specs.Forest.{root, Forest, nil, _⊕_, size}
-use Rattle.model.specs.Code.{encode, decode, trees, weight, node-of}
+use Rattle.model.specs.Forest.{root, Forest, nil, _⊕_, size, all-seated}
+use Rattle.model.specs.Code.{encode, decode, trees, one-tree, weight, node-of}
 use Rattle.model.specs.Clauses.{clauses, need, no-tree, some-of}
 use Rattle.model.specs.Limits.{most-options, most-rules, most-nodes, most-weight, head-length}
 use Rattle.model.specs.Sheet.{body-node, is-sheet, sheet-of, clauses-in}
 use Rattle.model.specs.Book.{word, options-of, rules-of, size-of, length-due, codes-of, contents-of, numbers-of, codes-ok, in-line, bodies-of, body-ok, book-nodes, clauses-of-body, clauses-of-book, contents-end}
-use Rattle.theory_forms.specs.Logic.{and-split}
+use Rattle.theory_forms.specs.Logic.{and-split, and-join}
 use Rattle.theory_forms.specs.Lists.{all-weaken, all-flatten}
 use Rattle.theory_forms.specs.Forests.{size-⊕}
 use Rattle.theory_forms.specs.Codes.{encode-⊕, decode-encode, encode-decode, trees-code, one-tree-is}
 use Rattle.theory_forms.specs.Numbers.{plain-nodes}
+use Rattle.theory_forms.specs.Seats.{seated-⊕}
 use Rattle.theory_meaning.specs.Clauses.{clauses-⊕, clauses-root}
 use Rattle.theory_forms.specs.Shape.{Shaped, shaped, shaped-decode, shaped-kids}
 use Rattle.theory_forms.specs.Sheets.{nodes-made, sheet-made}
@@ -54,13 +55,23 @@ forest-of [] = nil
 forest-of (x ∷ xs) = decode (map node-of x) ⊕ forest-of xs
 
 module _ (n : ℕ) where
+  -- What a body is: nodes of bodies, one tree, members in their seats.
+  pub body-parts :
+      (xs : List ℕ) →
+      body-ok n xs ≡ true →
+      (all (body-node n) xs ≡ true) × (one-tree (map node-of xs) ≡ true) × (all-seated (decode (map node-of xs)) ≡ true)
+  unfolding body-ok
+  body-parts xs h =
+      let s = and-split (all (body-node n) xs && one-tree (map node-of xs)) (all-seated (decode (map node-of xs))) h in
+      let t = and-split (all (body-node n) xs) (one-tree (map node-of xs)) (s .0) in
+      (t .0, t .1, s .1)
+
   -- A body is the code of one tree.
   pub body-tree :
       (xs : List ℕ) →
       body-ok n xs ≡ true →
       (encode (decode (map node-of xs)) ≡ map node-of xs) × (size (decode (map node-of xs)) ≡ 1)
-  unfolding body-ok
-  body-tree xs h = encode-decode (map node-of xs) 1 (one-tree-is (map node-of xs) (and-split (all (body-node n) xs) _ h .1))
+  body-tree xs h = encode-decode (map node-of xs) 1 (one-tree-is (map node-of xs) (body-parts xs h .1))
 
   -- The bodies, one after another, are the code of their trees.
   pub bodies-code :
@@ -80,10 +91,17 @@ module _ (n : ℕ) where
 
   -- Their numbers are nodes of bodies.
   bodies-numbers : (xss : List (List ℕ)) → all (body-ok n) xss ≡ true → all (body-node n) (flatten xss) ≡ true
-  unfolding body-ok
   bodies-numbers xss h =
       all-flatten (body-node n) xss
-      ∙ all-weaken (body-ok n) (all (body-node n)) (λ xs k. and-split (all (body-node n) xs) _ k .0) xss h
+      ∙ all-weaken (body-ok n) (all (body-node n)) (λ xs k. body-parts xs k .0) xss h
+
+  -- Their members are in their seats.
+  bodies-seated : (xss : List (List ℕ)) → all (body-ok n) xss ≡ true → all-seated (forest-of xss) ≡ true
+  unfolding all forest-of all-seated
+  bodies-seated [] h = refl
+  bodies-seated (xs ∷ xss) h =
+      let s = and-split (body-ok n xs) (all (body-ok n) xss) h in
+      seated-⊕ (decode (map node-of xs)) (forest-of xss) ∙ and-join (body-parts xs (s .0) .2) (bodies-seated xss (s .1))
 
 -- The clauses of the bodies' trees side by side are those of every body.
 clauses-forest : (xss : List (List ℕ)) → clauses root (forest-of xss) ≡ flatten (map clauses-of-body xss)
@@ -115,11 +133,14 @@ module _ (b : List ℕ) (a : Accepted b) where
       ∙ trees-code (forest-of (bodies-of b))
       ∙ ap some (code .1 ∙ bodies-count b)
 
+  book-seated : all-seated (decode (map node-of (numbers-of b))) ≡ true
+  book-seated = ap all-seated book-forest ∙ bodies-seated (options-of b) (bodies-of b) (a .bodies)
+
   -- What an accepted book fills is a sheet.
   pub loaded-shaped : Shaped (options-of b) (book-nodes b)
   unfolding book-nodes
   loaded-shaped =
-      shaped (options-of b) (rules-of b) (map node-of (numbers-of b)) book-trees (plain-nodes (options-of b) (numbers-of b) book-numbers)
+      shaped (options-of b) (rules-of b) (map node-of (numbers-of b)) book-trees (plain-nodes (options-of b) (numbers-of b) book-numbers) book-seated
 
   pub loaded-kids : loaded-shaped .kids ≡ decode (map node-of (numbers-of b))
   unfolding book-nodes

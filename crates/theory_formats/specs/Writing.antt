@@ -9,7 +9,7 @@ use lib.Dec.{eqb, leb}
 use lib.ListN.{length, take, drop, length-map, length-drop, take-append-drop}
 use lib.Seq.{length-take-le}
 use Rattle.model.specs.Base.{all}
-use Rattle.model.specs.Forest.{root, Forest, nil, node, size, kids}
+use Rattle.model.specs.Forest.{root, Forest, nil, node, size, kids, all-seated}
 use Rattle.model.specs.Code.{number-of, kind, head, encode, decode, weight, node-of}
 use Rattle.model.specs.Limits.{head-length, code-length, sheet-room}
 use Rattle.model.specs.Sheet.{body-node, options-in, numbers-in, nodes-in, rooted, sheet-of}
@@ -18,7 +18,7 @@ use Rattle.theory_forms.specs.Logic.{true-false, and-split, and-join}
 use Rattle.theory_forms.specs.Lists.{map-back, map-drop}
 use Rattle.theory_forms.specs.Codes.{decode-encode, size-length}
 use Rattle.theory_forms.specs.Numbers.{number-node, known, known-body}
-use Rattle.theory_forms.specs.Shape.{shaped-flat}
+use Rattle.theory_forms.specs.Shape.{shaped-flat, plain-parts}
 use Rattle.theory_forms.specs.Sheets.{Formed, formed-made, options-made, nodes-made, sheet-is}
 use Rattle.theory_formats.specs.Bytes.{length-words, Bytes, below-all, pieces-part}
 use Rattle.theory_formats.specs.Contents.{node-counts, total, places, flat-places, length-places, in-line-places, in-line-means, below-places, lengths-cut}
@@ -40,7 +40,7 @@ written-parts s b f e =
 -- A number of a body has 16 bits.
 body-small : (n x : ℕ) → body-node n x ≡ true → x < 65536
 unfolding known kind
-body-small n x h = omega (arith, leb-true (kind x) 5 (and-split (leb 1 (kind x)) (leb (kind x) 5) (known-body n x h) .1))
+body-small n x h = omega (arith, leb-true (kind x) 6 (and-split (leb 1 (kind x)) (leb (kind x) 6) (known-body n x h) .1))
 
 rooted-below : (n : ℕ) (xs : List ℕ) → rooted n xs ≡ true → all (body-node n) (drop 1 xs) ≡ true
 unfolding rooted
@@ -62,6 +62,10 @@ module _ (s : List ℕ) (sheet : Formed s) where
 
   numbers-plain : all (body-node (options-in s)) (drop 1 (numbers-in s)) ≡ true
   numbers-plain = rooted-below (options-in s) (numbers-in s) (sheet .rooted)
+
+  rules-seated : all-seated rules ≡ true
+  unfolding rules
+  rules-seated = plain-parts (options-in s) (sheet .shaped .kids) (sheet .shaped .fine) .1
 
   rules-short : length (encode rules) < sheet-room
   unfolding weight
@@ -126,7 +130,7 @@ module _ (s b : List ℕ) (sheet : Formed s) (book : Accepted b) (same : options
         long = r .long;
         codes = rw written-codes (book .codes);
         contents = rw (r .contents, r .nodes, in-line-places (length xs) 0 (counts f)) (and-join (counts-some f) (eq-eqb (0 + total (counts f)) (length xs) (omega arith)));
-        bodies = rw (r .contents, r .numbers, r .options) (bodies-ok n 0 f xs (numbers-nodes s sheet) (numbers-plain s sheet));
+        bodies = rw (r .contents, r .numbers, r .options) (bodies-ok n 0 f xs (numbers-nodes s sheet) (numbers-plain s sheet) (rules-seated s sheet));
         weight = rw written-nodes (sheet .weight);
       }
 

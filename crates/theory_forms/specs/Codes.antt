@@ -1,4 +1,4 @@
--- Code and decode are inverse; nodes read onto a forest; what `trees` and `literals` count.
+-- Code and decode are inverse; nodes read onto a forest; what `trees`, `literals` and `leasts` count.
 use mathlib.Core.Bool.{true}
 use mathlib.Core.List.{List, [], _∷_, _++_, append-assoc, append-nil}
 use mathlib.Core.Option.{Option, none, some}
@@ -11,7 +11,7 @@ use lib.Dec.{leb}
 use lib.ListN.{length, drop, length-append}
 use Rattle.model.specs.Base.{only-if, then}
 use Rattle.model.specs.Forest.{Conn, Forest, nil, lit, node, _⊕_, size, first, after, kids}
-use Rattle.model.specs.Code.{Node, leaf, head, encode, push, decode, joined, trees, exactly-one, one-tree, literals}
+use Rattle.model.specs.Code.{Node, leaf, head, encode, push, decode, joined, trees, exactly-one, one-tree, literals, leasts}
 use Rattle.theory_forms.specs.Logic.{true-false, some-inj, only-some, then-some}
 use Rattle.theory_forms.specs.Forests.{⊕-nil, first-⊕, after-⊕, first-after, size-first, size-after}
 
@@ -110,7 +110,8 @@ trees-below c k ns e =
     let o = only-some (leb k (w .0)) _ (w .2) in
     w .1 ∙ ap some (omega (arith, leb-true k (w .0) (o .0), o .1))
 
--- A code has at least a node for every tree, and lists of nodes one after another have the literals of each.
+-- A code has at least a node for every tree, and lists of nodes one after another have the literals of each, and
+-- the nodes of kind 6.
 pub size-length : (f : Forest) → size f ≤ length (encode f)
 unfolding size encode
 size-length nil = omega arith
@@ -122,3 +123,9 @@ unfolding literals
 literals-append [] ns = omega arith
 literals-append (leaf l ∷ ms) ns = let h = literals-append ms ns in omega arith
 literals-append (head c k ∷ ms) ns = literals-append ms ns
+
+pub leasts-append : (ms ns : List Node) → leasts (ms ++ ns) ≡ leasts ms + leasts ns
+unfolding leasts
+leasts-append [] ns = omega arith
+leasts-append (leaf l ∷ ms) ns = leasts-append ms ns
+leasts-append (head c k ∷ ms) ns = let h = leasts-append ms ns in omega arith

@@ -7,10 +7,10 @@ use Prim.Native.Nat.{ℕ, zero, suc, _+_, _≤_, _-_}
 use native.Mathlib.Nat.{zero-add, suc-add}
 use native.Mathlib.Omega.{arith}
 use borrow.Author.Tests.{eqb-true, eq-eqb}
-use lib.Dec.{eqb}
+use lib.Dec.{eqb, leb}
 use Rattle.model.specs.Base.{pick}
 use Rattle.model.specs.Literal.{Literal, option, same, complement}
-use Rattle.model.specs.Forest.{Conn, and, or, root, same-conn, Forest, nil, lit, node, _⊕_, size, first, after, literal-at, conjunction-at, constant-at, has-unit, mentions}
+use Rattle.model.specs.Forest.{Conn, and, or, root, at-least, same-conn, Forest, nil, lit, node, _⊕_, size, first, after, literal-at, conjunction-at, constant-at, has-unit, mentions}
 use Rattle.model.specs.Code.{conn-kind}
 use Rattle.model.specs.Rules.{neutral, deciding, assigned, groups}
 use Rattle.theory_forms.specs.Logic.{true-false, none-some, some-inj, and-split, or-split, or-left, or-right}
@@ -108,36 +108,65 @@ conjunction-here i f {k} e = go (after i f) e ∙ ap (node and k) (sym (after-su
     go (node and m g) h = ap (λ y. node and y g) (some-inj h)
     go (node or m g) h = none-some h
     go (node root m g) h = none-some h
+    go (node (at-least a) m g) h = none-some h
 
 pub same-conn-is : (c d : Conn) → same-conn c d ≡ true → c ≡ d
 unfolding same-conn
 same-conn-is and and e = refl
 same-conn-is and or e = true-false (sym e)
 same-conn-is and root e = true-false (sym e)
+same-conn-is and (at-least b) e = true-false (sym e)
 same-conn-is or and e = true-false (sym e)
 same-conn-is or or e = refl
 same-conn-is or root e = true-false (sym e)
+same-conn-is or (at-least b) e = true-false (sym e)
 same-conn-is root and e = true-false (sym e)
 same-conn-is root or e = true-false (sym e)
 same-conn-is root root e = refl
+same-conn-is root (at-least b) e = true-false (sym e)
+same-conn-is (at-least a) and e = true-false (sym e)
+same-conn-is (at-least a) or e = true-false (sym e)
+same-conn-is (at-least a) root e = true-false (sym e)
+same-conn-is (at-least a) (at-least b) e = ap at-least (eqb-true a b e)
 
 pub same-conn-self : (c : Conn) → same-conn c c ≡ true
 unfolding same-conn
 same-conn-self and = refl
 same-conn-self or = refl
 same-conn-self root = refl
+same-conn-self (at-least a) = eq-eqb a a refl
 
-pub conn-of-kind : (c d : Conn) → conn-kind c ≡ conn-kind d → c ≡ d
-unfolding conn-kind
-conn-of-kind and and e = refl
-conn-of-kind and or e = absurd (omega arith)
-conn-of-kind and root e = absurd (omega arith)
-conn-of-kind or and e = absurd (omega arith)
-conn-of-kind or or e = refl
-conn-of-kind or root e = absurd (omega arith)
-conn-of-kind root and e = absurd (omega arith)
-conn-of-kind root or e = absurd (omega arith)
-conn-of-kind root root e = refl
+-- The connectives of document 01, each of which has a kind of its own, and their kinds.
+unfoldable pub grouping : Conn → Bool
+grouping c = leb (conn-kind c) 5
+
+group-of : ℕ → Conn
+group-of k = pick (eqb k 3) and (pick (eqb k 4) or root)
+
+kind-back : (c : Conn) → grouping c ≡ true → group-of (conn-kind c) ≡ c
+unfolding grouping conn-kind group-of pick
+kind-back and g = refl
+kind-back or g = refl
+kind-back root g = refl
+kind-back (at-least a) g = true-false (sym g)
+
+pub conn-of-kind : (c d : Conn) → grouping d ≡ true → conn-kind c ≡ conn-kind d → c ≡ d
+unfolding grouping
+conn-of-kind c d g e = sym (kind-back c (ap (λ k. leb k 5) e ∙ g)) ∙ ap group-of e ∙ kind-back d g
+
+pub neutral-groups : (c : Conn) → grouping (neutral c) ≡ true
+unfolding grouping neutral conn-kind
+neutral-groups and = refl
+neutral-groups or = refl
+neutral-groups root = refl
+neutral-groups (at-least a) = refl
+
+pub deciding-groups : (c : Conn) → grouping (deciding c) ≡ true
+unfolding grouping deciding conn-kind
+deciding-groups and = refl
+deciding-groups or = refl
+deciding-groups root = refl
+deciding-groups (at-least a) = refl
 
 -- Two connectives that are told apart.
 pub not-conn : {c d : Conn} → same-conn c d ≡ false → c ≡ d → ⊥

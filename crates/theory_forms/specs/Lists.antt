@@ -100,6 +100,20 @@ module _ {A : Type 0} where
   element-within (y ∷ ys) zero e = omega arith
   element-within (y ∷ ys) (suc i) e = let h = element-within ys i e in omega arith
 
+  -- What holds of the first n elements holds of one that stands below n; what holds of the others, of one from n on.
+  pub all-first : (p : A → Bool) (n : ℕ) (xs : List A) (i : ℕ) {x : A} → all p (take n xs) ≡ true → i < n → getElem? xs i ≡ some x → p x ≡ true
+  unfolding all
+  all-first p zero xs i h l e = absurd (omega arith)
+  all-first p (suc n) [] i h l e = none-some e
+  all-first p (suc n) (y ∷ ys) zero h l e = ap p (sym (some-inj e)) ∙ and-split (p y) _ h .0
+  all-first p (suc n) (y ∷ ys) (suc i) h l e = all-first p n ys i (and-split (p y) _ h .1) (omega arith) e
+
+  pub all-later : (p : A → Bool) (n : ℕ) (xs : List A) (i : ℕ) {x : A} → all p (drop n xs) ≡ true → n ≤ i → getElem? xs i ≡ some x → p x ≡ true
+  all-later p zero xs i h l e = all-at p xs h (getElem?-mem xs i e)
+  all-later p (suc n) [] i h l e = none-some e
+  all-later p (suc n) (y ∷ ys) zero h l e = absurd (omega arith)
+  all-later p (suc n) (y ∷ ys) (suc i) h l e = all-later p n ys i h (omega arith) e
+
   pub mem-flatten : {x : A} {xs : List A} (xss : List (List A)) → List·Memᴰ xs xss → List·Memᴰ x xs → List·Memᴰ x (flatten xss)
   unfolding flatten
   mem-flatten (ys ∷ xss) (List·Memᴰ·head q) k = Memᴰ·append-left (flatten xss) (rw q at k)

@@ -158,6 +158,17 @@ unfolding then
 then-then-none none t f e = refl
 then-then-none (some a) t f e = then-none (t a) f .0 e
 
+pub pick-some : {A : Type 0} (b : Bool) (a : A) (o : Option A) {x : A} → pick b (some a) o ≡ some x →
+    ((b ≡ true) × (a ≡ x)) ⊎ ((b ≡ false) × (o ≡ some x))
+unfolding pick
+pick-some true a o e = inl (refl, some-inj e)
+pick-some false a o e = inr (refl, e)
+
+pub pick-none : {A : Type 0} (b : Bool) (a : A) (o : Option A) → pick b (some a) o ≡ none → (b ≡ false) × (o ≡ none)
+unfolding pick
+pick-none true a o e = none-some (sym e)
+pick-none false a o e = (refl, e)
+
 pub first-some : {A : Type 0} (a b : Option A) {x : A} → first-of a b ≡ some x → (a ≡ some x) ⊎ (b ≡ some x)
 unfolding first-of
 first-some none b e = inr e

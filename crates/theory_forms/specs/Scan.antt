@@ -2,17 +2,18 @@
 use mathlib.Core.Bool.{Bool, true, false, _&&_, _||_}
 use mathlib.Core.List.{List, [], _∷_, map}
 use mathlib.Core.Option.{Option, none, some}
-use mathlib.Core.Path.{_≡_, refl, sym}
-use Prim.Native.Nat.{ℕ, zero, suc, _-_, _≤_, _<_}
+use mathlib.Core.Path.{_≡_, refl, sym, ap}
+use Prim.Native.Nat.{ℕ, zero, suc, _-_, _%_, _≤_, _<_}
 use native.Mathlib.Omega.{arith}
 use borrow.Author.Tests.{leb-true, leb-false, eqb-true, eq-eqb, ne-eqb}
 use lib.Dec.{eqb, leb}
 use lib.ListN.{length, getD}
 use lib.Seq.{slice, slice-cons}
 use Rattle.model.specs.Base.{pick, only-if, maybe, then, all}
+use Rattle.model.specs.Limits.{least-factor}
 use Rattle.model.specs.Literal.{Literal, pos, neg}
-use Rattle.model.specs.Forest.{Conn, and, or, root}
-use Rattle.model.specs.Code.{Node, leaf, head, kind, value, children, node-of, joined, trees, exactly-one, one-tree, literals}
+use Rattle.model.specs.Forest.{Conn, and, or, root, at-least, all-seated}
+use Rattle.model.specs.Code.{Node, leaf, head, kind, value, children, node-of, decode, joined, trees, exactly-one, one-tree, literals}
 use Rattle.model.specs.Sheet.{body-node, rooted}
 use Rattle.model.specs.Book.{body-ok}
 use Rattle.theory_forms.specs.Logic.{true-false, or-neither, same-test, pick-keeps}
@@ -49,7 +50,11 @@ unfolding is-literal node-of pick
 inner-node x h =
     let s = or-neither (eqb (kind x) 1) (eqb (kind x) 2) h in
     rw (s .0, s .1)
-    (pick-keeps Inner (eqb (kind x) 3) (and, refl) (pick-keeps Inner (eqb (kind x) 4) (or, refl) (root, refl)))
+    (pick-keeps Inner (eqb (kind x) 3)
+    (and, refl)
+    (pick-keeps Inner (eqb (kind x) 4)
+    (or, refl)
+    (pick-keeps Inner (eqb (kind x) 6) (at-least (value x % least-factor), refl) (root, refl))))
   where
     Inner : Node → Type 0
     Inner y = (c : Conn) × (y ≡ head c (children x))
@@ -100,9 +105,9 @@ scan-trees n (x ∷ xs) = rw (scan-trees n xs) (go (body-node n x) (all (body-no
     go false true (some t) = refl
     go false false o = refl
 
-pub scan-ok : (n : ℕ) (xs : List ℕ) → body-ok n xs ≡ exactly-one (scan n xs)
+pub scan-ok : (n : ℕ) (xs : List ℕ) → body-ok n xs ≡ (exactly-one (scan n xs) && all-seated (decode (map node-of xs)))
 unfolding body-ok one-tree exactly-one pick
-scan-ok n xs = rw (scan-trees n xs) (go (all (body-node n) xs))
+scan-ok n xs = rw (scan-trees n xs) (ap (λ b. b && all-seated (decode (map node-of xs))) (go (all (body-node n) xs)))
   where
     go : (a : Bool) → (a && exactly-one (trees (map node-of xs))) ≡ exactly-one (pick a (trees (map node-of xs)) none)
     go true = refl

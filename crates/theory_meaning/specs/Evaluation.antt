@@ -10,7 +10,7 @@ use lib.Dec.{eqb, leb, leb·zero, leb·suc-zero, leb·suc-suc}
 use lib.ListN.{length}
 use Rattle.model.specs.Base.{pick, all, any}
 use Rattle.model.specs.Literal.{Literal, pos, neg, same}
-use Rattle.model.specs.Forest.{Conn, and, or, root, Forest, nil, lit, node, size}
+use Rattle.model.specs.Forest.{Conn, and, or, root, at-least, Forest, nil, lit, node, size}
 use Rattle.model.specs.Clauses.{Clause, unions, need, no-tree, one-tree-more, some-of, clauses}
 use Rattle.theory_forms.specs.Logic.{same-test, or-split, or-left}
 use Rattle.theory_forms.specs.Lists.{all-append, any-append}
@@ -19,12 +19,18 @@ use Rattle.theory_forms.specs.Lists.{all-append, any-append}
 abbrev pub Set : Type 0
 Set = Literal → Bool
 
+-- How many of the values say that a tree fails.
+unfoldable pub count : List Bool → ℕ
+count [] = 0
+count (b ∷ bs) = pick b (suc (count bs)) (count bs)
+
 -- Whether a node fails whose children have these values: a conjunction or the root iff some child fails; a disjunction iff all
--- do.
+-- do; at least a of them iff fewer than a are left that do not.
 unfoldable pub fails-all : Conn → List Bool → Bool
 fails-all and bs = any (λ b. b) bs
 fails-all or bs = all (λ b. b) bs
 fails-all root bs = any (λ b. b) bs
+fails-all (at-least a) bs = leb (need (at-least a) (length bs)) (count bs)
 
 -- The values of the trees of a forest, in order: whether each fails. A literal fails iff it is in the set.
 unfoldable pub values : Set → Forest → List Bool
@@ -34,11 +40,6 @@ values s (node d k f) = fails-all d (values s k) ∷ values s f
 
 unfoldable pub fails : Set → Conn → Forest → Bool
 fails s c f = fails-all c (values s f)
-
--- How many of the values say that a tree fails.
-unfoldable pub count : List Bool → ℕ
-count [] = 0
-count (b ∷ bs) = pick b (suc (count bs)) (count bs)
 
 pub length-values : (s : Set) (f : Forest) → length (values s f) ≡ size f
 unfolding values size
@@ -70,6 +71,7 @@ unfolding fails-all need
 threshold and bs = some-fail bs
 threshold or bs = all-fail bs
 threshold root bs = some-fail bs
+threshold (at-least a) bs = refl
 
 -- Some clause lies inside the set.
 unfoldable pub some-inside : Set → List Clause → Bool

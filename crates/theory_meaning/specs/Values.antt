@@ -4,13 +4,13 @@ use mathlib.Core.Bool.{Bool, true, false, _&&_, _||_}
 use mathlib.Core.List.{List, [], _∷_, _++_}
 use mathlib.Core.Path.{_≡_, refl, sym, ap, ap₂, _∙_}
 use Prim.Native.Nat.{ℕ, zero, suc}
-use lib.ListN.{take, drop}
-use Rattle.model.specs.Base.{all, any}
+use lib.ListN.{length, take, drop}
+use Rattle.model.specs.Base.{pick, all, any}
 use Rattle.model.specs.Forest.{Conn, and, or, root, Forest, nil, lit, node, _⊕_, first, after}
 use Rattle.model.specs.Code.{Node, leaf, head, push}
 use Rattle.theory_forms.specs.Lists.{any-append}
 use Rattle.theory_forms.specs.Codes.{decode-onto}
-use Rattle.theory_meaning.specs.Evaluation.{Set, fails-all, fails, values}
+use Rattle.theory_meaning.specs.Evaluation.{Set, count, fails-all, fails, values}
 
 -- One child more, of a disjunction, and of the root, which fails as a conjunction does.
 module _ (b : Bool) (bs : List Bool) where
@@ -33,6 +33,18 @@ root-none = refl
 pub and-root : (bs : List Bool) → fails-all and bs ≡ fails-all root bs
 unfolding fails-all
 and-root bs = refl
+
+-- One value more among others: how many there are, and how many of them fail.
+pub length-more : (xs ys : List Bool) (b : Bool) → length (xs ++ b ∷ ys) ≡ suc (length (xs ++ ys))
+length-more [] ys b = refl
+length-more (x ∷ xs) ys b = ap suc (length-more xs ys b)
+
+pub count-more : (xs ys : List Bool) (b : Bool) → count (xs ++ b ∷ ys) ≡ pick b (suc (count (xs ++ ys))) (count (xs ++ ys))
+unfolding count pick
+count-more [] ys b = refl
+count-more (true ∷ xs) ys true = ap suc (count-more xs ys true)
+count-more (true ∷ xs) ys false = ap suc (count-more xs ys false)
+count-more (false ∷ xs) ys b = count-more xs ys b
 
 -- The children of the root in two parts.
 pub root-append : (xs ys : List Bool) → fails-all root (xs ++ ys) ≡ (fails-all root xs || fails-all root ys)

@@ -7,11 +7,11 @@ use native.Mathlib.Omega.{arith}
 use borrow.Author.Tests.{eqb-true, eq-eqb}
 use lib.Dec.{eqb}
 use Rattle.model.specs.Literal.{Literal, pos, neg, option, same}
-use Rattle.model.specs.Forest.{Conn, and, or, root}
+use Rattle.model.specs.Forest.{Conn, and, or, root, at-least}
 use Rattle.model.specs.Code.{leaf, head, kind, value, conn-kind, number-of, node-of}
 use Rattle.theory_forms.specs.Logic.{true-false, or-split, fails-if, same-test}
 use Rattle.theory_forms.specs.Literals.{same-is, is-same}
-use Rattle.theory_forms.specs.Numbers.{amount, fits, kind-number, value-number, head-kind, node-number}
+use Rattle.theory_forms.specs.Numbers.{fits, kind-number, value-number, head-kind, node-number}
 use Rattle.theory_forms.specs.Scan.{is-literal}
 
 -- A literal is of kind 1 or 2.
@@ -29,7 +29,7 @@ place-at x = 2 * value x + kind x - 1
 
 -- What the number of a node that fits says of its kind and value.
 pub leaf-literal : (x : Literal) → fits (leaf x) ≡ true → is-literal (number-of (leaf x)) ≡ true
-unfolding is-literal number-of fits amount option
+unfolding is-literal number-of fits option
 leaf-literal (pos v) h = rw (kind-number 1 v h)
 leaf-literal (neg v) h = rw (kind-number 2 v h)
 
@@ -38,9 +38,10 @@ unfolding is-literal conn-kind
 head-inner and n h = rw (head-kind and n h)
 head-inner or n h = rw (head-kind or n h)
 head-inner root n h = rw (head-kind root n h)
+head-inner (at-least a) n h = rw (head-kind (at-least a) n h)
 
 pub leaf-value : (x : Literal) → fits (leaf x) ≡ true → value (number-of (leaf x)) ≡ option x
-unfolding number-of fits amount option
+unfolding number-of fits option
 leaf-value (pos v) h = value-number 1 v h
 leaf-value (neg v) h = value-number 2 v h
 

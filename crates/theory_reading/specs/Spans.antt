@@ -18,7 +18,7 @@ use Rattle.theory_forms.specs.Logic.{pick-true, pick-false, and-split, pick-kee
 use Rattle.theory_forms.specs.Lists.{all-append}
 use Rattle.theory_forms.specs.Forests.{first-after, size-first}
 use Rattle.theory_forms.specs.Codes.{encode-⊕}
-use Rattle.theory_forms.specs.Numbers.{amount, fits, kind-number, head-children}
+use Rattle.theory_forms.specs.Numbers.{fits, kind-number, children-small, head-children}
 use Rattle.theory_forms.specs.Scan.{is-literal}
 use Rattle.theory_reading.specs.Leaves.{head-inner}
 
@@ -53,8 +53,8 @@ module _ (x : ℕ) where
   arity-inner h = pick-false _ 0 (children x) h
 
   pub arity-small : arity x < kind-factor
-  unfolding arity children value
-  arity-small = pick-keeps (λ k. k < kind-factor) (is-literal x) (omega arith) (omega arith)
+  unfolding arity
+  arity-small = pick-keeps (λ k. k < kind-factor) (is-literal x) (omega arith) (children-small x)
 
 -- A zero, which is no node, announces none.
 pub arity-none : arity 0 ≡ 0
@@ -99,7 +99,7 @@ span-step (suc p) i s h l =
 
 -- The number of a node announces the node's children.
 pub arity-leaf : (l : Literal) → fits (leaf l) ≡ true → arity (number-of (leaf l)) ≡ 0
-unfolding arity number-of is-literal pick fits amount option
+unfolding arity number-of is-literal pick fits option
 arity-leaf (pos v) h = rw kind-number
 arity-leaf (neg v) h = rw kind-number
 

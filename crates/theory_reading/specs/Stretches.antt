@@ -11,7 +11,7 @@ use lib.Seq.{drop-drop, drop-append-le}
 use Rattle.model.specs.Base.{pick, all}
 use Rattle.model.specs.Limits.{sheet-room}
 use Rattle.model.specs.Literal.{pos, neg}
-use Rattle.model.specs.Forest.{and, or, root, Forest}
+use Rattle.model.specs.Forest.{and, or, root, at-least, Forest}
 use Rattle.model.specs.Code.{Node, leaf, head, encode, decode, literals, weight, number, conn-kind, number-of, node-of}
 use Rattle.model.specs.Book.{characters}
 use Rattle.model.specs.Sheet.{used-in, numbers-in, nodes-in, rest-in}
@@ -49,6 +49,7 @@ number-positive (leaf (neg v)) e = omega arith
 number-positive (head and k) e = omega arith
 number-positive (head or k) e = omega arith
 number-positive (head root k) e = omega arith
+number-positive (head (at-least a) k) e = omega arith
 
 pub live-zeros : (z : ℕ) → live (replicate z 0) ≡ []
 unfolding characters pick

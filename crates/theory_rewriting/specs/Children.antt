@@ -14,14 +14,14 @@ use lib.Seq.{take-at, drop-at, getD-at, getD-drop, drop-drop}
 use Rattle.model.specs.Base.{all, maybe, is-some, then}
 use Rattle.model.specs.Limits.{kind-factor, sheet-room}
 use Rattle.model.specs.Literal.{Literal, pos, neg, option}
-use Rattle.model.specs.Forest.{Conn, and, or, root, same-conn, Forest, nil, lit, node, _⊕_, size, first, after, kids, literal-at, conjunction-at, constant-at}
+use Rattle.model.specs.Forest.{Conn, and, or, root, at-least, same-conn, Forest, nil, lit, node, _⊕_, size, first, after, kids, literal-at, conjunction-at, constant-at}
 use Rattle.model.specs.Code.{Node, leaf, head, encode, kind, children, number, conn-kind, conn-value, number-of}
 use Rattle.model.specs.Rules.{change, rewrite}
 use Rattle.theory_forms.specs.Logic.{is-some-of, is-some-then, and-split, and-join, same-test}
-use Rattle.theory_forms.specs.Forests.{⊕-nil, first-⊕, conn-of-kind, same-conn-is, same-conn-self, ⊕-assoc, node-⊕, first-after, size-first, size-after, size-⊕, literal-here, conjunction-here}
+use Rattle.theory_forms.specs.Forests.{⊕-nil, first-⊕, grouping, conn-of-kind, same-conn-is, same-conn-self, ⊕-assoc, node-⊕, first-after, size-first, size-after, size-⊕, literal-here, conjunction-here}
 use Rattle.theory_forms.specs.Codes.{encode-⊕, size-length}
 use Rattle.theory_rewriting.specs.Bounds.{child-needed}
-use Rattle.theory_forms.specs.Numbers.{fits, amount, kind-number, head-number, head-few, head-kind}
+use Rattle.theory_forms.specs.Numbers.{fits, amount, fits-amount, kind-number, group-value, head-number, head-few, head-kind}
 use Rattle.theory_forms.specs.Scan.{is-literal}
 use Rattle.theory_reading.specs.Spans.{span, child-at}
 use Rattle.theory_reading.specs.Flat.{spell, spell-⊕, spell-node, Fits, fits-⊕, fits-lit, fits-tree}
@@ -85,33 +85,38 @@ module _ (z : ℕ) (f : Forest) where
   unfolding all
   fit-first x ns h = and-split (fits x) (all fits ns) h .0
 
-  first-constant : (d : Conn) (g : Forest) → 1 ≤ size g → Fits (g ⊕ f) →
+  first-constant : (d : Conn) → grouping d ≡ true → (g : Forest) → 1 ≤ size g → Fits (g ⊕ f) →
       eqb (getD (spell (g ⊕ f) z) 0 0) (number (conn-kind d) 0) ≡ constant-at d g
-  unfolding constant-at spell encode _⊕_ size number-of number fits amount option conn-value
-  first-constant d nil n h = absurd (omega arith)
-  first-constant d (lit (pos v) g) n h =
+  unfolding constant-at spell encode _⊕_ size number-of number fits amount option
+  first-constant d o nil n h = absurd (omega arith)
+  first-constant d o (lit (pos v) g) n h =
       let small = ltb-true v kind-factor (fit-first _ _ h) in
       ne-eqb (number 1 v) (number (conn-kind d) 0) (λ e. omega (arith, conn-kind-bounds d))
-  first-constant d (lit (neg v) g) n h =
+  first-constant d o (lit (neg v) g) n h =
       let small = ltb-true v kind-factor (fit-first _ _ h) in
       ne-eqb (number 2 v) (number (conn-kind d) 0) (λ e. omega (arith, conn-kind-bounds d))
-  first-constant d (node c k g) n h =
-      let small = head-few c (size k) (fit-first _ _ h) in
-      same-test (eqb (number (conn-kind c) (size k)) (number (conn-kind d) 0)) (same-conn d c && eqb (size k) 0)
-      (λ e. let q = eqb-true (number (conn-kind c) (size k)) (number (conn-kind d) 0) e in
-      and-join (sym (ap (same-conn d) (conn-of-kind d c (omega arith))) ∙ same-conn-self d) (eq-eqb (size k) 0 (omega arith)))
+  first-constant d o (node c k g) n h =
+      let v = conn-value c (size k) in
+      let small = ltb-true v kind-factor (fits-amount (head c (size k)) (fit-first _ _ h)) in
+      same-test (eqb (number (conn-kind c) v) (number (conn-kind d) 0)) (same-conn d c && eqb (size k) 0)
+      (λ e. let q = eqb-true (number (conn-kind c) v) (number (conn-kind d) 0) e in
+      let same : c ≡ d = conn-of-kind c d o (omega arith) in
+      let none : size k ≡ 0 = sym (group-value d (size k) o) ∙ ap (λ b. conn-value b (size k)) (sym same) ∙ omega arith in
+      rw same (and-join (same-conn-self d) (eq-eqb (size k) 0 none)))
       (λ e. let t = and-split (same-conn d c) (eqb (size k) 0) e in
-      eq-eqb _ _ (ap₂ (λ b m. number (conn-kind b) m) (sym (same-conn-is d c (t .0))) (eqb-true (size k) 0 (t .1))))
+      let there = ap₂ (λ b m. number (conn-kind b) (conn-value b m)) (sym (same-conn-is d c (t .0))) (eqb-true (size k) 0 (t .1)) in
+      eq-eqb _ _ (there ∙ ap (number (conn-kind d)) (group-value d 0 o)))
 
   first-kind : (g : Forest) → 1 ≤ size g → Fits (g ⊕ f) → let x = getD (spell (g ⊕ f) z) 0 0 in
       (is-literal x ≡ is-some (literal-at g)) × (eqb (kind x) 3 ≡ is-some (conjunction-at g))
-  unfolding literal-at conjunction-at is-some is-literal conn-kind spell encode _⊕_ size number-of fits amount option
+  unfolding literal-at conjunction-at is-some is-literal conn-kind spell encode _⊕_ size number-of fits option
   first-kind nil n h = absurd (omega arith)
   first-kind (lit (pos v) g) n h = rw (kind-number 1 v (fit-first _ _ h)) (refl, refl)
   first-kind (lit (neg v) g) n h = rw (kind-number 2 v (fit-first _ _ h)) (refl, refl)
   first-kind (node and k g) n h = rw (head-kind and (size k) (fit-first _ _ h)) (refl, refl)
   first-kind (node or k g) n h = rw (head-kind or (size k) (fit-first _ _ h)) (refl, refl)
   first-kind (node root k g) n h = rw (head-kind root (size k) (fit-first _ _ h)) (refl, refl)
+  first-kind (node (at-least a) k g) n h = rw (head-kind (at-least a) (size k) (fit-first _ _ h)) (refl, refl)
 
 -- A list that spells a group, trees after it, and zeros.
 pub record Group (l : List ℕ) (c : Conn) (k f : Forest) (z : ℕ) : Type 0 where
@@ -131,16 +136,21 @@ abbrev pub opening : Conn → Forest → ℕ → List ℕ
 opening c k i = number-of (head c (size k)) ∷ code (first i k)
 
 module _ {l : List ℕ} {c : Conn} {k f : Forest} {z : ℕ} (g : Group l c k f z) where
-  -- The head: fewer than 4,096 children.
-  pub group-head : getD l 0 0 ≡ number (conn-kind c) (size k)
-  group-head = ap (λ t. getD t 0 0) (g .spelled ∙ spell-node c k f z) ∙ head-number c (size k)
+  -- The head, as a number; that of a connective of document 01; fewer than 4,096 children.
+  pub group-first : getD l 0 0 ≡ number-of (head c (size k))
+  group-first = ap (λ t. getD t 0 0) (g .spelled ∙ spell-node c k f z)
+
+  pub group-head : grouping c ≡ true → getD l 0 0 ≡ number (conn-kind c) (size k)
+  group-head o = group-first ∙ head-number c (size k) o
 
   pub group-few : size k < kind-factor
   group-few = head-few c (size k) (fits-tree c k f (g .fitting) .0)
 
-  pub group-bounds : (12288 ≤ getD l 0 0) × (getD l 0 0 < 24576)
-  unfolding number
-  group-bounds = omega (arith, group-head, conn-kind-bounds c, group-few)
+  pub group-bounds : (12288 ≤ getD l 0 0) × (getD l 0 0 < 28672)
+  unfolding number number-of amount
+  group-bounds =
+      let small = ltb-true (conn-value c (size k)) kind-factor (fits-amount (head c (size k)) (fits-tree c k f (g .fitting) .0)) in
+      omega (arith, group-first, conn-kind-bounds c)
 
   pub group-children : children (getD l 0 0) ≡ size k
   group-children = ap (λ t. children (getD t 0 0)) (g .spelled) ∙ first-node c k f z (g .fitting) .1
@@ -191,8 +201,8 @@ module _ {l : List ℕ} {c : Conn} {k f : Forest} {z : ℕ} (g : Group l c k f z
     child-number : getD l (child-at i l) 0 ≡ getD (spell (after i k ⊕ f) z) 0 0
     child-number = sym (first-left (child-at i l) l) ∙ ap (λ t. getD t 0 0) (child-stands i (omega arith))
 
-    pub child-constant : (d : Conn) → eqb (getD l (child-at i l) 0) (number (conn-kind d) 0) ≡ constant-at d (after i k)
-    child-constant d = rw child-number (first-constant z f d (after i k) some-left (child-fits i (omega arith) .1))
+    pub child-constant : (d : Conn) → grouping d ≡ true → eqb (getD l (child-at i l) 0) (number (conn-kind d) 0) ≡ constant-at d (after i k)
+    child-constant d o = rw child-number (first-constant z f d o (after i k) some-left (child-fits i (omega arith) .1))
 
     pub child-literal : is-literal (getD l (child-at i l) 0) ≡ is-some (literal-at (after i k))
     child-literal = rw child-number (first-kind z f (after i k) some-left (child-fits i (omega arith) .1) .0)
@@ -227,11 +237,10 @@ module _ {l : List ℕ} {c : Conn} {k f : Forest} {z : ℕ} (g : Group l c k f z
           fitting = rw there at (child-fits i h .1);
         }
 
-    -- The number of its head goes, and its children take its place.
-    pub child-opened : (v : ℕ) → v + 1 ≡ getD l 0 0 + size m → let a = child-at i l in
-        take a (set l 0 v) ++ (drop (a + 1) (set l 0 v) ++ replicate 1 0) ≡ spell (node c (first i k ⊕ m ⊕ q) f) (z + 1)
-    unfolding size number
-    child-opened v n =
+    -- The number of its head goes, and its children take its place, under a head that is written anew.
+    pub child-opened-under : (b : Conn) (v : ℕ) → v ≡ number-of (head b (size (first i k ⊕ m ⊕ q))) → let a = child-at i l in
+        take a (set l 0 v) ++ (drop (a + 1) (set l 0 v) ++ replicate 1 0) ≡ spell (node b (first i k ⊕ m ⊕ q) f) (z + 1)
+    child-opened-under b v new =
         let p = first i k in
         let h : i ≤ size k = omega (arith, child-within i k e) in
         let y = number-of (head d (size m)) in
@@ -239,11 +248,21 @@ module _ {l : List ℕ} {c : Conn} {k f : Forest} {z : ℕ} (g : Group l c k f z
         let split : set l 0 v ≡ (v ∷ code p) ++ ((y ∷ []) ++ inner) =
         ap (λ t. set t 0 v) (child-split i h ∙ ap (λ t. opening c k i ++ t) (sym (child-stands i h) ∙ child-group .spelled ∙ spell-node d m (q ⊕ f) z)) in
         let left : inner ++ replicate 1 0 ≡ spell ((m ⊕ q) ⊕ f) (z + 1) = spell-zeros (m ⊕ (q ⊕ f)) z 1 ∙ ap (λ t. spell t (z + 1)) (sym (⊕-assoc m q f)) in
-        let new : v ≡ number-of (head c (size (p ⊕ m ⊕ q))) =
-        omega (arith, group-head, head-number c (size (p ⊕ m ⊕ q)), size-after i k, ap size e, size-⊕ p (m ⊕ q), size-⊕ m q, size-first i k h) in
         removed-at (v ∷ code p) (y ∷ []) inner (set l 0 v) (child-at i l) 1 split (child-place i h) refl
         ∙ ap₂ (λ x t. x ∷ (code p ++ t)) new left
-        ∙ sym (spell-parts c p (m ⊕ q) f (z + 1))
+        ∙ sym (spell-parts b p (m ⊕ q) f (z + 1))
+
+    pub children-opened : size (first i k ⊕ m ⊕ q) + 1 ≡ size k + size m
+    unfolding size
+    children-opened =
+        let h : i ≤ size k = omega (arith, child-within i k e) in
+        omega (arith, size-after i k, ap size e, size-⊕ (first i k) (m ⊕ q), size-⊕ m q, size-first i k h)
+
+    pub child-opened : (v : ℕ) → grouping c ≡ true → v + 1 ≡ getD l 0 0 + size m → let a = child-at i l in
+        take a (set l 0 v) ++ (drop (a + 1) (set l 0 v) ++ replicate 1 0) ≡ spell (node c (first i k ⊕ m ⊕ q) f) (z + 1)
+    unfolding number
+    child-opened v o n =
+        child-opened-under c v (omega (arith, group-head o, head-number c (size (first i k ⊕ m ⊕ q)) o, children-opened))
 
 -- What is known in numbers of the group that a stretch begins with, and of its child i, which begins at a place.
 pub record Child (l : List ℕ) (k : Forest) (i at : ℕ) : Type 0 where
@@ -254,7 +273,7 @@ pub record Child (l : List ℕ) (k : Forest) (i at : ℕ) : Type 0 where
   pub end : child-at (size k) l ≤ length l
   pub short : length l ≤ sheet-room
   pub low : 12288 ≤ getD l 0 0
-  pub high : getD l 0 0 < 24576
+  pub high : getD l 0 0 < 28672
   pub few : size k < kind-factor
   pub counted : children (getD l 0 0) ≡ size k
 
@@ -280,10 +299,10 @@ module _ {r : ℕ} {l : List ℕ} (s : Stretch l) (h : Headed r l) {i : ℕ} whe
   pub asked-child : {at : ℕ} → (i < children (getD l 0 0)) × (at ≡ child-at i l) → Child l (h .children) i at
   asked-child p = child-known (omega (arith, group-children (headed-group s h), p .0)) (p .1)
 
-  pub applied-child : (j : ℕ) → is-some (rewrite r i j (forest-in l)) ≡ true → Child l (h .children) i (child-at i l)
+  pub applied-child : (j : ℕ) → r ≤ 15 → is-some (rewrite r i j (forest-in l)) ≡ true → Child l (h .children) i (child-at i l)
   unfolding kids
-  applied-child j t =
-      let needed = child-needed r i j (forest-in l) (is-some-of (rewrite r i j (forest-in l)) t .1) in
+  applied-child j low t =
+      let needed = child-needed r i j (forest-in l) low (is-some-of (rewrite r i j (forest-in l)) t .1) in
       child-known (omega (arith, ap (λ f. size (kids f)) (h .forest))) refl
 
   pub counted-child : {at : ℕ} → (i < children (getD l 0 0)) × (at ≡ child-at i l) →

@@ -11,14 +11,15 @@ use lib.Dec.{eqb, leb}
 use lib.ListN.{length, getD, take, drop}
 use Rattle.model.specs.Base.{all, maybe, then, only-if}
 use Rattle.model.specs.Literal.{Literal, pos, neg, option}
-use Rattle.model.specs.Forest.{Conn, and, or, root, Forest, nil, lit, node, _⊕_, size, first, after}
+use Rattle.model.specs.Forest.{Conn, and, or, root, at-least, Forest, nil, lit, node, _⊕_, size, first, after}
 use Rattle.model.specs.Code.{kind, children, conn-kind, encode, number-of}
 use Rattle.model.specs.Rules.{Row, table, row-of, turn, change, rewrite}
 use Rattle.theory_forms.specs.Logic.{fails-if}
-use Rattle.theory_forms.specs.Forests.{size-⊕}
+use Rattle.theory_forms.specs.Forests.{size-⊕, grouping}
 use Rattle.theory_forms.specs.Lists.{all-at}
-use Rattle.theory_rewriting.specs.Inversion.{of-table}
-use Rattle.theory_forms.specs.Numbers.{fits, amount, kind-number, head-kind, head-children}
+use Rattle.theory_rewriting.specs.Inversion.{of-table, least-of}
+use Rattle.theory_rewriting.specs.Bounds.{row-low, row-six}
+use Rattle.theory_forms.specs.Numbers.{fits, kind-number, head-kind, head-children}
 use Rattle.theory_reading.specs.Spans.{span}
 use Rattle.theory_reading.specs.Flat.{spell, spell-node, Fits, fits-lit, fits-tree, start-at, drop-trees, take-trees}
 use Rattle.theory_reading.specs.Stretches.{Stretch, forest-in, spell-to}
@@ -47,7 +48,7 @@ first-nil zero = refl
 first-nil (suc z) = refl
 
 first-literal : (x : Literal) (f : Forest) (z : ℕ) → Fits (lit x f) → kind (getD (spell (lit x f) z) 0 0) ≤ 2
-unfolding spell encode number-of fits amount option
+unfolding spell encode number-of fits option
 first-literal (pos v) f z h = omega (arith, kind-number 1 v (fits-lit (pos v) f h .0))
 first-literal (neg v) f z h = omega (arith, kind-number 2 v (fits-lit (neg v) f h .0))
 
@@ -64,11 +65,12 @@ kind-zero : kind 0 ≡ 0
 unfolding kind
 kind-zero = refl
 
-pub conn-kind-bounds : (c : Conn) → (3 ≤ conn-kind c) × (conn-kind c ≤ 5)
+pub conn-kind-bounds : (c : Conn) → (3 ≤ conn-kind c) × (conn-kind c ≤ 6)
 unfolding conn-kind
 conn-kind-bounds and = omega arith
 conn-kind-bounds or = omega arith
 conn-kind-bounds root = omega arith
+conn-kind-bounds (at-least a) = omega arith
 
 -- The table's kinds are those of groups.
 kinds-high : all (λ w. leb 3 (w .kind)) table ≡ true
@@ -137,6 +139,14 @@ head-fails r w e l s bad i j = go (forest-in l) (s .fitting) (s .spelled)
         let known = ap (λ xs. kind (getD xs 0 0)) b ∙ t .0 in
         let counted = ap (λ xs. children (getD xs 0 0)) b ∙ t .1 in
         rw (e, turned c m (⊎-elim (λ x. inl (λ q. x (known ∙ q))) (λ x. inr (omega arith)) bad))
+
+-- The rules up to 14 are for the connectives of document 01, and 15 to 17 for kind 6.
+pub headed-groups : {r : ℕ} {l : List ℕ} (h : Headed r l) → r ≤ 14 → grouping (h .conn) ≡ true
+unfolding grouping
+headed-groups {r} h low = ap (λ k. leb k 5) (sym (h .its-kind)) ∙ row-low r (h .its-row) low
+
+pub headed-least : {r : ℕ} {l : List ℕ} (h : Headed r l) → 15 ≤ r → (a : ℕ) × (h .conn ≡ at-least a)
+headed-least {r} h high = least-of (h .conn) (ap (λ k. eqb k 6) (sym (h .its-kind)) ∙ row-six r (h .its-row) high)
 
 -- Where the head is right, the rule does what its family does to the children.
 pub headed-rewrite :

@@ -7,9 +7,9 @@ use Prim.Native.Nat.{ℕ, suc, _+_, _*_, _≤_, _<_}
 use native.Mathlib.Nat.{zero-add, suc-add, mul-le-mul-left, mul-le-mul-right}
 use native.Mathlib.Omega.{arith}
 use lib.ListN.{length}
-use Rattle.model.specs.Code.{Node, leaf, head, literals, weight}
+use Rattle.model.specs.Code.{Node, leaf, head, literals, leasts, weight}
 use Rattle.model.specs.Rules.{step}
-use Rattle.model.specs.Strategy.{cube}
+use Rattle.model.specs.Strategy.{cube, most-steps}
 use Rattle.theory_forms.specs.Shape.{Shaped, shaped-length}
 use Rattle.theory_rewriting.specs.ShapeKept.{step-shaped}
 use Rattle.theory_rewriting.specs.Measure.{bulk, pairs, Sooner, step-falls, step-weight}
@@ -61,7 +61,7 @@ potential-falls :
 unfolding potential
 potential-falls x {ns} {ms} h (inl less) =
     (omega arith, digits (bulk 2 ms) (bulk 2 ns) (x * x) (pairs ms) (pairs ns) less (pairs-small x ms (omega arith) (omega arith)))
-potential-falls x {ns} {ms} h (inr s) = (omega arith, rw (s .same-length, s .same-literals) (omega arith))
+potential-falls x {ns} {ms} h (inr s) = (omega arith, rw (s .same-length, s .same-literals, s .same-leasts) (omega arith))
 
 steps-fall : (x : ℕ) {n k : ℕ} {ns ms : List Node} → bulk 2 ns ≤ x → Shaped n ns → Steps k ns ms → k + potential x ms ≤ potential x ns
 steps-fall x h s done = omega arith
@@ -69,12 +69,15 @@ steps-fall x h s (more r p i j e t) =
     let f = potential-falls x h (step-falls r p i j s e) in
     omega (arith, steps-fall x (omega arith) (step-shaped r p i j s e) t)
 
--- From a sheet there are at most as many steps as the cube of its nodes plus twice its literals, whatever their rules and places.
-pub steps-bound : {n k : ℕ} {ns ms : List Node} → Shaped n ns → Steps k ns ms → k ≤ cube (bulk 2 ns)
+-- From a sheet there are at most as many steps as the cube of its nodes, those of kind 6 counted twice, plus twice its literals,
+-- whatever their rules and places.
+pub steps-bound : {n k : ℕ} {ns ms : List Node} → Shaped n ns → Steps k ns ms → k ≤ most-steps ns
 unfolding potential
 steps-bound {k = k} {ns = ns} {ms = ms} s t =
-    let few = pairs-small (bulk 2 ns) ns (omega (arith, shaped-length s)) (omega arith) in
-    below (bulk 2 ns) (bulk 2 ms) (pairs ms) (pairs ns) (omega (arith, shaped-length (steps-shaped s t))) few (steps-fall (bulk 2 ns) (omega arith) s t)
+    let twice : bulk 2 ns ≡ length ns + leasts ns + 2 * literals ns = omega arith in
+    rw twice at
+    (let few = pairs-small (bulk 2 ns) ns (omega (arith, shaped-length s)) (omega arith) in
+    below (bulk 2 ns) (bulk 2 ms) (pairs ms) (pairs ns) (omega (arith, shaped-length (steps-shaped s t))) few (steps-fall (bulk 2 ns) (omega arith) s t))
   where
     below : (x b p q : ℕ) → 1 ≤ b → q < x * x → k + (b * (x * x) + p) ≤ x * (x * x) + q → k ≤ cube x
     below x b p q one few h = omega (arith, mul-le-mul-right (x * x) one)

@@ -12,19 +12,23 @@ use lib.ListN.{length, getElem?}
 use Rattle.model.specs.Base.{pick, is-some}
 use Rattle.model.specs.Forest.{Forest, _⊕_}
 use Rattle.model.specs.Propagation.{count-from}
-use Rattle.model.specs.Rules.{Family, absorbs, omits, unwraps, spreads, lifts, merges, factors, Row, table, row-of, change, rewrite}
+use Rattle.model.specs.Rules.{Family, absorbs, omits, unwraps, spreads, lifts, merges, factors, drops, decides, renames}
+use Rattle.model.specs.Rules.{Row, table, row-of, change, rewrite}
 use Rattle.theory_forms.specs.Logic.{none-some, some-inj, is-some-of}
 use Rattle.theory_reading.specs.Flat.{spell}
 use Rattle.theory_reading.specs.Stretches.{forest-in}
 use Rattle.theory_rewriting.specs.Heads.{Headed, rewritten-to}
 use Rattle.theory_rewriting.specs.Children.{headed-applies, headed-turn}
 
--- The family of a rule.
+-- The family of a rule; of the last ones first.
+unfoldable pub last-at : ℕ → Family
+last-at r = pick (leb r 14) factors (pick (leb r 15) drops (pick (leb r 16) decides renames))
+
 unfoldable pub family-at : ℕ → Family
 family-at r =
     pick (leb r 3)
     absorbs
-    (pick (leb r 6) omits (pick (leb r 8) unwraps (pick (leb r 10) spreads (pick (leb r 12) lifts (pick (leb r 13) merges factors)))))
+    (pick (leb r 6) omits (pick (leb r 8) unwraps (pick (leb r 10) spreads (pick (leb r 12) lifts (pick (leb r 13) merges (last-at r))))))
 
 -- The family of each range of rules.
 pub family-1 : (r : ℕ) → r ≤ 3 → family-at r ≡ absorbs
@@ -48,6 +52,18 @@ unfolding family-at pick
 family-11 r a b =
     rw (lt-leb r 3 (omega arith), lt-leb r 6 (omega arith), lt-leb r 8 (omega arith), lt-leb r 10 (omega arith), le-leb r 12 b)
 
+pub family-15 : family-at 15 ≡ drops
+unfolding family-at last-at pick
+family-15 = refl
+
+pub family-16 : family-at 16 ≡ decides
+unfolding family-at last-at pick
+family-16 = refl
+
+pub family-17 : family-at 17 ≡ renames
+unfolding family-at last-at pick
+family-17 = refl
+
 in-order : (ws : List Row) (n : ℕ) → map (λ w. w .family) ws ≡ map family-at (count-from n (length ws)) → (r : ℕ) {w : Row} →
     getElem? ws r ≡ some w → w .family ≡ family-at (n + r)
 unfolding count-from
@@ -60,7 +76,7 @@ in-order (v ∷ ws) n h (suc r) e =
     in-order ws (suc n) rest r e ∙ ap family-at (omega arith)
 
 pub family-of : (r : ℕ) {w : Row} → row-of r ≡ some w → w .family ≡ family-at r
-unfolding row-of table family-at pick count-from
+unfolding row-of table family-at last-at pick count-from
 family-of zero e = none-some e
 family-of (suc r) e = let next : 1 + r ≡ suc r = omega arith in rw next at (in-order table 1 refl r e)
 

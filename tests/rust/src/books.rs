@@ -1,6 +1,7 @@
 //! Books for the tests: accepted ones of every size up to the limits, and damaged
 //! ones whose refusal is known from the way they were made.
 
+use crate::at_leasts::{self, AT_LEAST};
 use crate::random::Random;
 
 pub const MAX_OPTIONS: usize = 512;
@@ -655,6 +656,9 @@ fn damage_body(random: &mut Random, book: &mut Book) -> bool {
     if rules == 0 {
         return false;
     }
+    if random.one_in(2) && at_leasts::damage(random, &mut book.nodes) {
+        return true;
+    }
     let which = some_place(random, rules);
     let [first, count] = book.pairs[which].map(usize::from);
     let place = if random.one_in(3) {
@@ -668,7 +672,7 @@ fn damage_body(random: &mut Random, book: &mut Book) -> bool {
     );
     match random.below(7) {
         // No such kind, or the root.
-        0 => book.nodes[place] = node(random.pick(&[0, 6, 7, 8, 11, 12, 15]), value),
+        0 => book.nodes[place] = node(random.pick(&[0, 7, 8, 11, 12, 15]), value),
         1 => book.nodes[place] = node(5, value),
         // No such option.
         2 | 3 => {
@@ -689,7 +693,9 @@ fn damage_body(random: &mut Random, book: &mut Book) -> bool {
             };
             book.nodes[place] = node(kind, other);
         }
-        4 => book.nodes[place] = node(random.pick(&[ALL_OF, ANY_OF]), random.within(1, 4095)),
+        4 if is_mark(book.nodes[place]) => {
+            book.nodes[place] = node(random.pick(&[ALL_OF, ANY_OF]), random.within(1, 4095));
+        }
         // The end of one body as the start of the next, or the other way round.
         5 if rules > 1 => {
             let which = which.min(rules - 2);
@@ -790,12 +796,15 @@ pub fn nearly(random: &mut Random) -> Vec<u8> {
             .any(|pair| usize::from(pair[0]) == i && pair[1] > 1);
         let kind = match random.below(30) {
             0 => random.below(16) as u16,
-            _ if starts => random.pick(&[ALL_OF, ANY_OF]),
+            _ if starts => random.pick(&[ALL_OF, ANY_OF, AT_LEAST]),
+            1 => AT_LEAST,
             _ => random.pick(&[OPTION, BARRED, ALL_OF, ANY_OF]),
         };
         let value = match kind {
             OPTION | BARRED if options == 0 || random.one_in(9) => options,
             OPTION | BARRED => random.below(options),
+            AT_LEAST if starts => 64 * random.within(1, 3) + random.below(4),
+            AT_LEAST => 64 * random.pick(&[0, 0, 0, 1, 2]) + random.pick(&[0, 1, 2, 63]),
             _ if starts => random.within(1, 3),
             _ => random.pick(&[0, 0, 0, 1, 2]),
         };

@@ -1,4 +1,5 @@
-//! The book check and the code lookup, written from document 01 alone.
+//! The book check and the code lookup, written from document 01 and document 02's node
+//! kind 6 alone.
 //!
 //! Every step follows the paper's wording, in the order in which the refusals are
 //! tested.  Nothing is shared with the library under test.
@@ -141,6 +142,24 @@ fn after_tree(nodes: &[u16], options: usize) -> Option<&[u16]> {
             }
             Some(rest)
         }
+        6 => after_members(rest, value / 64, options),
         _ => None,
     }
+}
+
+/// The nodes after so many members of a node of kind 6: "true, false, or marks, the marks of
+/// distinct options".  None where the nodes do not begin with so many.
+fn after_members(nodes: &[u16], count: usize, options: usize) -> Option<&[u16]> {
+    let (members, rest) = nodes.split_at_checked(count)?;
+    let mut named = HashSet::new();
+    let mut is_member = |&node: &u16| {
+        let option = usize::from(node % 4096);
+        is_constant(node) || is_mark(node) && option < options && named.insert(option)
+    };
+    members.iter().all(&mut is_member).then_some(rest)
+}
+
+/// True, an empty all-of, or false, an empty any-of.
+fn is_constant(node: u16) -> bool {
+    node == 3 * 4096 || node == 4 * 4096
 }

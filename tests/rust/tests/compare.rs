@@ -6,9 +6,11 @@
 //! `-- --nocapture` shows what was compared.  The environment variable `ND_SEED`
 //! takes another seed; a run with the same seed makes the same inputs.
 
+use nibdrumlin_tests::at_leasts::{at_least, with_at_leasts, AT_LEAST, MOST};
 use nibdrumlin_tests::books::{self, Book, Fault, Likeness, Shape, Size};
 use nibdrumlin_tests::books::{characters, code, node, size_of_weight};
-use nibdrumlin_tests::books::{ALL_OF, ANY_OF, CHARACTERS, FAULTS, LIKENESSES, OPTION, SHAPES};
+use nibdrumlin_tests::books::{ALL_OF, ANY_OF, BARRED, OPTION};
+use nibdrumlin_tests::books::{CHARACTERS, FAULTS, LIKENESSES, SHAPES};
 use nibdrumlin_tests::books::{MAX_NODES, MAX_OPTIONS, MAX_RULES, MAX_WEIGHT};
 use nibdrumlin_tests::random::Random;
 use nibdrumlin_tests::{ffi, reference};
@@ -280,14 +282,24 @@ fn some_code(random: &mut Random, codes: &[books::Code]) -> Vec<u8> {
     code
 }
 
+/// A small accepted book, with at-leasts or without.
+fn small(random: &mut Random, options: usize, nodes: usize) -> Book {
+    let book = books::small(random, options, nodes);
+    if random.one_in(2) {
+        with_at_leasts(random, book)
+    } else {
+        book
+    }
+}
+
 /// Small accepted books of every kind.
 fn small_books(family: &mut Family) {
     for _ in 0..40_000 {
-        let book = books::small(&mut family.random, 6, 14);
+        let book = small(&mut family.random, 6, 14);
         family.accept(&book);
     }
     for _ in 0..3_000 {
-        let book = books::small(&mut family.random, 40, 200);
+        let book = small(&mut family.random, 40, 200);
         family.accept(&book);
     }
 }
@@ -330,7 +342,7 @@ fn random_bytes(family: &mut Family) {
 /// Small accepted books with one, two or more of the faults; the refusal is known.
 fn known_faults(family: &mut Family) {
     for round in 0..60_000 {
-        let book = books::small(&mut family.random, 5, 12);
+        let book = small(&mut family.random, 5, 12);
         let mut faults = vec![FAULTS[round % FAULTS.len()]];
         while family.random.one_in(2) {
             faults.push(family.random.pick(&FAULTS));
@@ -367,7 +379,7 @@ fn too_heavy(family: &mut Family) {
 /// Each byte and each number of some small books in turn; each length up to one byte more.
 fn each_field(family: &mut Family) {
     for _ in 0..250 {
-        let book = books::small(&mut family.random, 4, 9);
+        let book = small(&mut family.random, 4, 9);
         let bytes = book.bytes();
         for place in 0..bytes.len() {
             let old = bytes[place];
@@ -391,7 +403,8 @@ fn each_field(family: &mut Family) {
         let after_codes = 8 + 13 * book.codes.len();
         for place in (0..8).chain(after_codes..bytes.len()).step_by(2) {
             for new in [
-                512, 513, 4095, 4096, 8191, 12287, 16384, 20479, 20480, 65535,
+                512, 513, 4095, 4096, 8191, 12287, 16384, 20479, 20480, 24576, 24641, 28671, 28672,
+                65535,
             ] {
                 let mut other = bytes.clone();
                 other[place..place + 2].copy_from_slice(&u16::to_le_bytes(new));
@@ -412,7 +425,7 @@ fn each_field(family: &mut Family) {
 /// Several bytes changed, exchanged, moved or left out.
 fn changed_bytes(family: &mut Family) {
     for _ in 0..60_000 {
-        let book = books::small(&mut family.random, 4, 9);
+        let book = small(&mut family.random, 4, 9);
         let mut bytes = book.bytes();
         for _ in 0..family.random.within(1, 3) {
             let random = &mut family.random;
@@ -464,6 +477,7 @@ fn every_node(family: &mut Family) {
             let right = match kind {
                 1 | 2 => value < options,
                 3 | 4 => value == 0,
+                AT_LEAST => value < 64, // k of none
                 _ => false,
             };
             let due = Some(if right { 0 } else { 5 });
@@ -489,6 +503,50 @@ fn every_node(family: &mut Family) {
                 let due = if option < options { 0 } else { 5 };
                 family.check(&book.bytes(), Some(due));
             }
+        }
+    }
+}
+
+/// An at-least with so many members that are right: marks of distinct options from 7 on,
+/// and constants between them.
+fn body_of_at_least(random: &mut Random, count: usize, k: usize) -> Vec<u16> {
+    let mut body = vec![at_least(count, k)];
+    body.extend((0..count).map(|i| match random.below(4) {
+        0 => node(random.pick(&[ALL_OF, ANY_OF]), 0),
+        _ => node(random.pick(&[OPTION, BARRED]), 7 + i),
+    }));
+    body
+}
+
+/// At-leasts of every number of members with every k, alone and inside a group; with a
+/// member too many or too few, an option named twice, and each thing that is no member.
+fn at_leasts(family: &mut Family) {
+    let codes = books::codes(&mut family.random, 70, Likeness::Any);
+    let try_body = |family: &mut Family, body: &[u16], due: u64| {
+        let inside = [&[node(ANY_OF, 2), node(BARRED, 0)], body].concat();
+        for body in [body.to_vec(), inside] {
+            family.check(&Book::new(codes.clone(), &[body]).bytes(), Some(due));
+        }
+    };
+    for (count, k) in (0..=MOST).flat_map(|count| (0..=MOST).map(move |k| (count, k))) {
+        let body = body_of_at_least(&mut family.random, count, k);
+        try_body(family, &body, 0);
+        try_body(family, &[&body[..], &[node(ALL_OF, 0)]].concat(), 5);
+        if count > 0 {
+            try_body(family, &body[..count], 5);
+            let none = [(5, 0), (7, k), (AT_LEAST, k), (ALL_OF, 1), (OPTION, 70)];
+            let (kind, value) = family.random.pick(&none);
+            let mut other = body.clone();
+            other[1 + k % count] = node(kind, value);
+            try_body(family, &other, 5);
+        }
+        if count > 1 {
+            let apart = family.random.within(1, count - 1);
+            let mut other = body.clone();
+            for place in [k % count, (k + apart) % count] {
+                other[1 + place] = node(family.random.pick(&[OPTION, BARRED]), 69);
+            }
+            try_body(family, &other, 5);
         }
     }
 }
@@ -739,9 +797,13 @@ fn full_size(family: &mut Family) {
         let book = books::book(&mut family.random, size, likeness, shape);
         assert!(book.weight() == MAX_WEIGHT && book.codes.len() == MAX_OPTIONS);
         family.accept(&book);
+        let mixed = with_at_leasts(&mut family.random, book.clone());
+        family.accept(&mixed);
         let fault = FAULTS[round / 12 % FAULTS.len()];
-        let (bytes, due) = books::damaged(&mut family.random, &book, &[fault]);
-        family.try_out(&bytes, &book.codes, Some(due));
+        for book in [&book, &mixed] {
+            let (bytes, due) = books::damaged(&mut family.random, book, &[fault]);
+            family.try_out(&bytes, &book.codes, Some(due));
+        }
         // One mark too many.
         let mut heavy = book.clone();
         let leaf = heavy
@@ -825,7 +887,7 @@ fn full_size(family: &mut Family) {
 
 type Run = fn(&mut Family);
 
-const FAMILIES: [(&str, Run); 15] = [
+const FAMILIES: [(&str, Run); 16] = [
     ("small books", small_books),
     ("nearly books", nearly_books),
     ("random bytes", random_bytes),
@@ -835,6 +897,7 @@ const FAMILIES: [(&str, Run); 15] = [
     ("changed bytes", changed_bytes),
     ("every head number", every_head_number),
     ("every node", every_node),
+    ("at-leasts", at_leasts),
     ("every code byte", every_code_byte),
     ("lookups", lookups),
     ("character 13", character_13),

@@ -1,6 +1,7 @@
-//! The books that document 01 names, and others whose answer its wording settles,
-//! with the answer written out: asked of the library and of the reference.
+//! The books that document 01 names, and others whose answer its wording or document 02's
+//! settles, with the answer written out: asked of the library and of the reference.
 
+use nibdrumlin_tests::at_leasts::at_least;
 use nibdrumlin_tests::books::{code, node, Book, ALL_OF, ANY_OF, BARRED, OPTION};
 use nibdrumlin_tests::{ffi, reference};
 
@@ -166,6 +167,55 @@ fn most_nodes() {
     check(&Book::new(vec![], &[nest.clone()]).bytes(), 0);
     nest[4094] = node(ALL_OF, 1);
     check(&Book::new(vec![], &[nest]).bytes(), 5);
+}
+
+/// "members x 64 + k, both 0 to 63"; "true, false, or marks, the marks of distinct options".
+#[test]
+fn at_least_k_of_these() {
+    let codes: Vec<_> = [b"P", b"Q", b"R", b"S"].map(|name| code(name)).to_vec();
+    let check_body = |body: &[u16], due| {
+        check(&Book::new(codes.clone(), &[body.to_vec()]).bytes(), due);
+    };
+    let [p, q, r, s] = [0, 1, 2, 3].map(|option| node(OPTION, option));
+    let [not_p, not_q] = [0, 1].map(|option| node(BARRED, option));
+    let [all, any] = [node(ALL_OF, 0), node(ANY_OF, 0)];
+    // Two of four seals; 0 of none; more than there are; constants, as often as one likes.
+    check_body(&[0x6102, p, q, r, s], 0);
+    check_body(&[0x6000], 0);
+    check_body(&[0x603F], 0);
+    check_body(&[at_least(2, 3), p, not_q], 0);
+    check_body(&[at_least(5, 2), all, p, any, all, not_q], 0);
+    check_body(&[node(ALL_OF, 2), at_least(1, 1), p, at_least(1, 0), p], 0);
+    // An option twice, plain or barred; no such option.
+    check_body(&[at_least(2, 1), p, p], 5);
+    check_body(&[at_least(2, 1), p, not_p], 5);
+    check_body(&[at_least(3, 1), not_q, all, q], 5);
+    check_body(&[at_least(1, 1), node(OPTION, 4)], 5);
+    // Groups with children, at-leasts, the root and other kinds are no members.
+    check_body(&[at_least(1, 1), node(ANY_OF, 1), p], 5);
+    check_body(&[at_least(2, 1), p, node(ALL_OF, 1), all], 5);
+    check_body(&[at_least(1, 1), at_least(0, 0)], 5);
+    check_body(&[at_least(1, 1), at_least(1, 1), p], 5);
+    check_body(&[at_least(1, 1), node(5, 0)], 5);
+    check_body(&[at_least(1, 1), node(7, 0)], 5);
+    // Fewer members than announced, and more.
+    check_body(&[at_least(2, 1), p], 5);
+    check_body(&[at_least(1, 1)], 5);
+    check_body(&[at_least(0, 1), p], 5);
+    check_body(&[at_least(1, 1), p, q], 5);
+    // As many as can be.
+    let trues = |count| [vec![at_least(63, 32)], vec![all; count]].concat();
+    check_body(&trues(63), 0);
+    check_body(&trues(62), 5);
+    check_body(&trues(64), 5);
+    // One node of the weight: 1 + 585 x 7 is 4,096.
+    let heavy = |rest: &[Vec<u16>]| {
+        let bodies = [&vec![vec![at_least(3, 2), p, q, r]; 585], rest].concat();
+        Book::new(codes.clone(), &bodies).bytes()
+    };
+    check(&heavy(&[]), 0);
+    check(&heavy(&[vec![at_least(0, 0)]]), 6);
+    check(&heavy(&[vec![at_least(2, 0), p, not_p]]), 5);
 }
 
 #[test]

@@ -5,12 +5,13 @@
 
 use super::flat::{fill_sizes, is_sheet, used, Flat, Sizes, MOST};
 use super::least::Tables;
+use super::rules::LAST;
 use super::steps::{apply, Zone};
 use crate::answers::{Ran, Redex};
 use crate::nodes::{FALSE, TRUE};
 
 /// One more than the last rule: no rule applies.
-const NONE: u8 = 15;
+const NONE: u8 = LAST as u8 + 1;
 
 /// What the search knows. Every bound is at least `rule`, and those before `cursor` are more.
 pub struct Bounds {
@@ -86,12 +87,12 @@ impl Bounds {
         self.raise(used(sheet), &lowered);
     }
 
-    /// The sizes after a step. Rules 9 and 10 change none. A lift turns the sizes with the
+    /// The sizes after a step. Rules 9, 10 and 17 change none. A lift turns the sizes with the
     /// nodes, and the all-of that lost the literal is one less; after any other rule they are
     /// made anew.
     fn resize(&mut self, nodes: &[u16], redex: Redex, zone: Zone) {
         match redex.rule {
-            9 | 10 => (),
+            9 | 10 | 17 => (),
             11 | 12 => {
                 self.sizes[zone.from..zone.new].rotate_right(1);
                 self.sizes[zone.from + 1] -= 1;

@@ -1,6 +1,6 @@
 //! A sheet's nodes as they lie: one tree, a node before its children.
 
-use crate::nodes::{arity, is_literal, kind, value, ALL, ANY, LENGTH, ROOT};
+use crate::nodes::{are_members, arity, is_literal, kind, value, ALL, ANY, LEAST, LENGTH, ROOT};
 
 pub const MOST: usize = 4096;
 
@@ -32,11 +32,21 @@ fn is_tree(nodes: &[u16], options: usize) -> bool {
                 literals += 1;
             }
             ALL | ANY if value <= trees => trees = trees - value + 1,
+            LEAST if arity(node) <= trees && has_members(&nodes[place..]) => {
+                trees = trees - arity(node) + 1;
+            }
             ROOT if place == 0 => return value == trees && nodes.len() + literals <= MOST,
             _ => return false,
         }
     }
     false
+}
+
+/// Whether the nodes begin with an at-least and its members. Each of these is one node, so that
+/// they stand right behind it.
+fn has_members(nodes: &[u16]) -> bool {
+    let members = nodes[1..].iter().copied();
+    are_members(members.take(arity(nodes[0])))
 }
 
 /// Makes the table of sizes, from the last node to the first.

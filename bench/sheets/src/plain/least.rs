@@ -2,7 +2,7 @@
 //! tree there, by small tables for options and literals.
 
 use super::flat::Flat;
-use super::rules::is_headed;
+use super::rules::{applies_by_head, is_by_head, is_headed};
 use crate::nodes::{arity, is_literal, kind, value, BARRED, FALSE, TRUE};
 
 /// Tables that are all 0 between calls.
@@ -31,14 +31,18 @@ impl Tables {
         if !is_headed(flat, rule, place) {
             return None;
         }
+        if is_by_head(rule) {
+            return applies_by_head(flat.nodes[place], rule).then_some((0, 0));
+        }
         match rule {
-            1 | 3 | 5 => constant(flat, place, FALSE),
-            2 | 4 | 6 => constant(flat, place, TRUE),
+            1 | 3 | 5 => constant(flat, place, &[FALSE]),
+            2 | 4 | 6 => constant(flat, place, &[TRUE]),
             7 | 8 => (arity(flat.nodes[place]) == 1).then_some((0, 0)),
             9 | 10 => self.spread(flat, place),
             11 | 12 => lifted(flat, place),
             13 => merged(flat, place),
-            _ => self.factored(flat, place),
+            14 => self.factored(flat, place),
+            _ => constant(flat, place, &[TRUE, FALSE]),
         }
     }
 
@@ -90,11 +94,11 @@ impl Tables {
     }
 }
 
-/// Rules 1 to 6: the first child that is the constant.
-fn constant(flat: Flat, place: usize, constant: u16) -> Option<(usize, usize)> {
+/// Rules 1 to 6 and 15: the first child that is one of the constants.
+fn constant(flat: Flat, place: usize, constants: &[u16]) -> Option<(usize, usize)> {
     let i = flat
         .children(place)
-        .position(|child| flat.nodes[child] == constant)?;
+        .position(|child| constants.contains(&flat.nodes[child]))?;
     Some((i, 0))
 }
 

@@ -1,6 +1,6 @@
-//! The loader: the checks in document 01's order, then the sheet.
+//! The loader: the checks in the order of documents 01 and 02, then the sheet.
 
-use crate::nodes::{is_literal, node, LENGTH, ROOT};
+use crate::nodes::{are_members, arity, is_literal, node, LENGTH, ROOT};
 use std::collections::HashSet;
 
 const CODE: usize = 13;
@@ -118,7 +118,7 @@ fn are_bodies(contents: &[u8], bodies: &[u8], options: usize) -> bool {
 /// One tree: read from its start, a node takes the place of one tree and asks for its children.
 fn is_tree(body: &[u8], options: usize) -> bool {
     let mut due = 1;
-    for bytes in body.chunks_exact(2) {
+    for (place, bytes) in body.chunks_exact(2).enumerate() {
         let node = number(bytes);
         let value = node % 4096;
         if due == 0 {
@@ -127,8 +127,17 @@ fn is_tree(body: &[u8], options: usize) -> bool {
         match node / 4096 {
             1 | 2 if value < options => due -= 1,
             3 | 4 => due = due - 1 + value,
+            6 if has_members(&body[2 * place..]) => due = due - 1 + arity(node as u16),
             _ => return false,
         }
     }
     due == 0
+}
+
+/// Whether the bytes begin with an at-least and its members, each of these one node; those that
+/// are missing are missed by the count of trees.
+fn has_members(body: &[u8]) -> bool {
+    let mut nodes = body.chunks_exact(2).map(|bytes| number(bytes) as u16);
+    let members = nodes.next().map_or(0, arity);
+    are_members(nodes.take(members))
 }

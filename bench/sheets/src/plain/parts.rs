@@ -4,7 +4,7 @@
 //! occurs in it.
 
 use super::flat::{is_sheet, used};
-use crate::nodes::{arity, is_literal, kind, opposite, value, ALL, ANY, BARRED};
+use crate::nodes::{arity, asked, is_literal, kind, opposite, value, ALL, ANY, BARRED, LEAST};
 
 const LITERALS: usize = 1024;
 
@@ -128,20 +128,21 @@ impl Passes {
         Known { first, fails }
     }
 
-    /// A conjunction fails where a child does; a disjunction where all of them do.
+    /// A conjunction fails where a child does; a disjunction where all of them do; an at-least
+    /// where more of them do than it can spare. Where it can spare no more, it needs all others.
     fn group(&mut self, node: u16) -> Known {
-        let from = self.known.len() - value(node);
+        let from = self.known.len() - arity(node);
         let children = &self.known[from..];
         let first = children
             .first()
             .map_or(self.literals.len(), |child| child.first);
         let failing = children.iter().filter(|child| child.fails).count();
-        let fails = if kind(node) == ANY {
-            failing == children.len()
-        } else {
-            failing > 0
+        let fails = match kind(node) {
+            ANY => failing == children.len(),
+            LEAST => failing + asked(node) > children.len(),
+            _ => failing > 0,
         };
-        if fails {
+        if fails || kind(node) == LEAST && failing + asked(node) < children.len() {
             self.literals.truncate(first);
         } else if kind(node) == ANY && children.len() - failing > 1 {
             self.keep_common(from, first);

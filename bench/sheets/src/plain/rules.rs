@@ -1,13 +1,16 @@
-//! Whether a rule applies, as document 01 words it, with no table but the sizes.
+//! Whether a rule applies, as documents 01 and 02 word it, with no table but the sizes.
 
 use super::flat::Flat;
-use crate::nodes::{arity, is_literal, kind, value, ALL, ANY, FALSE, ROOT, TRUE};
+use crate::nodes::{arity, asked, is_literal, kind, value, ALL, ANY, FALSE, LEAST, ROOT, TRUE};
+
+/// The last rule.
+pub const LAST: usize = 17;
 
 /// The node kind of each rule, and its fewest children.
-const KIND: [u16; 14] = [
-    ALL, ANY, ROOT, ALL, ANY, ROOT, ALL, ANY, ANY, ROOT, ALL, ROOT, ALL, ANY,
+const KIND: [u16; LAST] = [
+    ALL, ANY, ROOT, ALL, ANY, ROOT, ALL, ANY, ANY, ROOT, ALL, ROOT, ALL, ANY, LEAST, LEAST, LEAST,
 ];
-const FEWEST: [usize; 14] = [2, 2, 2, 1, 1, 1, 1, 1, 2, 2, 1, 1, 1, 2];
+const FEWEST: [usize; LAST] = [2, 2, 2, 1, 1, 1, 1, 1, 2, 2, 1, 1, 1, 2, 1, 0, 0];
 
 /// Whether the node at a place is of the rule's kind, with children enough.
 pub fn is_headed(flat: Flat, rule: usize, place: usize) -> bool {
@@ -15,8 +18,23 @@ pub fn is_headed(flat: Flat, rule: usize, place: usize) -> bool {
     kind(head) == KIND[rule - 1] && arity(head) >= FEWEST[rule - 1]
 }
 
-/// Whether the rule applies at a place that it is headed by, with child i at `at` and inner
-/// child j.
+/// Whether a rule looks at the head alone: such a one may apply to a node without children, with
+/// i and j 0.
+pub fn is_by_head(rule: usize) -> bool {
+    matches!(rule, 16 | 17)
+}
+
+/// Rules 16 and 17: what the at-least asks for settles it, or makes it a plain group.
+pub fn applies_by_head(head: u16, rule: usize) -> bool {
+    let (asked, members) = (asked(head), arity(head));
+    match rule {
+        16 => asked == 0 || asked > members,
+        _ => asked == 1 || asked == members,
+    }
+}
+
+/// Whether the rule, one that looks at a child, applies at a place that it is headed by, with
+/// child i at `at` and inner child j.
 pub fn applies(flat: Flat, rule: usize, place: usize, i: usize, at: usize, j: usize) -> bool {
     let child = flat.nodes[at];
     match rule {
@@ -26,7 +44,8 @@ pub fn applies(flat: Flat, rule: usize, place: usize, i: usize, at: usize, j: us
         9 | 10 => is_literal(child) && j == 0 && occurs_beside(flat, place, at),
         11 | 12 => inner(flat, at, j).is_some_and(|inner| flat.is_literal(inner)),
         13 => kind(child) == ALL && j == 0 && is_alone(flat, place, at),
-        _ => shares(flat, place, i, at, j),
+        14 => shares(flat, place, i, at, j),
+        _ => [TRUE, FALSE].contains(&child) && j == 0,
     }
 }
 

@@ -2,14 +2,14 @@
 //! first, at each step.
 
 use super::flat::{fill_sizes, is_sheet, used, Flat, MOST};
-use super::rules::{applies, is_headed};
+use super::rules::{applies, applies_by_head, is_by_head, is_headed, LAST};
 use super::steps::apply;
 use crate::answers::{Ran, Redex};
 use crate::nodes::arity;
 
 /// The strategy's step.
 pub fn next(flat: Flat) -> Option<Redex> {
-    (1..=14).find_map(|rule| {
+    (1..=LAST).find_map(|rule| {
         (0..flat.nodes.len()).find_map(|place| {
             let (i, j) = least(flat, rule, place)?;
             Some(Redex { rule, place, i, j })
@@ -21,6 +21,9 @@ pub fn next(flat: Flat) -> Option<Redex> {
 pub fn least(flat: Flat, rule: usize, place: usize) -> Option<(usize, usize)> {
     if !is_headed(flat, rule, place) {
         return None;
+    }
+    if is_by_head(rule) {
+        return applies_by_head(flat.nodes[place], rule).then_some((0, 0));
     }
     flat.children(place).enumerate().find_map(|(i, at)| {
         let inner = match rule {

@@ -1,7 +1,9 @@
-//! The fourteen rewrites, on a sheet in place.
+//! The seventeen rewrites, on a sheet in place.
 
 use super::flat::{used, Flat, Sizes};
-use crate::nodes::{is_literal, kind, node, opposite, value, ALL, ANY, FALSE, TRUE};
+use crate::nodes::{
+    arity, asked, at_least, is_literal, kind, node, opposite, value, ALL, ANY, FALSE, TRUE,
+};
 
 use crate::answers::Redex;
 
@@ -20,8 +22,13 @@ pub fn apply(sheet: &mut [u16], sizes: &Sizes, redex: Redex) -> Zone {
         sizes,
     };
     let place = redex.place;
-    let at = flat.child(place, redex.i);
     let end = flat.end(place);
+    match redex.rule {
+        16 => return decide(sheet, place, end),
+        17 => return rename(sheet, place),
+        _ => (),
+    }
+    let at = flat.child(place, redex.i);
     match redex.rule {
         1..=3 => absorb(sheet, place, at, end),
         4..=6 => omit(sheet, place, at),
@@ -33,7 +40,8 @@ pub fn apply(sheet: &mut [u16], sizes: &Sizes, redex: Redex) -> Zone {
             lift(sheet, place, at, inner)
         }
         13 => merge(sheet, place, at),
-        _ => factor(sheet, sizes, place, at, redex.j),
+        14 => factor(sheet, sizes, place, at, redex.j),
+        _ => count_off(sheet, place, at),
     }
 }
 
@@ -158,5 +166,45 @@ fn factor(sheet: &mut [u16], sizes: &Sizes, place: usize, at: usize, j: usize) -
         from: place,
         old: end,
         new: place + put.len(),
+    }
+}
+
+/// Rule 15: the constant member goes; a true one is one of those asked for.
+fn count_off(sheet: &mut [u16], place: usize, at: usize) -> Zone {
+    let head = sheet[2 + place];
+    let counted = usize::from(sheet[2 + at] == TRUE);
+    sheet[2 + place] = at_least(asked(head).saturating_sub(counted), arity(head) - 1);
+    splice(sheet, at, at + 1, &[]);
+    Zone {
+        from: at,
+        old: at + 1,
+        new: at,
+    }
+}
+
+/// Rule 16: at least none is true, more than there are is false.
+fn decide(sheet: &mut [u16], place: usize, end: usize) -> Zone {
+    let decided = if asked(sheet[2 + place]) == 0 {
+        TRUE
+    } else {
+        FALSE
+    };
+    splice(sheet, place, end, &[decided]);
+    Zone {
+        from: place,
+        old: end,
+        new: place + 1,
+    }
+}
+
+/// Rule 17: at least one is an any-of, and else at least all of them is an all-of.
+fn rename(sheet: &mut [u16], place: usize) -> Zone {
+    let head = sheet[2 + place];
+    let kind = if asked(head) == 1 { ANY } else { ALL };
+    sheet[2 + place] = node(kind, arity(head));
+    Zone {
+        from: place,
+        old: place + 1,
+        new: place + 1,
     }
 }

@@ -2,7 +2,7 @@
 //! Sweeps over all literals, an evaluation of the whole sheet each, until none is new.
 
 use super::flat::{is_sheet, used};
-use crate::nodes::{is_literal, kind, literal, opposite, value, ANY, BARRED};
+use crate::nodes::{arity, asked, is_literal, kind, literal, opposite, value, ANY, BARRED, LEAST};
 
 /// The facts, barred ones apart, and room for one evaluation.
 struct Sweep<'a> {
@@ -21,17 +21,19 @@ impl Sweep<'_> {
     }
 
     /// Whether the root fails: a literal does where its opposite is a fact, an any-of where
-    /// all its children do, any other where one of them does.
+    /// all its children do, an at-least where too few of them do not, any other where one of
+    /// them does.
     fn root_fails(&mut self) -> bool {
         self.fails.clear();
         for &node in self.nodes.iter().rev() {
             let fails = if is_literal(node) {
                 self.is_fact(opposite(node))
             } else {
-                let first = self.fails.len() - value(node);
+                let first = self.fails.len() - arity(node);
                 let children = &self.fails[first..];
                 let fails = match kind(node) {
                     ANY => children.iter().all(|&fails| fails),
+                    LEAST => children.iter().filter(|&&fails| !fails).count() < asked(node),
                     _ => children.iter().any(|&fails| fails),
                 };
                 self.fails.truncate(first);

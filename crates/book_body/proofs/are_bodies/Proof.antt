@@ -11,7 +11,8 @@ use borrow.Rule.Slice.PartAt.{part-to-end}
 use lib.ListN.{drop, length-drop}
 use Rattle.model.specs.Base.{all}
 use Rattle.model.specs.Book.{word, words, entries, in-line, cut, body-ok}
-use Rattle.book_body.proofs.BookNumbers.{words-from, entries-from, entries-at, take-words, drop-words-from, in-line-after, in-line-sum}
+use Rattle.theory_formats.specs.Bytes.{take-words}
+use Rattle.book_body.proofs.BookNumbers.{words-from, entries-from, entries-at, drop-words-from, in-line-after, in-line-sum}
 use Rattle.book_body.proofs.are_bodies.Statement.{statement}
 use Rattle.book_body.proofs.are_bodies.Tie as tie
 
@@ -85,7 +86,8 @@ is-body-requires c κs =
     let s = c .before .before .before .before .before .before .args .s .now in
     let k = 2 * c .before .before .before .loop .sum in
     let inside = fits (c .before) in
-    (omega arith, rw (part-to-end s k, length-drop k s) (omega arith))
+    let few = c .before .before .before .before .before .before .pre .0 .2 in
+    (omega arith, rw (part-to-end s k, length-drop k s) (omega arith), few)
 
 -- The answer for the next body, and what is left after it.
 step :

@@ -9,13 +9,13 @@ use Rattle.common_nodes.proofs.arity_of.Tie as tie
 returns : tie.Need-returns
 returns c =
     let literal = sym (c .before .is-literal .ensures) ∙ c .if1 .taken in
-    omega (arith, arity-literal (c .before .before .args .x) literal)
+    omega (arith, arity-literal (c .before .before .before .args .x) literal)
 
 returns-2 : tie.Need-returns-2
 returns-2 c =
     let x = c .before .before .before .args .x in
-    let inner = sym (c .before .before .is-literal .ensures) ∙ c .before .if1 .left in
-    omega (arith, arity-inner x inner, arity-small x)
+    let inner = sym (c .before .is-literal .ensures) ∙ c .if1 .left in
+    omega (arith, arity-inner x inner, arity-small x, c .before .before .children-of .ensures)
 
 pub arity-of-spec : {M : Type 1} → statement M
-arity-of-spec = tie.close (tie.spec (λ c κs. search needs) returns (λ c κs. search needs) returns-2)
+arity-of-spec = tie.close (tie.spec (λ c κs. search needs) (λ c κs. search needs) returns returns-2)

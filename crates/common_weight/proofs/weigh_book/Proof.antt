@@ -2,26 +2,18 @@
 use mathlib.Core.List.{List, map}
 use mathlib.Core.Logic.{⊎-elim}
 use mathlib.Core.Path.{_≡_, refl, sym, ap, _∙_}
-use Prim.Native.Nat.{ℕ, zero, suc, _+_, _*_, _-_, _≤_, _<_}
+use Prim.Native.Nat.{ℕ, _+_, _*_, _-_, _≤_, _<_}
 use native.Mathlib.Omega.{arith}
 use borrow.Author.Needs.{needs}
 use lib.ListN.{length, getD, drop, length-map}
 use Rattle.model.specs.Code.{literals, weight, node-of}
-use Rattle.model.specs.Book.{word, words, options-of, rules-of, size-of, codes-end, contents-end, length-due, numbers-of, book-nodes}
+use Rattle.model.specs.Book.{word, options-of, rules-of, size-of, codes-end, contents-end, length-due, numbers-of, book-nodes}
 use Rattle.theory_forms.specs.Scan.{is-literal}
-use Rattle.theory_formats.specs.Bytes.{length-words, word-drop}
+use Rattle.theory_formats.specs.Bytes.{length-words, word-drop, word-among}
 use Rattle.common_weight.specs.Sums.{most-sum}
 use Rattle.common_weight.proofs.Weighing.{Weighed, begun, small, literal-weighed, other-weighed, all-weighed}
 use Rattle.common_weight.proofs.weigh_book.Statement.{statement}
 use Rattle.common_weight.proofs.weigh_book.Tie as tie
-
-words-at : (n i : ℕ) (b : List ℕ) → i < n → getD (words n b) i 0 ≡ word b (2 * i)
-unfolding words
-words-at zero i b h = absurd (omega arith)
-words-at (suc n) zero b h = refl
-words-at (suc n) (suc i) b h =
-    let next : 2 + 2 * i ≡ 2 * suc i = omega arith in
-    words-at n i (drop 2 b) (omega arith) ∙ word-drop 2 (2 * i) b ∙ ap (word b) next
 
 module _ (b : List ℕ) where
   -- Where the bodies begin, by the numbers of the head.
@@ -43,7 +35,7 @@ module _ (b : List ℕ) where
 
   bodies-at : (i : ℕ) → i < size-of b → getD (numbers-of b) i 0 ≡ word b (begin + 2 * i)
   unfolding numbers-of contents-end codes-end options-of rules-of
-  bodies-at i h = words-at (size-of b) i (drop begin b) h ∙ word-drop begin (2 * i) b
+  bodies-at i h = word-among (size-of b) i (drop begin b) h ∙ word-drop begin (2 * i) b
 
   bodies-weight : weight (book-nodes b) ≡ 1 + size-of b + literals (map node-of (numbers-of b))
   unfolding weight book-nodes literals

@@ -13,16 +13,18 @@ use lib.ListN.{length, getD, take, drop, set, replicate, length-drop, length-rep
 use lib.Seq.{drop-cons, drop-length, length-take-le, getD-take}
 use Rattle.model.specs.Limits.{sheet-room, most-literals}
 use Rattle.model.specs.Code.{children}
-use Rattle.theory_forms.specs.Logic.{either, true-false, fails-if}
+use Rattle.theory_forms.specs.Logic.{either, true-false, fails-if, pick-keeps}
 use Rattle.theory_forms.specs.Scan.{is-literal}
 use Rattle.theory_reading.specs.Leaves.{place-at}
+use Rattle.theory_meaning.specs.Evaluation.{count}
 use Rattle.theory_meaning.specs.FailedLiterals.{zero-everywhere}
 use Rattle.theory_meaning.specs.NumberTrees.{with-node, tree-fails, Spells-tree}
 use Rattle.theory_meaning.specs.TreeValues.{values-of, values-none, values-more, values-length, trees-of, Node-here, node-here, tree-value}
 use Rattle.report_breaking.specs.Breaking.{opposite, Broken-by}
-use Rattle.report_breaking.specs.Stacks.{among, begin, failing, broken, bottom, tried, Blank, Stack}
+use Rattle.report_breaking.specs.Stacks.{among, begin, failing, broken, bottom, standing, tried, Blank, Apart, Stack}
 use Rattle.report_breaking.proofs.Among.{among-at, among-index}
-use Rattle.report_breaking.proofs.Entries.{bottom-empty, broken-length}
+use Rattle.report_breaking.proofs.Entries.{bottom-empty, stacked-take, broken-length, broken-take}
+use Rattle.report_breaking.proofs.Groups.{fail-as-they-are}
 use Rattle.report_breaking.proofs.Tried.{tried-asked, tried-not, tried-none}
 use Rattle.report_breaking.proofs.breaking.Statement.{statement}
 use Rattle.report_breaking.proofs.breaking.Tie as tie
@@ -50,10 +52,10 @@ begun tree t places stack held w d b =
     }
 
 module _ {tree t places stack held : List ℕ} {top end i : ℕ} (h : Spells-tree tree) (few : length tree ≤ sheet-room)
-    (r : Read tree t places stack held top end i) where
+    (whole : length t ≡ most-literals) (r : Read tree t places stack held top end i) where
   -- As many entries stand on the stack as there are trees.
-  count : length (drop top stack) ≡ trees-of (drop i tree)
-  count = sym (broken-length 0 (take end places) (drop top stack)) ∙ ap length (r .told 0) ∙ values-length (tried t 0) (drop i tree)
+  entries : length (drop top stack) ≡ trees-of (drop i tree)
+  entries = sym (broken-length 0 (take end places) (drop top stack)) ∙ ap length (r .told 0) ∙ values-length (tried t 0) (drop i tree)
 
   here : 0 < i → Node-here tree (i - 1)
   here l = let k = r .left in node-here tree h (i - 1) (omega arith)
@@ -66,11 +68,31 @@ module _ {tree t places stack held : List ℕ} {top end i : ℕ} (h : Spells-tre
       let p : suc (i - 1) ≡ i = omega arith in
       let low = r .sound .low in
       let deep = r .deep in
-      let wide = count in
+      let wide = entries in
       let left = length-drop top stack in
       let few-trees = rw p at (n .few) in
       let enough = rw (p, ← e) at (n .enough) in
       (omega arith, λ q. rw e (n .inside (rw e at q)), λ q. omega (arith, enough q))
+
+  -- As they are, no more of the first trees fail than do not stand.
+  as-they-are : (m : ℕ) → count (take m (values-of t (drop i tree))) ≤ length (take m (drop top stack)) - standing (take m (drop top stack))
+  as-they-are m =
+      let ls = take end places in
+      let fs = drop top stack in
+      let now : values-of t (drop i tree) ≡ broken most-literals ls fs = ap (λ u. values-of u (drop i tree)) (sym (tried-none t whole)) ∙ sym (r .told most-literals) in
+      rw (now, ← broken-take most-literals m ls fs)
+      (fail-as-they-are most-literals ls (take m fs) (length-take-le end places (r .sound .room)) (stacked-take end m fs (r .sound .stacked))
+      (fails-if (among most-literals ls) (λ e. omega (arith, r .sound .inside most-literals e))))
+
+  -- A literal that is tried makes at most one member more fail.
+  apart : 0 < i → {x : ℕ} → x ≡ getD tree (i - 1) 0 → Apart x (take end places) (take (children x) (drop top stack))
+  unfolding tried
+  apart l {x} e six q =
+      let p : suc (i - 1) ≡ i = omega arith in
+      let m = children x in
+      let put = rw (p, ← e) at (here l .one-more (rw e at six) t q) in
+      let one : count (take m (values-of (tried t q) (drop i tree))) ≤ suc (count (take m (values-of t (drop i tree)))) = pick-keeps (λ u. count (take m (values-of u (drop i tree))) ≤ suc (count (take m (values-of t (drop i tree))))) (eqb (getD t (opposite q) 0) 1) (omega arith) put in
+      rw (broken-take q m (take end places) (drop top stack), r .told q) (omega (arith, one, as-they-are m))
 
   -- What is read with it.
   more : 0 < i → {x : ℕ} → x ≡ getD tree (i - 1) 0 → {places′ stack′ held′ : List ℕ} {top′ end′ : ℕ} →
@@ -187,8 +209,11 @@ read-node-requires c κs =
     let p = n .before .before .before .before .before .pre in
     let r = n .loop .inv in
     let l = c .before .before .before .before .before .loop-test .taken in (
-      asked (p .0) (p .1) r l (c .before .before .before .wide16 .ensures .0),
-      ((omega (arith, r .left, p .1), r .wide, r .deep, r .sound), (p .2, r .blank)),
+      asked (p .0) (p .1) (p .2) r l (c .before .before .before .wide16 .ensures .0),
+      (
+        (omega (arith, r .left, p .1), r .wide, r .deep, r .sound),
+        ((p .2, r .blank), apart (p .0) (p .1) (p .2) r l (c .before .before .before .wide16 .ensures .0)),
+      ),
     )
 
 loop-again : tie.Need-loop-again Inv-loop μ-loop
@@ -198,7 +223,7 @@ loop-again c =
     let n = w .before .before .before in
     let p = n .before .before .before .before .before .pre in
     let e = call .ensures .0 in
-    more (p .0) (p .1) (n .loop .inv) (w .before .before .loop-test .taken) (w .wide16 .ensures .0) (call .kept .1 .1 .1 .1 .0) (call .kept .1 .1 .1 .1 .1 .0) (e .0) (e .1) (e .2) (call .ensures .1)
+    more (p .0) (p .1) (p .2) (n .loop .inv) (w .before .before .loop-test .taken) (w .wide16 .ensures .0) (call .kept .1 .1 .1 .1 .0) (call .kept .1 .1 .1 .1 .1 .0) (e .0) (e .1) (e .2) (call .ensures .1)
 
 -- The list and the stack keep their lengths.
 kept : (c : tie.At-loop Inv-loop μ-loop) → let a = c .before .before .before .before .before .args in

@@ -1,27 +1,51 @@
--- `report_breaking::join` meets its contract: the trees fail by the number of those that stand, and else the literals of all of them
--- stay, or those that all of them have.
-use mathlib.Core.Bool.{Bool, true, false}
+-- `report_breaking::join` meets its contract: the tree fails by the number of its children that do; else the literals of all that
+-- stand stay, or those that all of them have, or none.
+use mathlib.Core.Bool.{Bool, false}
 use mathlib.Core.List.{List}
-use mathlib.Core.Logic.{_⊎_, inl, inr, ⊎-elim}
+use mathlib.Core.Logic.{⊎-elim}
 use mathlib.Core.Path.{_≡_, refl, sym, ap, subst, _∙_}
-use Prim.Native.Nat.{ℕ, _+_, _*_, _≤_, _<_}
+use Prim.Native.Nat.{ℕ, suc, _+_, _-_, _*_, _≤_, _<_}
 use native.Mathlib.Omega.{arith}
 use borrow.Author.Needs.{needs}
-use borrow.Author.Tests.{eqb-true, eqb-false, ltb-true, ltb-false, not-true, not-false}
-use lib.ListN.{length, take, drop}
+use borrow.Author.Tests.{eqb-false}
+use lib.Dec.{eqb}
+use lib.ListN.{length, take, drop, drop-of-length-le}
 use lib.Seq.{length-take-le, take-take}
-use Rattle.model.specs.Base.{pick}
 use Rattle.model.specs.Limits.{sheet-room}
-use Rattle.model.specs.Forest.{or, root}
-use Rattle.theory_forms.specs.Logic.{true-false}
+use Rattle.model.specs.Forest.{or}
+use Rattle.model.specs.Code.{kind}
+use Rattle.model.specs.Clauses.{need}
+use Rattle.theory_forms.specs.Logic.{either}
 use Rattle.theory_meaning.specs.Evaluation.{fails-all}
-use Rattle.report_breaking.specs.Stacks.{among, In-table, broken, Stacked, bottom, standing, Children, Made}
+use Rattle.theory_meaning.specs.NumberTrees.{conn-at}
+use Rattle.theory_meaning.specs.TreeValues.{conn-any, conn-all}
+use Rattle.report_breaking.specs.Stacks.{among, In-table, broken, Stacked, bottom, standing, Children, Apart, Made}
+use Rattle.report_breaking.proofs.Among.{among-take}
 use Rattle.report_breaking.proofs.Entries.{bottom-low}
-use Rattle.report_breaking.proofs.Groups.{falls-by, stands-by, makes-failing, makes-standing}
+use Rattle.report_breaking.proofs.Groups.{falls-by, stands-by, far-from, makes-failing, makes-standing}
 use Rattle.report_breaking.proofs.join.Statement.{statement}
 use Rattle.report_breaking.proofs.join.Tie as tie
 
-module _ {places fs : List ℕ} {base end : ℕ} (g : Children places fs base end) (d : Bool) where
+-- Where more are lacking than one: a conjunction lacks none or one, and of members one literal makes at most one more fail.
+lacks-more :
+    (x q : ℕ) (ls fs : List ℕ) →
+    (kind x ≡ 4 → ⊥) →
+    Apart x ls fs →
+    suc (length fs - standing fs) < need (conn-at x) (length fs) →
+    fails-all (conn-at x) (broken q ls fs) ≡ false
+unfolding need
+lacks-more x q ls fs d apart h =
+    ⊎-elim
+    (λ six. far-from (conn-at x) q ls fs (apart six q) h)
+    (λ six. absurd (omega (arith, rw (conn-all x d (eqb-false (kind x) 6 six)) at h)))
+    (either (eqb (kind x) 6))
+
+-- A disjunction that lacks more has trees that stand.
+some-stand : (x : ℕ) (fs : List ℕ) → kind x ≡ 4 → suc (length fs - standing fs) < need (conn-at x) (length fs) → 1 ≤ standing fs
+unfolding need
+some-stand x fs e h = omega (arith, rw (conn-any x e) at h)
+
+module _ {places fs : List ℕ} {base end : ℕ} (g : Children places fs base end) (x : ℕ) where
   long : length (take end places) ≡ end
   long = length-take-le end places (g .room)
 
@@ -36,59 +60,62 @@ module _ {places fs : List ℕ} {base end : ℕ} (g : Children places fs base en
 
   -- Whether the tree fails as it is or with a literal.
   abbrev value : ℕ → Bool
-  value q = fails-all (pick d or root) (broken q (take end places) fs)
+  value q = fails-all (conn-at x) (broken q (take end places) fs)
 
-  falls : ((d ≡ true) × (standing fs ≡ 0)) ⊎ ((d ≡ false) × (standing fs < length fs)) →
-      Made value (take end places) fs (take base places) (2 * base + 1)
+  falls : need (conn-at x) (length fs) ≤ length fs - standing fs → Made value (take end places) fs (take base places) (2 * base + 1)
   falls h =
       subst (λ l. Made value (take end places) fs l (2 * base + 1)) (take-take base end places low)
-      (makes-failing value (take end places) fs stacked (g .inside) base-is (λ q. falls-by d q (take end places) fs h))
+      (makes-failing value (take end places) fs stacked (g .inside) base-is (λ q. falls-by (conn-at x) q (take end places) fs h))
 
-  stands : ((d ≡ false) × (standing fs ≡ length fs)) ⊎ ((d ≡ true) × (standing fs ≡ 1)) →
-      Made value (take end places) fs (take end places) (2 * base)
+  stands : need (conn-at x) (length fs) ≡ suc (length fs - standing fs) → Made value (take end places) fs (take end places) (2 * base)
   stands h =
       makes-standing value (take end places) fs stacked (g .inside) base-is (take end places) (omega (arith, long, low)) refl (g .inside)
-      (λ q. ap (λ n. among q (drop n (take end places))) base-is ∙ stands-by d q (take end places) fs stacked h)
+      (λ q. ap (λ n. among q (drop n (take end places))) base-is ∙ stands-by (conn-at x) q (take end places) fs stacked h)
+
+  -- With no literals.
+  unmoved :
+      (kind x ≡ 4 → ⊥) →
+      Apart x (take end places) fs →
+      suc (length fs - standing fs) < need (conn-at x) (length fs) →
+      Made value (take end places) fs (take base places) (2 * base)
+  unfolding among
+  unmoved d apart h =
+      let short : length (take base places) ≡ base = length-take-le base places (omega (arith, low, g .room)) in
+      let same : take base (take end places) ≡ take base places = take-take base end places low in
+      makes-standing value (take end places) fs stacked (g .inside) base-is (take base places) (omega arith)
+      (take-take base base places (omega arith) ∙ sym same)
+      (λ y m. g .inside y (among-take y base (take end places) (rw same m)))
+      (λ q. ap (among q) (drop-of-length-le (take base places) {i = base} (omega arith)) ∙ sym (lacks-more x q (take end places) fs d apart h))
 
   -- With the literals that all have.
-  meets : d ≡ true → (new : List ℕ) (r : ℕ) → base ≤ r → r ≤ length new → take base new ≡ take base places →
+  meets : kind x ≡ 4 → (new : List ℕ) (r : ℕ) → base ≤ r → r ≤ length new → take base new ≡ take base places →
       In-table (take r new) → ((q : ℕ) → among q (drop base (take r new)) ≡ fails-all or (broken q (take end places) fs)) →
       Made value (take end places) fs (take r new) (2 * base)
-  unfolding pick
-  meets h new r above most same places-new each =
+  meets e new r above most same places-new each =
       makes-standing value (take end places) fs stacked (g .inside) base-is (take r new) (omega (arith, length-take-le r new most))
-      (take-take base r new above ∙ same ∙ sym (take-take base end places low)) places-new (λ q. rw h (each q))
-
--- What the test says of the trees.
-fallen :
-    (c : tie.Joined1) →
-    c .if1 .fails ≡ true →
-    let a = c .before .before .before .before .before .args in
-    ((a .disjunction ≡ true) × (standing (a .children .now) ≡ 0)) ⊎ ((a .disjunction ≡ false) × (standing (a .children .now) < length (a .children .now)))
-fallen c h =
-    let n = c .before .count-standing in
-    let fs = c .before .before .before .before .before .args .children .now in
-    ⊎-elim
-    (λ w. inl (w .0 .taken, sym (n .ensures .0) ∙ eqb-true (n .result) 0 (sym (w .1) ∙ h)))
-    (λ w. inr (w .0 .left, omega (arith, ltb-true (n .result) (length fs) (sym (w .1) ∙ h), n .ensures .0)))
-    (c .if1 .came)
-
-stood :
-    (c : tie.Joined1) →
-    c .if1 .fails ≡ false →
-    let a = c .before .before .before .before .before .args in
-    ((a .disjunction ≡ true) × (1 ≤ standing (a .children .now))) ⊎ ((a .disjunction ≡ false) × (standing (a .children .now) ≡ length (a .children .now)))
-stood c h =
-    let n = c .before .count-standing in
-    let fs = c .before .before .before .before .before .args .children .now in
-    ⊎-elim
-    (λ w. let z = eqb-false (n .result) 0 (sym (w .1) ∙ h) in inl (w .0 .taken, omega (arith, n .ensures .0)))
-    (λ w. inr (w .0 .left, omega (arith, ltb-false (n .result) (length fs) (sym (w .1) ∙ h), n .ensures)))
-    (c .if1 .came)
+      (take-take base r new above ∙ same ∙ sym (take-take base end places low)) places-new (λ q. rw (conn-any x e) (each q))
 
 -- The base is below the end, which is small.
 below : (c : tie.Start) → (c .args .base ≤ c .args .end) × (c .args .end ≤ sheet-room)
-below c = let p = c .pre in (low (p .0) true, omega (arith, p .0 .room, p .1))
+below c = let p = c .pre .0 in (low (p .0) (c .args .x), omega (arith, p .0 .room, p .1))
+
+-- What the counts are.
+counted :
+    (c : tie.After-count-standing) →
+    let a = c .before .before .before .before .before .args in
+    (c .before .need-of .result ≡ need (conn-at (a .x)) (length (a .children .now)))
+    × (length (a .children .now) - c .count-standing .result ≡ length (a .children .now) - standing (a .children .now))
+counted c = (c .before .need-of .ensures, omega (arith, c .count-standing .ensures .0))
+
+-- More than one is lacking; and the node is a disjunction.
+lacking :
+    (c : tie.Else2) →
+    let a = c .before .before .before .before .before .before .before .args in
+    suc (length (a .children .now) - standing (a .children .now)) < need (conn-at (a .x)) (length (a .children .now))
+lacking c = omega (arith, counted (c .before .before), c .before .if1 .left, c .if2 .left)
+
+four : (c : tie.Else3) → kind (c .before .before .before .before .before .before .before .before .before .args .x) ≡ 4
+four c = omega (arith, c .before .kind-of .ensures, c .if3 .left)
 
 mul-t13 : tie.Need-mul-t13
 mul-t13 c = omega (arith, below (c .before .before .before .before .before .before))
@@ -102,8 +129,8 @@ cast-t15 c = omega (arith, below (c .before .before .before .before .before .bef
 returns : tie.Need-returns
 returns c =
     let a = c .before .before .before .before .before .before in
-    let p = a .pre in (
-      falls (p .0) (a .args .disjunction) (fallen (c .before) (c .if2 .taken)),
+    let p = a .pre .0 in (
+      falls (p .0) (a .args .x) (omega (arith, counted (c .before), c .if1 .taken)),
       (below a .0, p .2),
     )
 
@@ -116,34 +143,35 @@ cast-first c = omega (arith, below (c .before .before .before .before .before .b
 returns-2 : tie.Need-returns-2
 returns-2 c =
     let a = c .before .before .before .before .before .before .before in
-    let p = a .pre in
-    let g = a .args in
-    let n = c .before .before .before .count-standing in
-    let h = stood (c .before .before) (c .before .if2 .left) in
-    let way : ((g .disjunction ≡ false) × (standing (g .children .now) ≡ length (g .children .now))) ⊎ ((g .disjunction ≡ true) × (standing (g .children .now) ≡ 1)) = ⊎-elim
-    (λ w. let e = not-true (g .disjunction) (w .taken) in inl (e, ⊎-elim (λ z. true-false (sym (z .0) ∙ e)) (λ z. z .1) h))
-    (λ w. inr (not-false (g .disjunction) (w .0 .left), sym (n .ensures .0) ∙ eqb-true (n .result) 1 (w .1 .taken)))
-    (c .if3 .came) in (
-      stands (p .0) (g .disjunction) way,
+    let p = a .pre .0 in (
+      stands (p .0) (a .args .x) (omega (arith, counted (c .before .before), c .if2 .taken)),
       (omega arith, p .2),
+    )
+
+returns-3 : tie.Need-returns-3
+returns-3 c =
+    let a = c .before .before .before .before .before .before .before .before .before in
+    let p = a .pre .0 in
+    let other : kind (a .args .x) ≡ 4 → ⊥ = λ e. c .if3 .taken (c .before .kind-of .ensures ∙ e) in (
+      unmoved (p .0) (a .args .x) other (a .pre .1) (lacking (c .before .before)),
+      (below a .0, p .2),
     )
 
 intersect-requires : tie.Need-intersect-requires
 intersect-requires c κs =
-    let a = c .before .before .before .before .before .before .before .before .before .before in
-    let p = a .pre in
-    let h = stood (c .before .before .before .before .before) (c .before .before .before .before .if2 .left) in
-    let e = not-false (a .args .disjunction) (c .before .before .before .if3 .left) in
-    (p .0, ⊎-elim (λ z. z .1) (λ z. true-false (sym e ∙ z .0)) h, p .2)
+    let n = c .before .before .before in
+    let a = n .before .before .before .before .before .before .before .before in
+    let p = a .pre .0 in
+    (p .0, some-stand (a .args .x) (a .args .children .now) (four (c .before .before)) (lacking (n .before)), p .2)
 
-returns-3 : tie.Need-returns-3
-returns-3 c =
-    let a = c .before .before .before .before .before .before .before .before .before .before .before .before .before .before .before in
-    let p = a .pre in
-    let g = a .args in
+returns-4 : tie.Need-returns-4
+returns-4 c =
+    let n = c .before .before .before .before .before .before .before in
+    let a = n .before .before .before .before .before .before .before .before .before in
+    let p = a .pre .0 in
     let i = c .before .before .before .before .intersect in (
-      meets (p .0) (g .disjunction)
-          (not-false (g .disjunction) (c .before .before .before .before .before .before .before .before .if3 .left)) (i .last .1 .1 .1 .0) (i .result) (i .ensures .0 .0) (omega (arith, i .ensures .0 .1, i .kept .1 .1 .1 .0, p .0 .room)) (i .ensures .0 .2) (i .ensures .1 .1 .0) (i .ensures .1 .0),
+      meets (p .0) (a .args .x) (four n) (i .last .1 .1 .1 .0) (i .result) (i .ensures .0 .0)
+          (omega (arith, i .ensures .0 .1, i .kept .1 .1 .1 .0, p .0 .room)) (i .ensures .0 .2) (i .ensures .1 .1 .0) (i .ensures .1 .0),
       (i .ensures .0 .1, i .ensures .1 .1 .1),
     )
 
@@ -152,14 +180,19 @@ join-spec =
     tie.close
     (tie.spec
     (λ c κs. search needs)
+    (λ c κs. search needs)
+    (λ c. search needs)
     mul-t13
     add-t14
     cast-t15
     returns
     mul-first
     cast-first
+    (λ c. search needs)
     returns-2
+    (λ c κs. search needs)
+    returns-3
     intersect-requires
     (λ c. search needs)
     (λ c. search needs)
-    returns-3)
+    returns-4)

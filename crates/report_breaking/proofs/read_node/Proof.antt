@@ -7,13 +7,11 @@ use native.Mathlib.Omega.{arith}
 use borrow.Author.Needs.{needs}
 use lib.Dec.{eqb}
 use lib.ListN.{length, getD, take, drop}
-use Rattle.model.specs.Base.{pick}
-use Rattle.model.specs.Forest.{or, root}
-use Rattle.model.specs.Code.{kind, children}
+use Rattle.model.specs.Code.{children}
 use Rattle.theory_forms.specs.Scan.{is-literal}
 use Rattle.theory_meaning.specs.Evaluation.{fails-all}
 use Rattle.theory_reading.specs.Leaves.{place-at}
-use Rattle.theory_meaning.specs.NumberTrees.{with-node}
+use Rattle.theory_meaning.specs.NumberTrees.{conn-at, with-node}
 use Rattle.theory_meaning.specs.TreeValues.{with-literal, with-inner}
 use Rattle.report_breaking.specs.Stacks.{broken, tried}
 use Rattle.report_breaking.proofs.Entries.{broken-take}
@@ -27,7 +25,7 @@ module _ (t : List ℕ) (x : ℕ) (bs : List Bool) where
   at-literal e l = rw e (sym (with-literal t x bs l))
 
 at-inner : (t : List ℕ) (x q : ℕ) (ls fs : List ℕ) → is-literal x ≡ false →
-    fails-all (pick (eqb (kind x) 4) or root) (broken q ls (take (children x) fs)) ∷ drop (children x) (broken q ls fs) ≡ with-node t x (broken q ls fs)
+    fails-all (conn-at x) (broken q ls (take (children x) fs)) ∷ drop (children x) (broken q ls fs) ≡ with-node t x (broken q ls fs)
 at-inner t x q ls fs l = rw (broken-take q (children x) ls fs) (sym (with-inner t x (broken q ls fs) l))
 
 literal : (c : tie.Then1) → is-literal (c .before .before .before .before .before .before .args .x) ≡ true
@@ -52,7 +50,7 @@ read-literal-requires : tie.Need-read-literal-requires
 read-literal-requires c κs =
     let a = c .before .before .before .before .before .before .before .before in
     let p = a .pre in (
-      (rw (c .before .place-of .ensures) (p .0 .1 (literal (c .before .before))), p .1 .1 .0),
+      (rw (c .before .place-of .ensures) (p .0 .1 (literal (c .before .before))), p .1 .1 .0 .0),
       (omega (arith, p .1 .0), p .1 .0 .1, p .1 .0 .3 .inside),
     )
 
@@ -68,7 +66,7 @@ returns c =
     let low : g .top - 1 < length (g .stack .now) = omega (arith, h .low, p .0 .0) in
     let room : r .result .end ≤ length (r .last .1 .1 .1 .0) = omega (arith, r .ensures .1, r .kept .1 .1 .1 .0, p .1 .0 .0, p .1 .0 .1) in
     let w = pushed h 0 (g .top - 1) (r .result .first) (r .last .1 .1 .1 .0) (r .result .end) at low room (r .ensures .0) in
-    ((r .ensures .1, w .0, p .1 .1 .1), λ q. w .1 q ∙ at-literal (tried (g .failed .now) q) (g .x) _ (c .before .before .before .before .place-of .ensures) (literal t))
+    ((r .ensures .1, w .0, p .1 .1 .0 .1), λ q. w .1 q ∙ at-literal (tried (g .failed .now) q) (g .x) _ (c .before .before .before .before .place-of .ensures) (literal t))
 
 add-new : tie.Need-add-new
 add-new c = let p = c .before .before .before .before .before .before .before .pre in omega (arith, enough c, p .1 .0 .2)
@@ -77,7 +75,7 @@ read-group-requires : tie.Need-read-group-requires
 read-group-requires c κs =
     let a = c .before .before .before .before .before .before .before .before .before .before in
     let p = a .pre in
-    ((p .0 .2 (inner (c .before .before .before .before)), p .1 .0 .2, p .1 .0 .3), (p .1 .0 .1, p .1 .1 .1))
+    ((p .0 .2 (inner (c .before .before .before .before)), p .1 .0 .2, p .1 .0 .3), ((p .1 .0 .1, p .1 .1 .0 .1), p .1 .1 .1))
 
 mul-stack-2 : tie.Need-mul-stack-2
 mul-stack-2 c =

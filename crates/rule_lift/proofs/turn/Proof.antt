@@ -19,7 +19,7 @@ use Rattle.rule_lift.proofs.turn.Tie as tie
 
 -- Child i of the group that the stretch begins with, and the conjunction that it is.
 child : (c : tie.Start) → let l = c .args .part .now in Child l (c .pre .1 .1 .0 .children) (c .args .i) (child-at (c .args .i) l)
-child c = applied-child (c .pre .1 .0) (c .pre .1 .1 .0) (c .args .j) (c .pre .1 .1 .1)
+child c = applied-child (c .pre .1 .0) (c .pre .1 .1 .0) (c .args .j) (omega (arith, c .pre .0 .1)) (c .pre .1 .1 .1)
 
 conjunction : (c : tie.Start) → (m : Forest) × (conjunction-at (after (c .args .i) (c .pre .1 .1 .0 .children)) ≡ some m)
 conjunction c =

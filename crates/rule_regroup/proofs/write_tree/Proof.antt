@@ -19,7 +19,7 @@ applies : (c : tie.Start) → Applied (c .args .i) (c .args .j) (c .pre .1 .0 .c
 applies c = rule-found (c .pre .0) (c .pre .1 .0) (c .args .i) (c .args .j) (c .pre .1 .1 .0)
 
 child : (c : tie.Start) → let l = c .args .part .now in Child l (c .pre .1 .0 .children) (c .args .i) (child-at (c .args .i) l)
-child c = applied-child (c .pre .0) (c .pre .1 .0) (c .args .j) (c .pre .1 .1 .0)
+child c = applied-child (c .pre .0) (c .pre .1 .0) (c .args .j) (omega arith) (c .pre .1 .1 .0)
 
 shared-slice-read-wide16 : tie.Need-shared-slice-read-wide16
 shared-slice-read-wide16 c = let k = child (c .before .before .before) in omega arith

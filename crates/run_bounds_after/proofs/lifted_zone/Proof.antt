@@ -1,6 +1,7 @@
 -- `run_bounds_after::lifted_zone` meets its contract: from child i on, past its inner child j.
 use mathlib.Core.Path.{refl, sym, subst}
 use Prim.Native.Nat.{_<_}
+use native.Mathlib.Omega.{arith}
 use borrow.Author.Needs.{needs}
 use lib.ListN.{drop}
 use Rattle.model.specs.Forest.{size, kids}
@@ -13,7 +14,7 @@ use Rattle.run_bounds_after.proofs.lifted_zone.Tie as tie
 child-place-requires : tie.Need-child-place-requires
 child-place-requires c κs =
     let b = c .before in
-    (b .pre .1 .0, child (b .args .sheet .now) (b .pre .1 .0) (b .args .redex) (b .pre .1 .1))
+    (b .pre .1 .0, child (b .args .sheet .now) (b .pre .1 .0) (b .args .redex) (b .pre .1 .1) (omega (arith, b .pre .0 .1)))
 
 child-place-requires-2 : tie.Need-child-place-requires-2
 child-place-requires-2 c κs =

@@ -105,7 +105,7 @@ returns-2 c =
     let v = n .before in
     let b = v .before .before .before .before .before in
     let a = b .args in
-    λ p. i-none (a .rule) p (forest-in (a .part .now)) (λ q l. n .loop .inv .before q (omega (arith, counted v, children-counted (b .pre .1 .0) (b .pre .1 .1 .0))) p)
+    λ p. i-none (a .rule) p (forest-in (a .part .now)) (omega (arith, b .pre .0 .1)) (λ q l. n .loop .inv .before q (omega (arith, counted v, children-counted (b .pre .1 .0) (b .pre .1 .1 .0))) p)
 
 pub least-inside-spec : {M : Type 1} → statement M
 least-inside-spec =

@@ -1,4 +1,4 @@
--- `sheet_check::is_sheet` meets its contract: the tests of the definition in turn, where the two of a rooted tree are one.
+-- `sheet_check::is_sheet` meets its contract: the tests of the definition in turn, where the three of a rooted tree are one.
 use mathlib.Core.Bool.{Bool, _&&_, and-true, and-false, and-assoc}
 use mathlib.Core.List.{List, map}
 use mathlib.Core.Path.{_≡_, sym, _∙_}
@@ -12,14 +12,15 @@ use lib.ListN.{length, getD, take, drop}
 use lib.Seq.{drop-drop}
 use Rattle.model.specs.Base.{all}
 use Rattle.model.specs.Limits.{most-options, most-weight, sheet-room, sheet-length}
-use Rattle.model.specs.Code.{weight, node-of, one-tree}
+use Rattle.model.specs.Forest.{all-seated}
+use Rattle.model.specs.Code.{weight, decode, node-of, one-tree}
 use Rattle.model.specs.Sheet.{options-in, used-in, numbers-in, nodes-in, rest-in, rooted, is-sheet}
 use Rattle.sheet_check.proofs.is_sheet.Statement.{statement}
 use Rattle.sheet_check.proofs.is_sheet.Tie as tie
 
--- The nodes are one rooted tree.
+-- The nodes are one rooted tree, all members in their seats.
 abbrev tree-in : List ℕ → Bool
-tree-in s = rooted (options-in s) (numbers-in s) && one-tree (nodes-in s)
+tree-in s = rooted (options-in s) (numbers-in s) && one-tree (nodes-in s) && all-seated (decode (nodes-in s))
 
 module _ (s : List ℕ) where
   -- A list is a sheet by six tests.
@@ -33,9 +34,9 @@ module _ (s : List ℕ) where
       && leb (weight (nodes-in s)) most-weight)
   unfolding is-sheet options-in used-in
   sheet-is =
-      rw
-      (and-assoc (eqb (length s) sheet-length && leb (getD s 0 0) most-options && leb (getD s 1 0) sheet-room)
-      (rooted (getD s 0 0) (numbers-in s)) (one-tree (nodes-in s)))
+      let first = eqb (length s) sheet-length && leb (getD s 0 0) most-options && leb (getD s 1 0) sheet-room in
+      let root = rooted (getD s 0 0) (numbers-in s) in
+      rw (and-assoc first root (one-tree (nodes-in s)), and-assoc first (root && one-tree (nodes-in s)) (all-seated (decode (nodes-in s))))
 
   -- What the parts of the sheet that are lent tell.
   tree-is :
@@ -43,7 +44,7 @@ module _ (s : List ℕ) where
       let part = take (length s - 2) (drop 2 s) in
       n ≡ getD s 0 0 →
       used ≡ getD s 1 0 →
-      r ≡ (rooted n (take used part) && one-tree (map node-of (take used part))) →
+      r ≡ (rooted n (take used part) && one-tree (map node-of (take used part)) && all-seated (decode (map node-of (take used part)))) →
       tree-in s ≡ r
   unfolding options-in used-in numbers-in nodes-in
   tree-is f g e = rw (← f, ← g) (sym (rw (part-to-end s 2) at e))

@@ -19,7 +19,7 @@ right c =
 
 counted :
     (c : tie.After-children-of) →
-    c .children-of .result ≡ children (getD (c .before .before .before .before .before .before .args .part .now) 0 0)
+    c .children-of .result ≡ children (getD (c .before .before .before .before .before .before .before .args .part .now) 0 0)
 counted c = c .children-of .ensures ∙ ap children (c .before .wide16 .ensures .0)
 
 returns : tie.Need-returns
@@ -27,22 +27,26 @@ returns c =
     let a = c .before .before .before in
     head-wrong (a .args .rule) (a .pre .1) (sym (c .before .is-headed .ensures) ∙ not-true (c .before .is-headed .result) (c .if1 .taken)) (a .args .i) (a .args .j)
 
-returns-2 : tie.Need-returns-2
-returns-2 c =
-    let a = c .before .before .before .before .before .before .before in
-    past-children (a .args .rule) (a .args .i) (a .args .j) (a .pre .1) (right (c .before .before .before .before)) (omega (arith, counted (c .before)))
+ends-requires : tie.Need-ends-requires
+ends-requires c κs =
+    let a = c .before .before .before .before in ((c .if2 .taken, a .pre .0 .1), (a .pre .1, right (c .before)))
+
+returns-3 : tie.Need-returns-3
+returns-3 c =
+    let a = c .before .before .before .before .before .before .before .before in
+    past-children (a .args .rule) (a .args .i) (a .args .j) (a .pre .1) (right (c .before .before .before .before .before)) (omega (arith, c .before .before .before .before .if2 .left)) (omega (arith, counted (c .before)))
 
 child-at-requires : tie.Need-child-at-requires
 child-at-requires c κs =
-    let a = c .before .before .before .before .before .before .before in
-    let g = headed-group (a .pre .1) (right (c .before .before .before .before)) in
+    let a = c .before .before .before .before .before .before .before .before in
+    let g = headed-group (a .pre .1) (right (c .before .before .before .before .before)) in
     (omega arith, a .pre .1 .short, omega (arith, counted (c .before), group-children g, group-few g))
 
 applies-headed-requires : tie.Need-applies-headed-requires
 applies-headed-requires c κs =
-    let e = c .before .before .before .before .before in
+    let e = c .before .before .before .before .before .before in
     let a = e .before .before .before in
-    ((a .pre .0 .0, a .pre .0 .1), (a .pre .1, (right e, (omega (arith, counted (c .before .before)), c .child-at .ensures .0))))
+    ((a .pre .0 .0, omega (arith, c .before .before .before .before .before .if2 .left)), (a .pre .1, (right e, (omega (arith, counted (c .before .before)), c .child-at .ensures .0))))
 
 pub applies-spec : {M : Type 1} → statement M
 applies-spec =
@@ -50,10 +54,12 @@ applies-spec =
     (tie.spec
     (λ c κs. search needs)
     returns
+    ends-requires
+    (λ c. search needs)
     (λ c. search needs)
     (λ c κs. search needs)
     (λ c κs. search needs)
-    returns-2
+    returns-3
     child-at-requires
     applies-headed-requires
     (λ c. search needs))

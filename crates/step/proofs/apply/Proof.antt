@@ -1,4 +1,5 @@
 -- `step::apply` meets its contract: the stretch from the place on is rewritten, and the live numbers are counted where it is due.
+use mathlib.Core.Logic.{inl, inr}
 use mathlib.Core.Path.{_≡_, sym, ap, _∙_}
 use Prim.Native.Nat.{_+_, _-_}
 use native.Mathlib.Omega.{arith}
@@ -41,36 +42,50 @@ turn-requires c κs =
     let k = known (c .before .before) in
     rw (lent-part (2 + a .place) (a .sheet .now)) ((k .low, k .high), (k .stretch, (k .head, k .applied)))
 
+-- Past the turn: the sheet before it, and the sheet that comes back.
+abbrev start : tie.After-turn → tie.Start
+start c = c .before .before .before
+
 sub-live-count : tie.Need-sub-live-count
-sub-live-count c = omega (arith, long (c .before .before .before))
+sub-live-count c = omega (arith, long (c .before .before .before .before))
 
 part-live-count-start : tie.Need-part-live-count-start
-part-live-count-start c = omega (arith, long (c .before .before .before .before))
+part-live-count-start c = omega (arith, long (c .before .before .before .before .before))
 
 cast-sheet : tie.Need-cast-sheet
 cast-sheet c =
-    let d = c .before .before .before .before .before .before in
-    let a = d .before .before .before .args in
+    let d = c .before .before .before .before .before .before .before in
+    let a = start d .args in
     let new = putMid (2 + a .place) (length (a .sheet .now) - (2 + a .place)) (a .sheet .now) (d .turn .last .0) in
     omega (arith, c .live-count .ensures, live-short (midOf 2 (length new - 2) new), ap length (lent-part 2 new), length-drop 2 new, long d)
 
 slice-write-sheet : tie.Need-slice-write-sheet
-slice-write-sheet c = omega (arith, long (c .before .before .before .before .before .before))
+slice-write-sheet c = omega (arith, long (c .before .before .before .before .before .before .before))
 
 same-length : tie.Need-same-length
-same-length c = long (c .before .before .before .before) ∙ sym (known (c .before .before .before .before .before .before .before) .whole)
+same-length c = long (c .before .before .before) ∙ sym (known (c .before .before .before .before .before .before) .whole)
 
 returns : tie.Need-returns
 returns c =
-    let d = c .before .before .before .before in
-    let b = d .before .before .before in
+    let d = c .before .before .before in
+    let b = start d in
     let a = b .args in
-    back-level (a .sheet .now) (b .pre .0) (a .rule) (a .place) (a .i) (a .j) (b .pre .1) (d .turn .ensures) (omega arith) (omega arith)
+    back-level (a .sheet .now) (b .pre .0) (a .rule) (a .place) (a .i) (a .j) (b .pre .1) (d .turn .ensures) (inr (c .match .keys1))
+
+same-length-2 : tie.Need-same-length-2
+same-length-2 c = long (c .before .before .before .before .before) ∙ sym (known (c .before .before .before .before .before .before .before .before) .whole)
 
 returns-2 : tie.Need-returns-2
 returns-2 c =
-    let d = c .before .before .before .before .before .before in
-    let b = d .before .before .before in
+    let d = c .before .before .before .before .before in
+    let b = start d in
+    let a = b .args in
+    back-level (a .sheet .now) (b .pre .0) (a .rule) (a .place) (a .i) (a .j) (b .pre .1) (d .turn .ensures) (inl (omega arith, omega arith))
+
+returns-3 : tie.Need-returns-3
+returns-3 c =
+    let d = c .before .before .before .before .before .before .before in
+    let b = start d in
     let a = b .args in
     rw (c .live-count .ensures)
     (back-sheet (a .sheet .now) (b .pre .0) (a .rule) (a .place) (a .i) (a .j) (b .pre .1) (d .turn .ensures))
@@ -93,5 +108,7 @@ apply-spec =
     slice-write-sheet
     same-length
     returns
+    same-length-2
+    returns-2
     (λ c. search needs)
-    returns-2)
+    returns-3)

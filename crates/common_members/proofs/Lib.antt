@@ -1,0 +1,4 @@
+pub mod Bits
+pub mod MemberNodes
+pub mod Seating
+pub mod Joining

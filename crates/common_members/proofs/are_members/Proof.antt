@@ -1,0 +1,105 @@
+-- `common_members::are_members` meets its contract. Invariant: the numbers so far are members, and their options are marked.
+use mathlib.Core.Bool.{true}
+use mathlib.Core.List.{List}
+use mathlib.Core.Path.{_≡_, sym, _∙_}
+use Prim.Native.Nat.{ℕ, _-_, _≤_}
+use native.Mathlib.Omega.{arith}
+use borrow.Author.Needs.{needs}
+use borrow.Author.Tests.{not-true, not-false}
+use lib.ListN.{length, getD, take}
+use lib.Seq.{length-take-le, getD-take}
+use Rattle.model.specs.Limits.{most-options}
+use Rattle.model.specs.Sheet.{body-node}
+use Rattle.common_members.proofs.Seating.{passed, Seated, begun, seated-more, not-seated}
+use Rattle.common_members.proofs.are_members.Statement.{statement}
+use Rattle.common_members.proofs.are_members.Tie as tie
+
+abbrev Inv-loop : tie.InvT-loop
+Inv-loop s count marks₀ i₀ marks i = (i ≤ count) × Seated (take count s) marks i
+
+abbrev μ-loop : tie.MeasureT-loop
+μ-loop s count marks₀ i₀ marks i = i
+
+loop-holds : tie.Need-loop-holds Inv-loop μ-loop
+loop-holds c =
+    let a = c .before .args in (omega arith, begun (take (a .count) (a .s .now)) (sym (length-take-le (a .count) (a .s .now) (c .before .pre .0))))
+
+-- In the loop the place is that of a number, which is a node of a body.
+module _ (c : tie.In-loop Inv-loop μ-loop) where
+  abbrev numbers : List ℕ
+  numbers = take (c .before .before .before .args .count) (c .before .before .before .args .s .now)
+
+  within : c .before .loop .i ≤ length numbers
+  within = omega (arith, length-take-le _ (c .before .before .before .args .s .now) (c .before .before .before .pre .0), c .before .loop .inv .0)
+
+  number : getD numbers (c .before .loop .i - 1) 0 ≡ getD (c .before .before .before .args .s .now) (c .before .loop .i - 1) 0
+  number =
+      let i = c .before .loop .i in
+      getD-take (c .before .before .before .args .count) _ (i - 1) 0 (omega (arith, c .loop-test .taken, c .before .loop .inv .0))
+
+  node : body-node most-options (getD numbers (c .before .loop .i - 1) 0) ≡ true
+  node =
+      passed (body-node most-options) numbers (c .before .loop .i - 1) (c .before .before .before .pre .1) (omega (arith, within, c .loop-test .taken))
+
+sub-i : tie.Need-sub-i Inv-loop μ-loop
+sub-i c = omega (arith, c .loop-test .taken)
+
+mul-wide16 : tie.Need-mul-wide16 Inv-loop μ-loop
+mul-wide16 c = omega (arith, c .before .loop .inv .0, c .before .before .before .pre .0)
+
+shared-slice-read-wide16 : tie.Need-shared-slice-read-wide16 Inv-loop μ-loop
+shared-slice-read-wide16 c =
+    let k = c .before in omega (arith, k .loop-test .taken, k .before .loop .inv .0, k .before .before .before .pre .0)
+
+read :
+    (c : tie.After-marks Inv-loop μ-loop) →
+    let k = c .before .before .before in
+    c .before .wide16 .result ≡ getD (numbers k) (k .before .loop .i - 1) 0
+read c = c .before .wide16 .ensures .0 ∙ sym (number (c .before .before .before))
+
+is-member-requires : tie.Need-is-member-requires Inv-loop μ-loop
+is-member-requires c κs =
+    let k = c .before .before .before in (rw (read c) (node k), k .before .loop .inv .1 .marks .long)
+
+returns : tie.Need-returns Inv-loop μ-loop
+returns c =
+    let asked = c .before .before in
+    let k = asked .before .before .before in
+    let m = c .before .is-member in
+    sym (not-seated (k .loop-test .taken) (within k) (k .before .loop .inv .1) (read asked) (sym (m .ensures .0) ∙ not-true (m .result) (c .if1 .taken)))
+
+loop-less : tie.Need-loop-less Inv-loop μ-loop
+loop-less c = omega (arith, c .before .before .before .before .before .loop-test .taken)
+
+loop-again : tie.Need-loop-again Inv-loop μ-loop
+loop-again c =
+    let asked = c .before .before in
+    let k = asked .before .before .before in
+    let m = c .before .is-member in
+    let l = k .before .loop in (
+      omega (arith, l .inv .0),
+      seated-more (k .loop-test .taken) (within k) (l .inv .1) (read asked) (sym (m .ensures .0) ∙ not-false (m .result) (c .if1 .left)) (m .ensures .1),
+    )
+
+returns-2 : tie.Need-returns-2 Inv-loop μ-loop
+returns-2 c =
+    let l = c .before .loop in
+    let all : l .i ≡ 0 = omega (arith, c .loop-test .left) in
+    sym (rw all at (l .inv .1) .apart)
+
+pub are-members-spec : {M : Type 1} → statement M
+are-members-spec =
+    tie.close
+    (tie.spec
+    Inv-loop
+    μ-loop
+    loop-holds
+    sub-i
+    mul-wide16
+    shared-slice-read-wide16
+    (λ c κs. search needs)
+    is-member-requires
+    returns
+    loop-less
+    loop-again
+    returns-2)

@@ -1,0 +1,3 @@
+pub mod LeastNumbers
+pub mod Dropping
+pub mod Ending
