@@ -24,8 +24,10 @@
 static uint8_t book[ND_BOOK_LONGEST + 1];
 static size_t book_len;
 
-/* The order: its sheet, and its lines, of which there are none yet.  Static slots are zeros. */
+/* The order: its sheet, the index of the sheet, and its lines, of which there are none yet.  Static
+ * slots are zeros. */
 static uint16_t sheet[ND_SHEET_LENGTH];
+static uint16_t mentions[ND_INDEX_LONGEST];
 static struct nd_line lines[ND_LINES_MOST];
 static uint16_t count = 0;
 
@@ -58,8 +60,8 @@ static void key(const char *word)
         accept(NO_SUCH_CODE);
     found = nd_code_lookup(book, book_len, (const uint8_t *)word + 1, strlen(word + 1));
     accept(found);
-    accept(nd_key(sheet, ND_SHEET_LENGTH, lines, ND_LINES_MOST, &count, nd_value(found),
-                  word[0] == '-'));
+    accept(nd_key(sheet, ND_SHEET_LENGTH, lines, ND_LINES_MOST, &count, mentions, ND_INDEX_LONGEST,
+                  nd_value(found), word[0] == '-'));
 }
 
 /* Runs the sheet, which makes no difference to what is reported, and prints what it says. */
@@ -67,7 +69,7 @@ static void tell(void)
 {
     static const char *const words[] = {"open", "in", "out"};
     uint8_t states[ND_OPTIONS_MOST];
-    uint64_t ran = nd_run(sheet, ND_SHEET_LENGTH, BUDGET);
+    uint64_t ran = nd_run(sheet, ND_SHEET_LENGTH, mentions, ND_INDEX_LONGEST, BUDGET);
     uint64_t reported = nd_report(sheet, ND_SHEET_LENGTH, states, sizeof states);
 
     accept(ran);
@@ -88,7 +90,8 @@ static void take_back(const char *word)
 {
     uint64_t k = strtoull(word, NULL, 10);
 
-    accept(nd_withdraw(sheet, ND_SHEET_LENGTH, book, book_len, lines, ND_LINES_MOST, &count, k));
+    accept(nd_withdraw(sheet, ND_SHEET_LENGTH, book, book_len, lines, ND_LINES_MOST, &count,
+                       mentions, ND_INDEX_LONGEST, k));
     printf("line %llu taken back, %u left\n", (unsigned long long)k, (unsigned)count);
 }
 
@@ -96,6 +99,7 @@ int main(int argc, char **arguments)
 {
     read_book(argc > 1 ? arguments[1] : "book.bin");
     accept(nd_load(book, book_len, sheet, ND_SHEET_LENGTH));
+    accept(nd_index(sheet, ND_SHEET_LENGTH, mentions, ND_INDEX_LONGEST));
     for (int word = 2; word < argc; word++) {
         if (arguments[word][0] >= '0' && arguments[word][0] <= '9') {
             tell();

@@ -31,6 +31,9 @@ static uint16_t sheet[ND_SHEET_LENGTH];
 static struct nd_line lines[ND_LINES_MOST];
 static uint16_t count = 0;
 
+/* The index of the sheet, which the calls keep right once it is filled. */
+static uint16_t mentions[ND_INDEX_LONGEST];
+
 /* A refusal prints only itself, and ends the program. */
 static void accept(uint64_t answer)
 {
@@ -65,8 +68,8 @@ static void key(const uint8_t *line, size_t length)
         accept(NO_SUCH_CODE);
     found = nd_code_lookup(book, book_len, line + 1, length - 1);
     accept(found);
-    accept(nd_key(sheet, ND_SHEET_LENGTH, lines, ND_LINES_MOST, &count, nd_value(found),
-                  line[0] == '-'));
+    accept(nd_key(sheet, ND_SHEET_LENGTH, lines, ND_LINES_MOST, &count, mentions, ND_INDEX_LONGEST,
+                  nd_value(found), line[0] == '-'));
 }
 
 /* Keys the choices of standard input in order. */
@@ -104,8 +107,9 @@ int main(int argc, char **arguments)
 
     read_book(argc > 1 ? arguments[1] : "book.bin");
     accept(nd_load(book, book_len, sheet, ND_SHEET_LENGTH));
+    accept(nd_index(sheet, ND_SHEET_LENGTH, mentions, ND_INDEX_LONGEST));
     key_lines();
-    ran = nd_run(sheet, ND_SHEET_LENGTH, BUDGET);
+    ran = nd_run(sheet, ND_SHEET_LENGTH, mentions, ND_INDEX_LONGEST, BUDGET);
     accept(ran);
     reported = nd_report(sheet, ND_SHEET_LENGTH, states, sizeof states);
     accept(reported);

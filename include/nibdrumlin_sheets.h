@@ -1,7 +1,8 @@
 /*
  * Order sheets: a book loaded onto a sheet, choices keyed and taken back, steps, runs, reports,
- * and the sheet written back as a book.  The book check and the code lookup stand in
- * nibdrumlin.h, which this header includes, with what a book is and how an answer is packed.
+ * how often the sheet names each option, and the sheet written back as a book.  The book check
+ * and the code lookup stand in nibdrumlin.h, which this header includes, with what a book is and
+ * how an answer is packed.
  *
  * A sheet is exactly 4,098 numbers of 16 bits, in the machine's own byte order:
  *
@@ -29,6 +30,19 @@
  * every line below the count is below the sheet's N.  The lines are what a withdrawal keys again:
  * whoever lends lines that were never keyed finds them on the sheet after the next withdrawal.
  *
+ * Beside its sheet an order keeps an index, which says how often the sheet names each option: two
+ * numbers of 16 bits an option, option after option.  For option v they are
+ *
+ *   index[2v]        the count of its marks: nodes of kind 1 or 2, so taken and barred alike
+ *   index[2v + 1]    the place of the first (places count from the root, 0), 65,535 if none
+ *
+ * Whoever begins an order fills the index once, by nd_index after nd_load, and lends it on: a
+ * keying, a withdrawal, a step and a run want it right as they begin, and leave it right.  A
+ * load leaves it alone, so it is filled again after each.  2N numbers are enough, 1,024 for
+ * every sheet, none where N is 0; numbers past them are not looked at and stay.  An index is
+ * stale where it has 2N numbers or more and the first 2N are not those of the sheet: nothing but
+ * nd_index mends it.
+ *
  * Every function answers one number.  Its low 8 bits are the refusal, 0 where the call is
  * accepted; the rest is the value (nd_refusal and nd_value of nibdrumlin.h take it apart).  A
  * refused call has the value 0.  The refusals:
@@ -41,9 +55,11 @@
  *    9       rule not 1 to 17
  *   10       the step does not apply
  *   11       not a sheet; in writing and in a withdrawal also a book whose N is not the sheet's;
- *            in a keying and in a withdrawal also lines that are not in order; in loading only a
- *            length that is not 4,098
- *   12       output shorter than needed: for a report, than N bytes
+ *            in a keying and in a withdrawal also lines that are not in order; in a keying, a
+ *            withdrawal, a step and a run also a stale index; in loading only a length that is
+ *            not 4,098
+ *   12       output shorter than needed: for a report, than N bytes; index shorter than 2N
+ *            numbers, in every call that takes one
  *   13       no such line
  *   14       list full: there are 64 lines
  *
@@ -54,17 +70,17 @@
  * to what it takes without const and to nothing else, and after a refusal to nothing at all.  It
  * keeps no pointer and no state and allocates nothing, so calls may be made from several threads
  * at a time, each on its own buffers.  No buffer that a call writes may overlap another that it
- * is lent.
+ * is lent: so the index lies apart from the sheet.
  *
  * Every input has an answer: there is nothing that the caller must have tested before.  Lengths
- * count elements: bytes of a book or an output, 16-bit numbers of a sheet, slots of lines.  A
- * pointer may be null where its length is 0; that is an empty run.  Otherwise it must point to as
- * many elements as its length says, and a sheet, lines and a count must be aligned as uint16_t
- * is.  A count is one number and has no length: its pointer is never null.
+ * count elements: bytes of a book or an output, 16-bit numbers of a sheet or an index, slots of
+ * lines.  A pointer may be null where its length is 0; that is an empty run.  Otherwise it must
+ * point to as many elements as its length says, and a sheet, an index, lines and a count must be
+ * aligned as uint16_t is.  A count is one number and has no length: its pointer is never null.
  *
  * Stack: the ND_STACK_ numbers, here and in nibdrumlin.h, are bytes that suffice for one call,
- * with a margin of at least 4,096 over what was measured: 3,832 for nd_withdraw, 8,636 for nd_step,
- * 33,244 for nd_run, 56,744 for nd_report.  tests/library/stack.c measures it again.  It counts
+ * with a margin of at least 4,096 over what was measured: 3,864 for nd_withdraw, 10,668 for nd_step,
+ * 33,276 for nd_run, 56,760 for nd_report.  tests/library/stack.c measures it again.  It counts
  * what the calls and their memset, memcpy and memmove use.  A program that binds these three
  * only when they are first called needs, that once, the dynamic linker's stack besides.
  */
@@ -90,6 +106,12 @@ extern "C" {
 /* The length of the longest book, in bytes: an output of so many is enough for every write. */
 #define ND_BOOK_LONGEST 31234
 
+/* The length of the longest index, in numbers of 16 bits: so many are enough for every sheet. */
+#define ND_INDEX_LONGEST 1024
+
+/* In an index, the place of the first mark of an option that has none. */
+#define ND_NO_PLACE 65535
+
 /* The slots of an order's lines. */
 #define ND_LINES_MOST 64
 
@@ -105,8 +127,8 @@ struct nd_line {
 #define ND_OUT 2
 #define ND_CONTRADICTORY 3
 
-/* Bytes of stack that suffice for nd_load, nd_write, nd_key and nd_withdraw; nd_step; nd_run;
- * nd_report and nd_complete. */
+/* Bytes of stack that suffice for nd_load, nd_write, nd_index, nd_key and nd_withdraw; nd_step;
+ * nd_run; nd_report and nd_complete. */
 #define ND_STACK_SHEET 8192
 #define ND_STACK_STEP 16384
 #define ND_STACK_RUN 40960
@@ -116,11 +138,22 @@ struct nd_line {
  * Loads the book_len bytes at book onto a sheet.
  *
  * sheet_len must be 4,098; what the sheet held before does not matter.  Accepted, the whole
- * sheet is filled.  The value is always 0.
+ * sheet is filled.  An index of what it held before is stale now: nd_index.  The value is always
+ * 0.
  *
  * Refused 11 (sheet_len is not 4,098), then 1 to 6.
  */
 uint64_t nd_load(const uint8_t *book, size_t book_len, uint16_t *sheet, size_t sheet_len);
+
+/*
+ * Fills an index from a sheet, whatever the index held.
+ *
+ * Accepted, its first 2N numbers are those of the sheet as it stands now, and those past them
+ * stay.  The value is always 0.
+ *
+ * Refused 11 (not a sheet), then 12 (index_len is under 2N).
+ */
+uint64_t nd_index(const uint16_t *sheet, size_t sheet_len, uint16_t *index, size_t index_len);
 
 /*
  * Writes a sheet as a book whose codes are those of the book lent: its rules and choices are
@@ -160,14 +193,18 @@ uint64_t nd_complete(const uint16_t *sheet, size_t sheet_len);
  * Keys a choice: the option, taken or (negative) barred, becomes the root's last child and the
  * order's last line.
  *
- * Accepted, the slot at the count holds the line, all other slots stay, and the count is one
- * more.  The option is compared with all its 64 bits.  The value is always 0.
+ * Accepted, the slot at the count holds the line, all other slots stay, the count is one more,
+ * and the index is the sheet's again: the option's count of marks is one more, and where it had
+ * no first place it has the new mark's.  The option is compared with all its 64 bits.  The value
+ * is always 0.
  *
- * Refused 11 (not a sheet; lines not in order), 14 (the count is 64), 7 (option is N or more),
- * then 8.  After a refusal the sheet, every slot and the count are as they were.
+ * Refused 11 (not a sheet; lines not in order; a stale index), 14 (the count is 64), 7 (option is
+ * N or more), 8, then 12 (index_len is under 2N).  After a refusal the sheet, every slot, the
+ * count and the index are as they were.
  */
 uint64_t nd_key(uint16_t *sheet, size_t sheet_len, struct nd_line *lines, size_t slots,
-                uint16_t *count, uint64_t option, bool negative);
+                uint16_t *count, uint16_t *index, size_t index_len, uint64_t option,
+                bool negative);
 
 /*
  * Takes line k back, counted from 0: the sheet becomes that of the book lent, with the remaining
@@ -175,29 +212,34 @@ uint64_t nd_key(uint16_t *sheet, size_t sheet_len, struct nd_line *lines, size_t
  * not a run had settled it, and the next run counts its steps from zero.
  *
  * Accepted, the lines before k stay, the later ones move up by one, and the count is one less.
- * The slot that is free now keeps what it held, and so do those past it.  The book is usually
- * the one that was loaded; where it is another of as many options, its rules are the order's
- * from then on, and the lines name its options by their numbers.  The value is always 0.
+ * The slot that is free now keeps what it held, and so do those past it.  The index, which was
+ * that of the sheet before, is that of the new one.  The book is usually the one that was loaded;
+ * where it is another of as many options, its rules are the order's from then on, and the lines
+ * name its options by their numbers.  The value is always 0.
  *
- * Refused 11 (not a sheet), 1 to 6, 11 (a book whose N is not the sheet's; lines not in order),
- * 13 (k is the count or more, with all its 64 bits), then 8 (the book's weight + twice the
- * remaining lines is over 4,096: a choice keyed into room that steps had made cannot always be
- * taken back).  After a refusal the sheet, every slot and the count are as they were.
+ * Refused 11 (not a sheet), 1 to 6, 11 (a book whose N is not the sheet's; lines not in order; a
+ * stale index), 13 (k is the count or more, with all its 64 bits), 8 (the book's weight + twice
+ * the remaining lines is over 4,096: a choice keyed into room that steps had made cannot always
+ * be taken back), then 12 (index_len is under 2N).  After a refusal the sheet, every slot, the
+ * count and the index are as they were.
  */
 uint64_t nd_withdraw(uint16_t *sheet, size_t sheet_len, const uint8_t *book, size_t book_len,
-                     struct nd_line *lines, size_t slots, uint16_t *count, uint64_t k);
+                     struct nd_line *lines, size_t slots, uint16_t *count, uint16_t *index,
+                     size_t index_len, uint64_t k);
 
 /*
  * Does one step of the seventeen rules: rule 1 to 17, at a place (nodes counted from the root, 0),
  * child i and inner child j, from 0.  An index that the rule has no use for must be 0: so must i
  * and j for rules 16 and 17, also where the node has no child.
  *
- * The value is always 0.
+ * Accepted, the index is that of the sheet after the step.  No step raises any option's count of
+ * marks.  The value is always 0.
  *
- * Refused 11 (not a sheet), 9, then 10.
+ * Refused 11 (not a sheet; a stale index), 9, 10, then 12 (index_len is under 2N).  After a
+ * refusal the sheet and the index are as they were.
  */
-uint64_t nd_step(uint16_t *sheet, size_t sheet_len, uint64_t rule, uint64_t place, uint64_t i,
-                 uint64_t j);
+uint64_t nd_step(uint16_t *sheet, size_t sheet_len, uint16_t *index, size_t index_len,
+                 uint64_t rule, uint64_t place, uint64_t i, uint64_t j);
 
 /*
  * Does house steps, the applicable one of lowest rule, place, i and j each time, until no rule
@@ -207,9 +249,14 @@ uint64_t nd_step(uint16_t *sheet, size_t sheet_len, uint64_t rule, uint64_t plac
  * applies to the sheet any more.  Without that 1 it stopped: budget steps are done and a rule
  * still applies.  nd_run_steps and nd_run_settled, below, take an accepted answer apart.
  *
- * Refused 11 (not a sheet).
+ * Accepted, the index is that of the sheet after the run, also where no step was done; no
+ * option's count of marks is higher than before.
+ *
+ * Refused 11 (not a sheet; a stale index), then 12 (index_len is under 2N).  After a refusal the
+ * sheet and the index are as they were.
  */
-uint64_t nd_run(uint16_t *sheet, size_t sheet_len, uint64_t budget);
+uint64_t nd_run(uint16_t *sheet, size_t sheet_len, uint16_t *index, size_t index_len,
+                uint64_t budget);
 
 /* The steps done, in the accepted answer of a run. */
 static inline uint64_t nd_run_steps(uint64_t answer)
@@ -221,6 +268,18 @@ static inline uint64_t nd_run_steps(uint64_t answer)
 static inline bool nd_run_settled(uint64_t answer)
 {
     return (answer >> 8 & 1u) != 0;
+}
+
+/* How often the sheet names an option below N, in its index. */
+static inline uint16_t nd_mentions(const uint16_t *index, size_t option)
+{
+    return index[2 * option];
+}
+
+/* The place of the first mark of an option below N, ND_NO_PLACE if it has none. */
+static inline uint16_t nd_first_place(const uint16_t *index, size_t option)
+{
+    return index[2 * option + 1];
 }
 
 #ifdef __cplusplus

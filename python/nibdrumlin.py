@@ -7,6 +7,7 @@
     print(order.run(100_000), order.report())
     order.withdraw(1)  # line 1 is taken back; counted from 0, that is BODY-C
     print(order.lines, order.run(100_000), order.report())
+    print(order.mentions("BODY-C").count)  # how often the sheet names BODY-C
 
 A call that is refused raises Refused, which has the number of the refusal and its meaning, and
 leaves everything as it was. The library is target/library/libnibdrumlin_sheets.so of this
@@ -15,8 +16,8 @@ another file.
 
 Book and Order stand on the functions nd_load, nd_run and so on, which are the C functions of
 include/nibdrumlin.h and include/nibdrumlin_sheets.h on memory that the caller lends: a book or an
-output is any run of bytes, a sheet any run of 16-bit numbers (array("H"), say), the lines of an
-order a ctypes array of Slot, their count one 16-bit number (ctypes.c_uint16, say).
+output is any run of bytes, a sheet or an index any run of 16-bit numbers (array("H"), say), the
+lines of an order a ctypes array of Slot, their count one 16-bit number (ctypes.c_uint16, say).
 """
 import ctypes
 import functools
@@ -28,12 +29,15 @@ from typing import Any, Dict, Iterable, List, NamedTuple, Optional, Tuple, Union
 
 SHEET_LENGTH = 4098
 OPTIONS_MOST = 512
+INDEX_LONGEST = 1024
 LINES_MOST = 64
 BOOK_LONGEST = 31_234
 CODE_LENGTH = 13
 HEAD_LENGTH = 8
 BUDGET_MOST = 2 ** 64 - 1
 NO_NUMBER = 2 ** 64 - 1  # of no option and of no line
+NO_PLACE = 65_535  # in an index: the option has no mark
+NO_SUCH_OPTION = 7
 
 MEANINGS = {
     1: "the book's length: fewer than 8 bytes, or not the length due",
@@ -46,8 +50,9 @@ MEANINGS = {
     8: "the sheet is full, or would be with the remaining lines",
     9: "the rule is not 1 to 17",
     10: "the step does not apply",
-    11: "not a sheet, a book whose number of options is not the sheet's, or lines not in order",
-    12: "the output is too short",
+    11: "not a sheet, a book whose number of options is not the sheet's, lines not in order, or an "
+        "index that is not the sheet's",
+    12: "the output or the index is too short",
     13: "no such line",
     14: "the list is full: it has 64 lines",
 }
@@ -58,8 +63,8 @@ LIBRARY = Path(__file__).resolve().parent.parent / "target/library/libnibdrumlin
 # count (capitals: it may be written), 8 a number of so many bytes, ? a truth value.
 SIGNATURES = {
     "nd_book_check": "b", "nd_code_lookup": "bb", "nd_load": "bS", "nd_write": "sbB",
-    "nd_report": "sB", "nd_complete": "s", "nd_key": "SLC8?", "nd_withdraw": "SbLC8",
-    "nd_step": "S8888", "nd_run": "S8"}
+    "nd_report": "sB", "nd_complete": "s", "nd_index": "sS", "nd_key": "SLCS8?",
+    "nd_withdraw": "SbLCS8", "nd_step": "SS8888", "nd_run": "SS8"}
 NUMBERS = {"8": ctypes.c_uint64, "?": ctypes.c_bool}
 SIZES = {"b": 1, "B": 1, "s": 2, "S": 2, "C": 2}
 
@@ -108,6 +113,14 @@ class Line(NamedTuple):
 
     option: int
     barred: bool
+
+
+class Mentions(NamedTuple):
+    """How often a sheet names an option, taken or barred, and the place of the first of these
+    marks, counted from the root, 0; None where there is none."""
+
+    count: int
+    first: Optional[int]
 
 
 class Report(NamedTuple):
@@ -235,28 +248,38 @@ def nd_complete(sheet: Lent) -> bool:
     return bool(_call("nd_complete", sheet))
 
 
-def nd_key(sheet: Lent, lines: Any, count: Any, option: int, negative: bool) -> None:
+def nd_index(sheet: Lent, index: Lent) -> None:
+    """Fills the index, whatever it held: for each option the count of its marks on the sheet and
+    the place of the first, 65,535 if none. What is past these two numbers an option stays. Refused
+    11, 12."""
+    _call("nd_index", sheet, index)
+
+
+# Each of the next four wants the index of the sheet as it is lent, and leaves that of the sheet
+# after the call. A stale index is refused 11 with the other 11s, a short one 12, last of all.
+
+def nd_key(sheet: Lent, lines: Any, count: Any, index: Lent, option: int, negative: bool) -> None:
     """Takes the option, or bars it: a mark on the sheet, and a line in the slot at the count, which
-    rises by one. Refused 11, 14, 7, 8."""
-    _call("nd_key", sheet, lines, count, option, negative)
+    rises by one. Refused 11, 14, 7, 8, 12."""
+    _call("nd_key", sheet, lines, count, index, option, negative)
 
 
-def nd_withdraw(sheet: Lent, book: Lent, lines: Any, count: Any, k: int) -> None:
+def nd_withdraw(sheet: Lent, book: Lent, lines: Any, count: Any, index: Lent, k: int) -> None:
     """Takes line k back: the sheet is that of the book with the remaining lines keyed in order, the
-    later lines move up, the count falls by one. Refused 11, 1 to 6, 11, 13, 8."""
-    _call("nd_withdraw", sheet, book, lines, count, k)
+    later lines move up, the count falls by one. Refused 11, 1 to 6, 11, 13, 8, 12."""
+    _call("nd_withdraw", sheet, book, lines, count, index, k)
 
 
-def nd_step(sheet: Lent, rule: int, place: int, i: int, j: int) -> None:
-    """One step of the seventeen rules. Refused 11, 9, 10."""
-    _call("nd_step", sheet, rule, place, i, j)
+def nd_step(sheet: Lent, index: Lent, rule: int, place: int, i: int, j: int) -> None:
+    """One step of the seventeen rules. Refused 11, 9, 10, 12."""
+    _call("nd_step", sheet, index, rule, place, i, j)
 
 
-def nd_run(sheet: Lent, budget: int) -> Ran:
-    """House steps until no rule applies or the budget is used up. Refused 11."""
+def nd_run(sheet: Lent, index: Lent, budget: int) -> Ran:
+    """House steps until no rule applies or the budget is used up. Refused 11, 12."""
     if budget < 0:
         raise ValueError("a budget is 0 or more")
-    value = _call("nd_run", sheet, budget)
+    value = _call("nd_run", sheet, index, budget)
     return Ran(value % 2 == 1, value // 2)
 
 
@@ -300,7 +323,9 @@ class Book:
 
 
 class Order:
-    """An order: the sheet of a book, and the lines keyed on it. `numbers` are the sheet's 4,098."""
+    """An order: the sheet of a book, the lines keyed on it, and the index of the sheet. `numbers`
+    are the sheet's 4,098. Every call of an order keeps the index right. Whoever writes to `numbers`
+    makes it stale: the calls that change the sheet are then refused 11 until refill()."""
 
     def __init__(self, book: Book) -> None:
         """An order of a book, with no lines."""
@@ -308,7 +333,9 @@ class Order:
         self.numbers = array("H", bytes(2 * SHEET_LENGTH))
         self._slots = (Slot * LINES_MOST)()
         self._count = ctypes.c_uint16(0)
+        self._index = array("H", bytes(2 * INDEX_LONGEST))
         nd_load(book.data, self.numbers)
+        self.refill()
 
     @classmethod
     def from_numbers(cls, book: Book, numbers: Iterable[int],
@@ -320,6 +347,7 @@ class Order:
         order._slots = (Slot * max(LINES_MOST, len(kept)))(*kept)
         order._count = ctypes.c_uint16(_number(len(kept), 2))
         order._check()
+        order.refill()
         return order
 
     @property
@@ -330,23 +358,37 @@ class Order:
     def key(self, option: Option, barred: bool = False) -> None:
         """Takes an option, by its code or number, or bars it, as the order's last line; refused 14,
         7, 8."""
-        nd_key(self.numbers, self._slots, self._count, self._option(option), barred)
+        nd_key(self.numbers, self._slots, self._count, self._index, self._option(option), barred)
 
     def withdraw(self, k: int, book: Optional[Book] = None) -> None:
         """Takes line k back, counted from 0. What steps and runs had done is dropped. With another
         book of as many options, its rules are the order's from then on; lines name options by
         number. Refused 11, 13, 8."""
         book = self.book if book is None else book
-        nd_withdraw(self.numbers, book.data, self._slots, self._count, k)
+        nd_withdraw(self.numbers, book.data, self._slots, self._count, self._index, k)
         self.book = book
 
     def step(self, rule: int, place: int, i: int = 0, j: int = 0) -> None:
         """One step of the seventeen rules; refused 9, 10."""
-        nd_step(self.numbers, rule, place, i, j)
+        nd_step(self.numbers, self._index, rule, place, i, j)
 
     def run(self, budget: int = BUDGET_MOST) -> Ran:
         """House steps until no rule applies or the budget is used up."""
-        return nd_run(self.numbers, budget)
+        return nd_run(self.numbers, self._index, budget)
+
+    def mentions(self, option: Option) -> Mentions:
+        """How often the sheet names an option, by its code or number, and where first; refused 7.
+        It counts marks, the rules' and the choices' alike, as they stand now."""
+        number = self._option(option)
+        if not 0 <= number < self.book.options:
+            raise Refused("mentions", NO_SUCH_OPTION)
+        count, first = self._index[2 * number:2 * number + 2]
+        return Mentions(count, None if first == NO_PLACE else first)
+
+    def refill(self) -> None:
+        """Makes the index right again, after `numbers` was written to; refused 11 where that left
+        no sheet."""
+        nd_index(self.numbers, self._index)
 
     def report(self) -> Report:
         """What the rules and choices force, whether or not the sheet was run."""
@@ -375,9 +417,11 @@ class Order:
 
     def _check(self) -> None:
         """Refused 11 unless there are a sheet, as many options as the book's, and lines in order:
-        all of that is tested before it is found that there is no such line."""
+        all of that is tested before it is found that there is no such line. No index is lent, for
+        none is right yet: a short one is looked at last."""
         try:
-            nd_withdraw(self.numbers, self.book.data, self._slots, self._count, NO_NUMBER)
+            nd_withdraw(self.numbers, self.book.data, self._slots, self._count, array("H"),
+                        NO_NUMBER)
         except Refused as refusal:
             if refusal.number != 13:
                 raise

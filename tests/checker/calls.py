@@ -3,10 +3,11 @@
 Buffers are lists of numbers and are not changed in place; `buffers after` is the tuple of those
 that the call may write, as it leaves them. Arguments are unsigned and of any size: none is narrowed
 before it is compared. The lines of an order are a buffer of (option, barred), their count a buffer
-of one number. Values: lookup, the option; write, the length; run, 2 x count and 1 more if settled;
-report, 1 if contradictory; complete, 1 if so; the others, 0.
+of one number, and an index of mentions is None where none is lent. Values: lookup, the option;
+write, the length; run, 2 x count and 1 more if settled; report, 1 if contradictory; complete, 1 if
+so; the others, 0.
 """
-from . import Refused, books, keying, meaning, rules, sheets
+from . import Refused, books, keying, meaning, mentions, rules, sheets
 
 
 def answer(work, *lent):
@@ -14,7 +15,7 @@ def answer(work, *lent):
     try:
         value, *after = work()
     except Refused as refusal:
-        return refusal.number, 0, tuple(list(buffer) for buffer in lent)
+        return refusal.number, 0, tuple(None if buffer is None else list(buffer) for buffer in lent)
     return 0, int(value), tuple(after)
 
 
@@ -37,30 +38,38 @@ def write(sheet, book, output):
     return answer(lambda: sheets.write(sheet, book, output), output)
 
 
-def order(sheet, lines, count):
-    """What a keying or a withdrawal gives, and leaves."""
-    return 0, sheet, lines, [count]
+def order(sheet, lines, count, index):
+    """What a keying or a withdrawal gives, and leaves; the index is still as it was lent."""
+    return 0, sheet, lines, [count], mentions.brought_up_to_date(sheet, index)
 
 
-def key(sheet, lines, count, option, barred):
-    return answer(lambda: order(*keying.key(sheet, lines, *count, option, barred)),
-                  sheet, lines, count)
+def key(sheet, lines, count, index, option, barred):
+    return answer(
+        lambda: order(*keying.key(sheet, lines, *count, option, barred, index), index),
+        sheet, lines, count, index)
 
 
-def withdraw(sheet, book, lines, count, k):
-    return answer(lambda: order(*keying.withdraw(sheet, book, lines, *count, k)),
-                  sheet, lines, count)
+def withdraw(sheet, book, lines, count, index, k):
+    return answer(lambda: order(*keying.withdraw(sheet, book, lines, *count, k, index), index),
+                  sheet, lines, count, index)
 
 
-def step(sheet, rule, place, i, j):
-    return answer(lambda: (0, rules.apply(sheet, rule, place, i, j)), sheet)
-
-
-def run(sheet, budget):
+def step(sheet, index, rule, place, i, j):
     def work():
-        count, settled, after = rules.run(sheet, budget)
-        return 2 * count + settled, after
-    return answer(work, sheet)
+        after = rules.apply(sheet, rule, place, i, j, index)
+        return 0, after, mentions.brought_up_to_date(after, index)
+    return answer(work, sheet, index)
+
+
+def run(sheet, index, budget):
+    def work():
+        count, settled, after = rules.run(sheet, budget, index)
+        return 2 * count + settled, after, mentions.brought_up_to_date(after, index)
+    return answer(work, sheet, index)
+
+
+def index(sheet, index):
+    return answer(lambda: (0, mentions.fill(sheet, index)), index)
 
 
 def report(sheet, output):

@@ -1,4 +1,5 @@
-"""What the parts of the self-test share: what must hold, and answers that must not be refusals."""
+"""What the parts of the self-test share: what must hold, answers that must not be refusals, and a
+count of mentions that goes another way than the checker's."""
 from . import calls, sheets
 from .books import build
 from .cases import CODES
@@ -26,3 +27,14 @@ def done(answer):
 
 def loaded(options, trees):
     return done(calls.load(BLANK, build(CODES[:options], trees)))[1]
+
+
+def counted(sheet):
+    """The index of a sheet, read off its numbers one after another."""
+    index = [0, 65_535] * sheet[0]
+    for place, node in enumerate(sheet[2:2 + sheet[1]]):
+        kind, option = divmod(node, 4096)
+        if kind in (1, 2):
+            index[2 * option] += 1
+            index[2 * option + 1] = min(index[2 * option + 1], place)
+    return index

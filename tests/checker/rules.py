@@ -1,5 +1,5 @@
 """The seventeen rules, single steps, the house step and runs."""
-from . import Refused
+from . import Refused, mentions
 from .sheets import fill, read
 from .trees import (AT_LEAST, CONJUNCTION, DISJUNCTION, FALSE, ROOT, TRUE, Tree, at_least,
                     conjunction, disjunction, fold, numbers, preorder)
@@ -165,21 +165,26 @@ def rewritten(root, rule, place, i, j):
     return old[:place] + numbers(new) + old[after:]
 
 
-def apply(sheet, rule, place, i, j):
+def apply(sheet, rule, place, i, j, index=None):
     """The sheet after. Document 02: "refusal 9 is for rules outside 1 to 17"; document 01: "10 the
-    step does not apply." """
+    step does not apply"; last 12."""
     options, root = read(sheet)
+    mentions.check(options, root, index)
     if rule not in TABLE:
         raise Refused(9)
     after = rewritten(root, rule, place, i, j)
     if after is None:
         raise Refused(10)
+    mentions.check_length(options, index)
     return fill(options, after)
 
 
-def run(sheet, budget):
+def run(sheet, budget, index=None):
     """(count, settled, sheet after). "It says settled when no rule applies; it says stopped when
     the budget's steps are done and a rule still applies." """
+    options, root = read(sheet)
+    mentions.check(options, root, index)
+    mentions.check_length(options, index)
     count, step = 0, house_step(sheet)
     while step is not None and count < budget:
         sheet, count = apply(sheet, *step), count + 1

@@ -9,10 +9,10 @@ from pathlib import Path
 if not __package__:
     sys.path.insert(0, str(Path(__file__).resolve().parent.parent))
 from checker import (calls, desk, keying, meaning, rules, selftest_at_least, selftest_every,
-                     selftest_keying, selftest_lists, sheets)
+                     selftest_keying, selftest_lists, selftest_mentions, sheets)
 from checker.books import build
 from checker.cases import BAD, CASES, CODES, ORDERS, P, Q, STEPS
-from checker.expecting import BLANK, MOST, done, expect, loaded
+from checker.expecting import BLANK, MOST, counted, done, expect, loaded
 from checker.trees import (ROOT, TRUE, Tree, conjunction as all_of, disjunction as any_of, negative,
                            positive, weight)
 
@@ -21,7 +21,7 @@ NO_LINES = [(0, False)] * keying.SLOTS
 
 def keyed(sheet, option, barred):
     """A choice on an order that has no lines yet: (refusal, the sheet after)."""
-    refusal, _, (sheet, _, _) = calls.key(sheet, NO_LINES, [0], option, barred)
+    refusal, _, (sheet, *_) = calls.key(sheet, NO_LINES, [0], counted(sheet), option, barred)
     return refusal, sheet
 
 
@@ -32,10 +32,11 @@ def books_to_try():
         for choice in choices:
             refusal, sheet = keyed(sheet, *choice)
             expect(refusal == 0, "a book to try: its choice")
-        taken, after = [], [sheet]
+        taken, after, index = [], [sheet], counted(sheet)
         while rules.applicable(after[-1]):
             taken.append(min(rules.applicable(after[-1])))
-            after.append(done(calls.step(after[-1], *taken[-1]))[1])
+            _, stepped, index = done(calls.step(after[-1], index, *taken[-1]))
+            after.append(stepped)
         expect(steps in (..., [step[0] for step in taken]), "a book to try: its steps")
         expect(left is ... or after[-1] == loaded(options, left), "a book to try: what is left")
         due = (1, [3] * options) if expected is BAD else (0, expected)
@@ -43,8 +44,8 @@ def books_to_try():
             expect(done(calls.report(at, [9] * options)) == due, "a book to try: its report")
         for budget in (*range(len(after) + 1), MOST):
             count = min(budget, len(taken))
-            expect(done(calls.run(sheet, budget)) == (2 * count + (count == len(taken)),
-                                                      after[count]), "a book to try: its run")
+            due = 2 * count + (count == len(taken)), after[count], counted(after[count])
+            expect(done(calls.run(sheet, counted(sheet), budget)) == due, "a book to try: its run")
 
 
 def limits_to_try():
@@ -73,22 +74,23 @@ def limits_to_try():
     for _ in range(2000):
         nest = any_of(all_of(nest))
     expect(done(calls.report(loaded(1, [nest]), [0])) == (0, [1]), "a deep nest: its report")
-    expect(done(calls.run(loaded(1, [nest]), 3))[0] == 6, "a deep nest: a run")
+    expect(done(calls.run(loaded(1, [nest]), [1, 4001], 3))[0] == 6, "a deep nest: a run")
     expect(meaning.is_too_much(any_of(*[all_of(positive(at), negative(at)) for at in range(20)])),
            "2 ^ 20 clauses")
 
 
 def single_steps():
     for before, (rule, place, i, j), after in STEPS:
-        sheet = loaded(3, before)
-        due = (10, 0, (sheet,)) if after is None else (0, 0, (loaded(3, after),))
-        expect(calls.step(sheet, rule, place, i, j) == due, (rule, place, i, j))
+        sheet, left = loaded(3, before), loaded(3, before if after is None else after)
+        lent, number = (sheet, counted(sheet)), 10 if after is None else 0
+        expect(calls.step(*lent, rule, place, i, j) == (number, 0, (left, counted(left))),
+               (rule, place, i, j))
         for more in (1, 2, 65536, 2 ** 32):  # each index, moved off its value
             for wrong in [(place + more, i, j), (place, i + more, j), (place, i, j + more)]:
                 expect((rule, *wrong) in rules.applicable(sheet)
-                       or calls.step(sheet, rule, *wrong) == (10, 0, (sheet,)), (rule, *wrong))
+                       or calls.step(*lent, rule, *wrong) == (10, 0, lent), (rule, *wrong))
         for wrong in (0, 18, 65536 + rule):
-            expect(calls.step(sheet, wrong, place, i, j) == (9, 0, (sheet,)), (wrong, place, i, j))
+            expect(calls.step(*lent, wrong, place, i, j) == (9, 0, lent), (wrong, place, i, j))
 
 
 def desk_program():
@@ -150,10 +152,11 @@ def refusals_of_sheets():
     for bad in [[], sheet[:-1], sheet + [0]] + [
             sheet[:at] + [value] + sheet[at + 1:] for at, value in changes]:
         for given, left in (
-                (calls.step(bad, 0, 0, 0, 0), (bad,)),
-                (calls.key(bad, NO_LINES, [64], 99, True), (bad, NO_LINES, [64])),
-                (calls.withdraw(bad, b"", NO_LINES, [0], 99), (bad, NO_LINES, [0])),
-                (calls.run(bad, 0), (bad,)), (calls.report(bad, []), ([],)),
+                (calls.step(bad, [], 0, 0, 0, 0), (bad, [])),
+                (calls.key(bad, NO_LINES, [64], [], 99, True), (bad, NO_LINES, [64], [])),
+                (calls.withdraw(bad, b"", NO_LINES, [0], [], 99), (bad, NO_LINES, [0], [])),
+                (calls.run(bad, [], 0), (bad, [])), (calls.index(bad, []), ([],)),
+                (calls.report(bad, []), ([],)),
                 (calls.complete(bad), ()), (calls.write(bad, b"", []), ([],))):
             expect(given == (11, 0, left), bad[:9])
     expect(keyed(sheet, 2, True) == (7, sheet), "no such option")
@@ -178,6 +181,7 @@ def main(books=3000, seed=1):
     refusals_of_books()
     refusals_of_sheets()
     selftest_keying.all_of_them()
+    mentions = selftest_mentions.all_of_them()
     selftest_at_least.all_of_them(rng)
     every = selftest_every.all_of_them(rng)
     for number in range(books):
@@ -186,11 +190,12 @@ def main(books=3000, seed=1):
             selftest_lists.check_listing(sheet)
     expect(all(met[what] for what in selftest_lists.TO_MEET), met)
     steps = [met[rule] for rule in rules.TABLE]
-    print("selftest: %d books and %d orders to try, %d steps, the refusals, %d small sheets with "
-          "every step from them (%d), and %d random books with %d steps (each rule %d "
-          "times or more), %d keyings and %d withdrawals all held, %.0f s" % (
-              len(CASES) + 5, len(ORDERS), len(STEPS), *every, books, sum(steps), min(steps),
-              met["key", 0], met["withdraw", 0], time.time() - start))
+    print("selftest: %d books and %d orders to try, %d steps, the refusals, %d faults of an index "
+          "beside them and %d calls with one and without, %d small sheets with every step from "
+          "them (%d), and %d random books with %d steps (each rule %d times or more), %d keyings "
+          "and %d withdrawals all held, %.0f s" % (
+              len(CASES) + 5, len(ORDERS), len(STEPS), *mentions, *every, books, sum(steps),
+              min(steps), met["key", 0], met["withdraw", 0], time.time() - start))
 
 
 if __name__ == "__main__":

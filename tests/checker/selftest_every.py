@@ -1,13 +1,14 @@
 """Every sheet of a few nodes, at-leasts among them, and random ones with wider at-leasts; every
 step from them, step after step: what a step keeps, what is left where no rule applies, and how long
 a stretch can be."""
+from collections import Counter
 from functools import lru_cache
 from itertools import product
 from typing import NamedTuple
 
-from . import meaning, rules, sheets
+from . import meaning, mentions, rules, sheets
 from .demands import cube_of
-from .expecting import expect
+from .expecting import counted, expect
 from .models import models
 from .random_trees import random_at_least, random_mark
 from .trees import (AT_LEAST, CONJUNCTION, DISJUNCTION, FALSE, ROOT, TRUE, Tree, are_members,
@@ -43,6 +44,11 @@ def rows_of(nodes, options):
             for row in rows_of(nodes - first, options)]
 
 
+def marks_of(nodes):
+    """How often the node numbers name each option."""
+    return Counter(node % 4096 for node in nodes if node // 4096 in (1, 2))
+
+
 class Kept(NamedTuple):
     """What no step may change."""
     facts: frozenset  # None where contradictory
@@ -72,6 +78,8 @@ class Every:
         """The most steps that a stretch from this sheet can do, each step of them checked."""
         if nodes not in self.longest:
             root, most = self.root(nodes), 0
+            expect(mentions.fresh_count(self.options, root)
+                   == counted([self.options, len(nodes), *nodes]), "two counts of a sheet")
             listed = list(rules.redexes(root))
             for step in listed:
                 most = max(most, 1 + self.most_steps(self.after(nodes, root, step)))
@@ -83,12 +91,14 @@ class Every:
 
     def after(self, nodes, root, step):
         """The sheet after a step, which keeps "every node before the place", the report, what the
-        sheet would report if more were keyed, and, at most, the weight."""
+        sheet would report if more were keyed, and, at most, the weight. Document 02: "no step
+        raises any option's count"."""
         self.steps += 1
         new = tuple(rules.rewritten(root, *step))
         changed = self.root(new)
         expect(new[:step[1]] == nodes[:step[1]], "a step changed nodes before its place")
         expect(weight(changed) <= weight(root), "a step raised the weight")
+        expect(marks_of(new) <= marks_of(nodes), "a step raised an option's count")
         expect(self.keeps(new, changed) == self.keeps(nodes, root), "a step changed the meaning")
         return new
 

@@ -9,16 +9,17 @@ import time
 from collections import Counter
 from pathlib import Path
 
-from . import (Difference, at_least, cases, desks, lists, orders, refusals, refused_orders,
-               theories, wide)
-from .comparing import CAN_REFUSE, SAYS, Comparing
+from . import (Difference, at_least, cases, desks, indexes, lists, mentions, orders, refusals,
+               refused_orders, theories, wide)
+from .comparing import CAN_REFUSE, FAULTS, NULL, SAYS, Comparing
 from .library import Library
 
 TOP = Path(__file__).resolve().parent.parent.parent
 DESK = TOP / "target/bin/desk"
 LISTS, ORDERS, THEORIES, DESKS = 20_000, 300, 150, 2_000
-ALL = (*cases.ALL, *refusals.ALL, *refused_orders.ALL, *at_least.ALL, *wide.ALL)
-RANDOM = (*refusals.RANDOM, *refused_orders.RANDOM, *at_least.RANDOM, *wide.RANDOM)
+ALL = (*cases.ALL, *refusals.ALL, *refused_orders.ALL, *mentions.ALL, *at_least.ALL, *wide.ALL)
+RANDOM = (*refusals.RANDOM, *refused_orders.RANDOM, *mentions.RANDOM, *at_least.RANDOM,
+          *wide.RANDOM)
 
 
 def numbered(seed, what, count, work, share=(0, 1)):
@@ -111,6 +112,10 @@ def due_counts(desk):
     least.update({lists.SETTLED_AT_LEASTS: LISTS // 400, wide.TOO_MANY: 1})
     least.update({kind: 1 for kind in wide.FULL})
     least.update({kind: LISTS // 1000 for kind in lists.WITHDRAWALS})
+    # Each fault of an index, alone and beside each refusal; and right ones through whole lists.
+    least.update({fault: 1 for fault in FAULTS})
+    least.update({kind: LISTS // 10 for kind in lists.INDEXES})
+    least[NULL] = LISTS // 1000
     # Every answer of every call. (A code that is found is a lookup accepted, one that is not is 7.)
     least.update({(call, number): 1 for call in CAN_REFUSE for number in [0] + CAN_REFUSE[call]})
     least.update({(call, said): 1 for call in SAYS for said in SAYS[call]})
@@ -128,6 +133,10 @@ def tell(seen):
                             for number in sorted(CAN_REFUSE[call]))
         said = "".join(", %s %d" % (word, seen[call, word]) for word in SAYS.get(call, ()))
         print("  %-8s accepted %d%s; refused %s" % (call, seen[call, 0], said, refused))
+    for fault in (indexes.STALE, indexes.SHORT):
+        print("  %s beside no refusal or one: %s" % (fault, ", ".join(
+            "%s %d: %d" % (call, own, seen[call, fault, own])
+            for call, kind, own in FAULTS if kind == fault)))
     words = sorted(key for key in seen if isinstance(key, str))
     print("  " + ", ".join("%s %d" % (word, seen[word]) for word in words))
 

@@ -11,8 +11,8 @@ from checker.trees import (FALSE, TRUE, are_members, at_least, conjunction as al
                            disjunction as any_of, numbers)
 
 from . import expect
-from .library import Lent, sheet as lent_sheet
-from .lines import lent_lines
+from .indexes import beside, fresh_count, lent_index
+from .library import Lent, Numbers, sheet as lent_sheet
 
 CODES = [b"P", b"Q", b"R"]
 MOST = 2 ** 64 - 1
@@ -61,11 +61,11 @@ def sheet_of(body):
 
 def answers(comparing, body):
     """The refusals of a rule of these nodes, in a book and on a sheet."""
-    book = Lent(book_of(body))
+    book, sheet = Lent(book_of(body)), lent_sheet(sheet_of(body))
     of_book = [comparing.call("check", book)[0],
                comparing.call("load", book, lent_sheet([7] * LENGTH))[0]]
-    others = (("complete", ()), ("run", (1,)), ("report", (Lent([9] * len(CODES)),)),
-              ("key", (*lent_lines(), 2, True)))
+    others = (("complete", ()), ("index", (lent_index(sheet),)), ("run", (lent_index(sheet), 1)),
+              ("report", (Lent([9] * len(CODES)),)), ("key", (*beside(sheet), 2, True)))
     of_sheet = [comparing.call(name, lent_sheet(sheet_of(body)), *arguments)[0]
                 for name, arguments in others]
     return set(of_book), set(of_sheet)
@@ -118,11 +118,11 @@ def steps_beside_the_rules(comparing):
     for group in small_groups():
         sheet = lent_sheet([7] * LENGTH)
         comparing.done("load", Lent(build(CODES, [R, any_of(group, NOT_P)])), sheet)
-        start = list(sheet.values)
+        start, index = list(sheet.values), fresh_count(sheet.values)
         for rule, i, j in product(range(14, 19), range(len(group.children) + 2), range(2)):
             for place in (2, 3, 4):
-                comparing.call("step", lent_sheet(start), rule, place, i, j)
-        comparing.done("run", sheet, MOST)
+                comparing.call("step", lent_sheet(start), Numbers(index), rule, place, i, j)
+        comparing.done("run", sheet, Numbers(index), MOST)
 
 
 def weights(comparing):
@@ -135,7 +135,7 @@ def weights(comparing):
         expect(comparing.call("check", book) == (check, 0), "at-leasts: the weight of a book")
         if check == 0:
             comparing.done("load", book, sheet)
-            expect(comparing.call("key", sheet, *lent_lines(), 0, True) == (key, 0),
+            expect(comparing.call("key", sheet, *beside(sheet), 0, True) == (key, 0),
                    "at-leasts: the weight of a sheet")
 
 

@@ -10,6 +10,7 @@ from checker.trees import (FALSE, ROOT, TRUE, Tree, conjunction as all_of, disju
                            negative, positive)
 
 from . import expect
+from .indexes import beside, lent_index
 from .library import Lent, sheet as lent_sheet
 from .lines import lent_lines
 
@@ -31,15 +32,16 @@ def report(comparing, sheet):
 def books_to_try(comparing):
     for trees, choices, expected, steps, left in CASES:
         options = len(Tree(ROOT, trees).options)
-        sheet, lines = loaded(comparing, options, trees), lent_lines()
+        sheet = loaded(comparing, options, trees)
+        *lines, index = beside(sheet)
         for choice in choices:
-            comparing.done("key", sheet, *lines, *choice)
+            comparing.done("key", sheet, *lines, index, *choice)
         start, taken, after = list(sheet.values), [], [list(sheet.values)]
         due = (1, [3] * options) if expected is BAD else (0, expected)
         expect(report(comparing, sheet) == due, "a book to try: its report")
         while rules.house_step(sheet.values):
             taken.append(rules.house_step(sheet.values))
-            comparing.done("step", sheet, *taken[-1])
+            comparing.done("step", sheet, index, *taken[-1])
             after.append(list(sheet.values))
             expect(report(comparing, sheet) == due, "a book to try: its report after steps")
         expect(steps in (..., [step[0] for step in taken]), "a book to try: its steps")
@@ -47,7 +49,7 @@ def books_to_try(comparing):
                "a book to try: what is left")
         for budget in (*range(len(taken) + 2), MOST):
             again, count = lent_sheet(start), min(budget, len(taken))
-            value = comparing.done("run", again, budget)
+            value = comparing.done("run", again, lent_index(again), budget)
             expect(value == 2 * count + (count == len(taken)), "a book to try: its run")
             expect(again.values == after[count], "a book to try: its sheet after a run")
 
@@ -56,13 +58,14 @@ def single_steps(comparing):
     for before, (rule, place, i, j), after in STEPS:
         start = loaded(comparing, 3, before).values
         sheet = lent_sheet(start)
-        comparing.call("step", sheet, rule, place, i, j)
+        comparing.call("step", sheet, lent_index(sheet), rule, place, i, j)
         expect(sheet.values == (start if after is None else loaded(comparing, 3, after).values),
                "a single step of rule %d" % rule)
         for more in (1, 2, 65536, 2 ** 32, 2 ** 63):  # each number, moved off its value
             for wrong in ((rule + more, place, i, j), (rule, place + more, i, j),
                           (rule, place, i + more, j), (rule, place, i, j + more)):
-                comparing.call("step", lent_sheet(start), *wrong)
+                sheet = lent_sheet(start)
+                comparing.call("step", sheet, lent_index(sheet), *wrong)
 
 
 def executed_only(comparing):
@@ -81,8 +84,11 @@ def executed_only(comparing):
         expect(comparing.done("lookup", ends, Lent(code)) == option, "codes to character 13")
     # The checker needs minutes for this run: each step parses the sheet anew. What is due is known.
     trues = loaded(comparing, 0, [all_of(*[TRUE] * 4094)])
-    expect(comparing.library.call("run", [trues, MOST]) == (0, 2 * 4095 + 1), "4,094 trues: a run")
+    index = lent_index(trues)
+    expect(comparing.library.call("run", [trues, index, MOST]) == (0, 2 * 4095 + 1),
+           "4,094 trues: a run")
     trues.must_hold(empty.values)
+    index.must_hold(index.values)
 
 
 def of_weight(weight, options=2, wrong=None):
@@ -96,23 +102,23 @@ def of_weight(weight, options=2, wrong=None):
 
 def keyed(comparing, sheet, option, barred, lines=()):
     """(refusal, value) of a keying on an order with these lines."""
-    return comparing.call("key", sheet, *lent_lines(lines), option, barred)
+    return comparing.call("key", sheet, *beside(sheet, lines), option, barred)
 
 
 def orders_to_try(comparing):
     """Document 02's orders: each answer as written beside it, then the lines and the report."""
     for trees, first, made, left, report_due in ORDERS:
         book, sheet = Lent(build(CODES[:3], trees)), loaded(comparing, 3, trees)
-        lines, count = lent_lines(first)
+        lines, count, index = beside(sheet, first)
         for name, arguments, due in made:
             if name == "run":
-                given = comparing.call("run", sheet, *arguments)
+                given = comparing.call("run", sheet, index, *arguments)
             elif name == "key":
-                given = comparing.call("key", sheet, lines, count, *arguments)
+                given = comparing.call("key", sheet, lines, count, index, *arguments)
             else:
                 k, *other = arguments
                 lent = Lent(build(CODES[:3], *other)) if other else book
-                given = comparing.call("withdraw", sheet, lent, lines, count, k)
+                given = comparing.call("withdraw", sheet, lent, lines, count, index, k)
             expect(given == due, "an order to try: %s %s gives %s" % (name, arguments, given))
         expect((lines.held()[:len(left)], count.held()) == (left, [len(left)]),
                "an order to try: its lines")
@@ -125,14 +131,14 @@ def freed_slots(comparing):
     lines, count = lent_lines((at, at % 3 == 0) for at in range(64))  # no two alike
     codes = [b"C%d" % number for number in range(64)]
     book, sheet = Lent(build(codes, [])), loaded(comparing, 64, [], codes)
-    due = lines.held()
+    due, index = lines.held(), lent_index(sheet)
     for number in range(64):
         k, standing = (0, 31, 63)[number % 3] % (64 - number), 64 - number
         due[k:standing - 1] = due[k + 1:standing]  # and due[standing - 1] stays
-        comparing.done("withdraw", sheet, book, lines, count, k)
+        comparing.done("withdraw", sheet, book, lines, count, index, k)
         expect((lines.held(), count.held()) == (due, [standing - 1]), "a slot after a withdrawal")
     for number in range(64):
-        comparing.done("key", sheet, lines, count, 1, True)
+        comparing.done("key", sheet, lines, count, index, 1, True)
         due[number] = (1, True)
         expect((lines.held(), count.held()) == (due, [number + 1]), "a slot after a keying")
 
@@ -147,8 +153,8 @@ def weights_of_withdrawals(comparing):
             lines = [(at % 2, at % 2 == 1) for at in range(count)]
             due = 0 if count <= most else 8
             for k, number in ((0, due), (count - 1, due), (count, 13)):
-                sheet, (slots, standing) = lent_sheet(light), lent_lines(lines)
-                given = comparing.call("withdraw", sheet, book, slots, standing, k)
+                sheet = lent_sheet(light)
+                given = comparing.call("withdraw", sheet, book, *beside(sheet, lines), k)
                 expect(given == (number, 0), "book weight %d, %d lines: taking back %d" % (
                     weight, count, k))
 

@@ -4,14 +4,23 @@ from collections import Counter
 from checker import calls
 
 from . import Difference, expect
-from .library import CALLS, Lent
+from .indexes import SHORT, STALE, fault_of
+from .library import CALLS, Lent, NoNumbers
 
 # Documents 01 and 02, who can cause which refusal and their order, for each call.
 CAN_REFUSE = {
     "check": [1, 2, 3, 4, 5, 6], "lookup": [1, 2, 3, 4, 5, 6, 7], "load": [11, 1, 2, 3, 4, 5, 6],
     "write": [11, 1, 2, 3, 4, 5, 6, 12], "report": [11, 12], "complete": [11],
-    "key": [11, 14, 7, 8], "withdraw": [11, 1, 2, 3, 4, 5, 6, 13, 8], "step": [11, 9, 10],
-    "run": [11]}
+    "key": [11, 14, 7, 8, 12], "withdraw": [11, 1, 2, 3, 4, 5, 6, 13, 8, 12],
+    "step": [11, 9, 10, 12], "run": [11, 12], "index": [11, 12]}
+
+# What a call with an index can be refused without one, where there is a sheet to count: of these
+# each, and none, must stand beside each fault of an index.
+BESIDE_AN_INDEX = {"key": [11, 14, 7, 8], "withdraw": [11, 1, 2, 3, 4, 5, 6, 13, 8],
+                   "step": [9, 10], "run": []}
+FAULTS = [(call, fault, own) for call, refusals in BESIDE_AN_INDEX.items()
+          for fault in (STALE, SHORT) for own in [0] + refusals]
+NULL = "calls with a null index"
 
 # What the value of an accepted call says, where it says one of two things: by its lowest bit.
 SAYS = {"run": ("stopped", "settled"), "report": ("consistent", "contradictory"),
@@ -23,7 +32,9 @@ class Comparing:
 
     def __init__(self, library):
         self.library = library
-        self.seen = Counter()  # (call, refusal or 0), (call, what it says), and words for more
+        # (call, refusal or 0), (call, what it says), (call, what is wrong with its index, refusal
+        # or 0 that is due without one), and words for more
+        self.seen = Counter()
 
     def call(self, name, *arguments):
         """(refusal, value), the same of both."""
@@ -39,6 +50,9 @@ class Comparing:
         self.seen[name, refusal] += 1
         if refusal == 0 and name in SAYS:
             self.tally(name, SAYS[name][value % 2], arguments)
+        if name in BESIDE_AN_INDEX:
+            self.tally_index(name, values)
+            self.seen[NULL] += any(isinstance(argument, NoNumbers) for argument in arguments)
         return refusal, value
 
     @staticmethod
@@ -59,6 +73,14 @@ class Comparing:
             self.seen["complete sheets with options"] += 1
         if name == "report" and len(arguments[1].values) > arguments[0].values[0]:
             self.seen["roomier reports, " + said] += 1
+
+    def tally_index(self, name, values):
+        """What is wrong with an index, beside what is due without one."""
+        at = CALLS[name][1].index("I")
+        fault = fault_of(values[0], values[at])
+        if fault:
+            own, *_ = getattr(calls, name)(*values[:at], None, *values[at + 1:])
+            self.seen[name, fault, own] += 1
 
     def done(self, name, *arguments):
         """The value of a call that must not be refused."""

@@ -8,17 +8,17 @@ LIBRARY = Path(__file__).resolve().parent.parent.parent / "target/library/libnib
 
 from . import expect
 
-# Each call by its arguments: a lent run of bytes, of 16-bit numbers or of lines; a lent count of
-# lines, which has no length; or a number of some width. A capital letter marks what the call may
-# write.
+# Each call by its arguments: a lent run of bytes, of 16-bit numbers (a sheet, or an index) or of
+# lines; a lent count of lines, which has no length; or a number of some width. A capital letter
+# marks what the call may write.
 CALLS = {
     "check": ("nd_book_check", "b"), "lookup": ("nd_code_lookup", "bb"),
     "load": ("nd_load", "bS"), "write": ("nd_write", "sbB"),
     "report": ("nd_report", "sB"), "complete": ("nd_complete", "s"),
-    "key": ("nd_key", "SLC8?"), "withdraw": ("nd_withdraw", "SbLC8"),
-    "step": ("nd_step", "S8888"), "run": ("nd_run", "S8")}
+    "key": ("nd_key", "SLCI8?"), "withdraw": ("nd_withdraw", "SbLCI8"),
+    "step": ("nd_step", "SI8888"), "run": ("nd_run", "SI8"), "index": ("nd_index", "sI")}
 RUN = (ctypes.c_void_p, ctypes.c_size_t)
-ARGUMENTS = {"b": RUN, "B": RUN, "s": RUN, "S": RUN, "L": RUN, "C": (ctypes.c_void_p,),
+ARGUMENTS = {"b": RUN, "B": RUN, "s": RUN, "S": RUN, "L": RUN, "I": RUN, "C": (ctypes.c_void_p,),
              "8": (ctypes.c_uint64,), "?": (ctypes.c_bool,)}
 GUARD = 16  # elements before and after lent memory, which no call may write
 
@@ -70,7 +70,7 @@ class Lent:
 
 
 class Numbers(Lent):
-    """16-bit numbers: a sheet."""
+    """16-bit numbers: a sheet, or an index."""
     SIZE = 2
 
     @staticmethod
@@ -80,6 +80,16 @@ class Numbers(Lent):
     @staticmethod
     def read(memory):
         return array("H", bytes(memory)).tolist()
+
+
+class NoNumbers(Numbers):
+    """No numbers, by a null pointer."""
+
+    def __init__(self):
+        super().__init__([])
+
+    def arguments(self):
+        return [None, 0]
 
 
 class Count(Numbers):

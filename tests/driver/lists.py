@@ -1,5 +1,6 @@
 """Random lists of keyings, withdrawals, single steps and runs, from a loaded sheet and any lent
-lines, a report after each call, and the three parts of demand 3 on each list."""
+lines, a report after each call, and the three parts of demand 3 on each list. An index, filled from
+the loaded sheet, is lent on through the list; now and then a call is lent another one."""
 from checker import books, rules
 from checker.books import build
 from checker.demands import Account, cube, is_settled
@@ -7,7 +8,8 @@ from checker.sheets import LENGTH, root_of
 from checker.trees import AT_LEAST, Literal, preorder
 
 from . import Difference, expect
-from .library import Lent, sheet as lent_sheet
+from .indexes import PAST, fault_of, random_index
+from .library import Lent, Numbers, sheet as lent_sheet
 from .lines import random_line, random_lines
 from .making import CODES, random_book, random_rules
 
@@ -24,6 +26,12 @@ NOW_CHOICES = "withdrawals by which first lines become choices"
 WITHDRAWALS = (FROM_STOPPED, OTHER_RULES, NONE_LEFT, NOW_CHOICES)
 
 SETTLED_AT_LEASTS = "settled sheets with at-leasts"
+
+# Calls that must have been seen: with the index lent on, accepted and refused, and with another one
+# that was right.
+LENT_ON, LENT_ON_REFUSED = "calls with an index lent on", "refused calls with an index lent on"
+RIGHT_TOO = "calls with another right index"
+INDEXES = (LENT_ON, LENT_ON_REFUSED, RIGHT_TOO)
 
 
 def random_step(rng, sheet):
@@ -42,15 +50,40 @@ def random_step(rng, sheet):
 
 
 class Order:
-    """A sheet from loading on and its lines, with the account of what they are due to mean."""
+    """A sheet from loading on, its lines and its index, with the account of what they are due to
+    mean. `other` is an index that the next call is lent in place of the one lent on."""
 
-    def __init__(self, comparing, data, options, trees, lines, count):
+    def __init__(self, comparing, data, options, trees, lines, count, index):
         self.comparing, self.made, self.stopped = comparing, [], False
         self.book, self.sheet = Lent(data), lent_sheet([7] * LENGTH)
         self.options, self.lines, self.count = options, lines, count
+        self.index, self.other = index, None
         self.account = Account(trees, lines.values[:count.values[0]])
         comparing.done("load", self.book, self.sheet)
+        comparing.done("index", self.sheet, self.index)
         self.begin_stretch()
+
+    def call(self, name, before, *after):
+        """(refusal, value) of a call with an index, by what it is lent before the index and given
+        after it. The index lent on is right after each call, and so no call is refused for it; one
+        that a call was accepted with is lent on from there."""
+        index, seen, counts = self.other or self.index, self.comparing.seen, self.counts()
+        self.made.append((name, *after, *([] if self.other is None else ["index", index.values])))
+        refusal, value = self.comparing.call(name, self.sheet, *before, index, *after)
+        if index is self.index:
+            seen[LENT_ON if refusal == 0 else LENT_ON_REFUSED] += 1
+        elif refusal == 0:
+            self.index = index
+            seen[RIGHT_TOO] += 1
+        self.other = None
+        expect(fault_of(self.sheet.held(), self.index.held()) is None, "an index lent on is wrong")
+        if name in ("step", "run"):  # "no step raises any option's count"
+            expect(all(new <= old for new, old in zip(self.counts(), counts)), "a count is raised")
+        return refusal, value
+
+    def counts(self):
+        """How often each option is named, by the index lent on."""
+        return self.index.held()[:2 * self.options:2]
 
     def begin_stretch(self):
         """After loading and each accepted keying and withdrawal. `room` is the least, over all
@@ -71,17 +104,15 @@ class Order:
         expect(self.lines.held()[:count] == self.account.standing, "other lines than reckoned")
 
     def key(self, option, barred):
-        self.made.append(("key", option, barred))
-        if self.comparing.call("key", self.sheet, self.lines, self.count, option, barred)[0] == 0:
+        if self.call("key", (self.lines, self.count), option, barred)[0] == 0:
             self.account.key((option, barred))
             self.expect_lines()
             self.begin_stretch()
 
     def withdraw(self, data, k):
-        self.made.append(("withdraw", data.hex(" "), k))
+        self.made.append(("book", data.hex(" ")))
         book = Lent(data)
-        refusal, _ = self.comparing.call("withdraw", self.sheet, book, self.lines, self.count, k)
-        if refusal == 0:
+        if self.call("withdraw", (book, self.lines, self.count), k)[0] == 0:
             choices = self.account.choices
             self.account.withdraw(k, books.parse(data).rules)
             self.tally_withdrawal(book, choices)
@@ -98,14 +129,19 @@ class Order:
         seen[NOW_CHOICES] += len(now) > len(choices)
 
     def step(self, *step):
-        self.made.append(("step", *step))
-        if self.comparing.call("step", self.sheet, *step)[0] == 0:
+        if self.call("step", (), *step)[0] == 0:
             self.comparing.seen["rule %d" % step[0]] += 1
             self.count_steps(1)
 
     def run(self, budget):
-        self.made.append(("run", budget))
-        count, settled = divmod(self.comparing.done("run", self.sheet, budget), 2)
+        lent_on = self.other is None
+        refusal, value = self.call("run", (), budget)
+        expect(refusal == 0 or not lent_on, "a run with the index lent on is refused")
+        if refusal == 0:
+            self.count_run(budget, *divmod(value, 2))
+
+    def count_run(self, budget, count, settled):
+        """What an accepted run says, and the sheet that it leaves."""
         expect(count <= budget if settled else count == budget, "stopped with budget left")
         self.count_steps(count)
         self.stopped = not settled
@@ -168,6 +204,9 @@ def random_withdrawal(rng, order):
 
 
 def random_call(rng, order):
+    """Now and then with an index of its own, whatever it may be."""
+    if rng.random() < 0.2:
+        order.other = random_index(rng, order.sheet.values)
     way = rng.random()
     if way < 0.15:
         random_key(rng, order)
@@ -197,7 +236,8 @@ def one_list(comparing, rng):
     data, options, trees = random_book(rng)
     lines, count = random_lines(rng, options)
     first = lines.values[:5], len(lines.values), count.values[0]
-    order = Order(comparing, data, options, trees, lines, count)
+    index = Numbers([7] * (2 * options) + PAST[:rng.choice((0, 0, 1, 6))])
+    order = Order(comparing, data, options, trees, lines, count, index)
     try:
         order.report(rng.choice(ROOMS))
         if rng.random() < 0.2:

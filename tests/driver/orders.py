@@ -4,29 +4,31 @@ from checker.books import build
 from checker.sheets import LENGTH
 
 from . import expect
+from .indexes import beside
 from .library import Lent, sheet as lent_sheet
-from .lines import lent_lines, random_line
+from .lines import random_line
 from .making import CODES, random_rules
 
 
 class Order:
-    """A book loaded, on which lines are keyed and taken back."""
+    """A book loaded, on which lines are keyed and taken back, and an index lent on."""
 
     def __init__(self, comparing, options, trees):
         self.comparing, self.options = comparing, options
         self.book, self.sheet = Lent(build(CODES[:options], trees)), lent_sheet([7] * LENGTH)
-        self.lines, self.count = lent_lines()
         comparing.done("load", self.book, self.sheet)
+        self.lines, self.count, self.index = beside(self.sheet)
 
     def key(self, lines):
         for line in lines:
-            self.comparing.done("key", self.sheet, self.lines, self.count, *line)
+            self.comparing.done("key", self.sheet, self.lines, self.count, self.index, *line)
 
     def key_and_withdraw(self, line, at, lines, budget):
         """Keys the lines with one more at a place among them, runs, and takes that one back."""
         self.key(lines[:at] + [line] + lines[at:])
-        self.comparing.done("run", self.sheet, budget)
-        self.comparing.done("withdraw", self.sheet, self.book, self.lines, self.count, at)
+        self.comparing.done("run", self.sheet, self.index, budget)
+        self.comparing.done("withdraw", self.sheet, self.book, self.lines, self.count, self.index,
+                            at)
 
     def report(self):
         output = Lent([9] * self.options)
@@ -35,7 +37,7 @@ class Order:
     def reports(self):
         """Before a run and after it."""
         before = self.report()
-        self.comparing.done("run", self.sheet, 2 ** 64 - 1)
+        self.comparing.done("run", self.sheet, self.index, 2 ** 64 - 1)
         return before, self.report()
 
 
@@ -60,7 +62,8 @@ def taken_back(comparing, rng, options, trees, lines, due):
     kept.key(lines)
     order.key_and_withdraw(random_line(rng, options), rng.randint(0, len(lines)), lines,
                            rng.choice((0, 1, 2, 2 ** 64 - 1)))
-    expect(order.sheet.held() == kept.sheet.held(), "a line taken back has left a trace")
+    expect((order.sheet.held(), order.index.held()) == (kept.sheet.held(), kept.index.held()),
+           "a line taken back has left a trace")
     expect(order.lines.held()[:len(lines)] == lines, "a line taken back has changed others")
     expect(order.reports() == due, "a line taken back, another report")
 

@@ -8,7 +8,8 @@ from checker.cases import NOT_P, NOT_Q, P, Q
 from checker.sheets import LENGTH
 from checker.trees import TRUE, at_least, conjunction as all_of, disjunction as any_of, positive
 
-from .library import Lent, sheet as lent_sheet
+from .indexes import PAST, beside, fresh_count
+from .library import Lent, NoNumbers, Numbers, sheet as lent_sheet
 from .lines import lent_lines
 
 BOOK = build([b"P", b"Q-7"], [P, any_of(P, all_of(NOT_P, Q)), at_least(2, NOT_Q, TRUE, P),
@@ -28,25 +29,33 @@ def on_book(comparing, data):
     comparing.call("load", book, lent_sheet(BLANK))
     comparing.call("write", lent_sheet(SHEET), book, output)
     for lines, k in ((LINES, 1), (LINES, 2), ([(2, True)], 0)):  # in order; no such line; no option
-        comparing.call("withdraw", lent_sheet(SHEET), book, *lent_lines(lines), k)
+        sheet = lent_sheet(SHEET)
+        comparing.call("withdraw", sheet, book, *beside(sheet, lines), k)
+    for index in (NoNumbers(), Numbers(PAST[:4])):  # short; stale
+        comparing.call("withdraw", lent_sheet(SHEET), book, *lent_lines(LINES), index, 0)
 
 
 def on_sheet(comparing, values):
     """Every call that reads a sheet, with arguments that are right and with others."""
-    options = min(values[0], 600) if values else 0
+    options, right = min(values[0], 600) if values else 0, fresh_count(values)
     for option, barred in ((0, False), (1, True), (options, False), (65535, True)):
-        comparing.call("key", lent_sheet(values), *lent_lines(LINES), option, barred)
+        comparing.call("key", lent_sheet(values), *lent_lines(LINES), Numbers(right), option,
+                       barred)
     for step in ((10, 0, 0, 0), (4, 11, 1, 0), (15, 7, 1, 0), (0, 0, 0, 0), (18, 0, 0, 0),
                  (9, 9, 9, 9)):
-        comparing.call("step", lent_sheet(values), *step)
-    for budget in (0, 1, 2 ** 64 - 1):
-        comparing.call("run", lent_sheet(values), budget)
+        comparing.call("step", lent_sheet(values), Numbers(right + PAST), *step)
+    for index in (Numbers(right), Numbers(PAST), NoNumbers(), Numbers(fresh_count(SHEET))):
+        comparing.call("run", lent_sheet(values), index, 1)
+        comparing.call("index", lent_sheet(values), index)
+    for budget in (0, 2 ** 64 - 1):
+        comparing.call("run", lent_sheet(values), Numbers(right), budget)
     for length in {max(0, options - 1), options, options + 1, 512, 600}:
         comparing.call("report", lent_sheet(values), Lent([9] * length))
     comparing.call("complete", lent_sheet(values))
     for book in (BOOK, OTHER_BOOK, BOOK[:-1]):
         comparing.call("write", lent_sheet(values), Lent(book), Lent([9] * len(BOOK)))
-        comparing.call("withdraw", lent_sheet(values), Lent(book), *lent_lines(LINES), 0)
+        comparing.call("withdraw", lent_sheet(values), Lent(book), *lent_lines(LINES),
+                       Numbers(right), 0)
 
 
 def damaged_books(comparing, rng, pairs=150):
@@ -100,7 +109,7 @@ def full_sheets(comparing):
         sheet = lent_sheet(BLANK)
         comparing.done("load", Lent(build([b"P", b"Q"], [any_of(*children)])), sheet)
         for option in (2, 0, 1, 65535):
-            comparing.call("key", sheet, *lent_lines(), option, True)
+            comparing.call("key", sheet, *beside(sheet), option, True)
         comparing.call("report", sheet, Lent([9] * 2))
     for marks in (2047, 2048):  # a sheet by all but its weight
         nodes = [20481, 16384 + marks] + [4096] * marks

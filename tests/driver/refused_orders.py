@@ -1,15 +1,16 @@
 """Every refusal of keyings and withdrawals: faults of the sheet, the book, the lines, the line that
 is taken back, the option and the room, each alone and all that can stand together, which must be
 answered in the order that documents 01 and 02 give. What is due is the checker's answer; that
-nothing lent was written is compared with every call."""
+nothing lent was written is compared with every call. (Faults of an index: mentions.)"""
 from checker.books import build
 from checker.calls import load
 from checker.cases import NOT_P, P, Q
 from checker.keying import SLOTS
 from checker.trees import TRUE, at_least, disjunction as any_of
 
-from .library import Count, Lent, Lines, sheet as lent_sheet
-from .lines import SPARE, any_slots, lent_lines
+from .indexes import PAST, beside, fresh_count, lent_index
+from .library import Count, Lent, Lines, Numbers, sheet as lent_sheet
+from .lines import SPARE, any_slots
 from .refusals import BLANK, BOOK, OTHER_BOOK, SHEET
 
 FULL_BOOK = build([b"P", b"Q-7"], [TRUE, any_of(TRUE, *[Q] * 2046)])  # weight 4,096
@@ -50,10 +51,11 @@ def lists():
 
 def keyings(comparing):
     for sheet in (SHEET, FULL_SHEET, NO_SHEET, SHEET[:-1]):
+        index = fresh_count(sheet) + PAST
         for slots, count in lists():
             for option in OPTIONS:
-                comparing.call("key", lent_sheet(sheet), Lines(slots), Count(count), option,
-                               option % 2 == 1)
+                comparing.call("key", lent_sheet(sheet), Lines(slots), Count(count),
+                               Numbers(index), option, option % 2 == 1)
 
 
 def withdrawals(comparing):
@@ -61,10 +63,11 @@ def withdrawals(comparing):
     several = [(sheet, book) for sheet in (SHEET, NO_SHEET, SHEET[:-1])
                for book in (BOOK, OTHER_BOOK)]
     for sheet, book in several + [(SHEET, FULL_BOOK), (FULL_SHEET, BOOK)]:
+        index = fresh_count(sheet)
         for slots, count in lists():
             for k in {0, max(0, count - 1), count, 64, 65_536, 2 ** 32, 2 ** 63, MOST}:
                 comparing.call("withdraw", lent_sheet(sheet), Lent(book), Lines(slots),
-                               Count(count), k)
+                               Count(count), Numbers(index), k)
 
 
 def withdrawals_with_bad_books(comparing):
@@ -73,12 +76,14 @@ def withdrawals_with_bad_books(comparing):
             for slots, count in lists()[::3]:
                 for k in (0, 64):
                     comparing.call("withdraw", lent_sheet(sheet), Lent(book), Lines(slots),
-                                   Count(count), k)
+                                   Count(count), Numbers(fresh_count(SHEET)), k)
 
 
 def on_lines(comparing, slots, count, k=0):
-    comparing.call("key", lent_sheet(SHEET), Lines(slots), Count(count), 1, True)
-    comparing.call("withdraw", lent_sheet(SHEET), Lent(BOOK), Lines(slots), Count(count), k)
+    for name, books, arguments in (("key", (), (1, True)), ("withdraw", (Lent(BOOK),), (k,))):
+        sheet = lent_sheet(SHEET)
+        comparing.call(name, sheet, *books, Lines(slots), Count(count), lent_index(sheet),
+                       *arguments)
 
 
 def every_slot(comparing):
@@ -103,7 +108,8 @@ def every_k(comparing):
     for count in (0, 1, 2, 3, 63, 64):
         for k in range(count + 2):
             for more in (0, 256, 65_536, 2 ** 32, 2 ** 63):
-                comparing.call("withdraw", lent_sheet(SHEET), Lent(BOOK), *lent_lines(good[:count]),
+                sheet = lent_sheet(SHEET)
+                comparing.call("withdraw", sheet, Lent(BOOK), *beside(sheet, good[:count]),
                                k + more)
 
 

@@ -1,5 +1,6 @@
 """Random theories by document 003's Figure 3, larger than the checker's toy books: the report,
-before a run and after it, against unit propagation on the multiplied-out clauses, where these fit."""
+before a run and after it, against unit propagation on the multiplied-out clauses, where these fit;
+and the index, filled before the run, after it."""
 import time
 from typing import NamedTuple
 
@@ -11,7 +12,8 @@ from checker.trees import (CONJUNCTION, DISJUNCTION, NEGATIVE, POSITIVE, ROOT, L
                            preorder, weight)
 
 from . import expect
-from .library import Lent, sheet as lent_sheet
+from .indexes import PAST, fresh_count
+from .library import Lent, Numbers, sheet as lent_sheet
 
 LIMIT = 100_000  # most literals in the clauses of a theory
 CODES = [b"V%d" % number for number in range(512)]
@@ -121,12 +123,23 @@ def by_report(library, sheet, variables):
     return None if contradictory else facts, cost
 
 
+def filled_index(library, sheet):
+    """An index that was filled from a sheet; it held anything before."""
+    count = fresh_count(sheet.held())
+    index = Numbers([7] * len(count) + PAST)
+    expect(library.call("index", [sheet, index]) == (0, 0), "a theory's index is not filled")
+    index.must_hold(count + PAST)
+    return index
+
+
 def by_run(library, sheet, facts):
     """(literals left on the settled sheet, milliseconds)"""
-    (refusal, value), cost = timed(lambda: library.call("run", [sheet, 2 ** 64 - 1]))
+    index = filled_index(library, sheet)
+    (refusal, value), cost = timed(lambda: library.call("run", [sheet, index, 2 ** 64 - 1]))
     expect(refusal == 0 and value % 2 == 1, "a theory's run does not settle")
     after = sheet.held()
     expect(is_settled(after, facts), "a theory settled, but not as demand 3 says")
+    index.must_hold(fresh_count(after) + PAST)
     return literals_in(root_of(after)), cost
 
 

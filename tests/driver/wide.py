@@ -9,8 +9,8 @@ from checker.trees import (CONJUNCTION, DISJUNCTION, FALSE, ROOT, TRUE, Tree, at
                            positive, weight)
 
 from . import expect
+from .indexes import beside
 from .library import Lent, sheet as lent_sheet
-from .lines import lent_lines
 from .theories import CODES as MANY_CODES, by_report, by_run
 
 OPTIONS = 63
@@ -26,11 +26,12 @@ class Order:
     """An order on a book with wide at-leasts."""
 
     def __init__(self, comparing, trees):
-        self.comparing, self.sheet, self.lines = comparing, lent_sheet([7] * LENGTH), lent_lines()
+        self.comparing, self.sheet = comparing, lent_sheet([7] * LENGTH)
         comparing.done("load", Lent(build(CODES, trees)), self.sheet)
+        *self.lines, self.index = beside(self.sheet)
 
     def key(self, option, barred):
-        self.comparing.done("key", self.sheet, *self.lines, option, barred)
+        self.comparing.done("key", self.sheet, *self.lines, self.index, option, barred)
 
     def report(self):
         self.comparing.seen[TOO_MANY] += meaning.is_too_much(root_of(self.sheet.values))
@@ -42,7 +43,7 @@ class Order:
         """Runs, the last to the end; the report must stay."""
         before = self.report()
         for budget in (*budgets, MOST):
-            self.comparing.done("run", self.sheet, budget)
+            self.comparing.done("run", self.sheet, self.index, budget)
         expect(self.report() == before, "a run changed the report of a wide at-least")
 
 

@@ -1,20 +1,12 @@
 """The example in C that changes its mind, beside the checker: choices keyed, lines taken back, and
 what is printed before each taking back and at the end. From the folder above:
 python3 -m library.changes"""
-import subprocess
-import tempfile
-from pathlib import Path
-
 from checker import Refused, desk, keying, rules, sheets
 from checker.books import build
 from checker.trees import TRUE, disjunction as any_of, positive
-from desk.cases import EXAMPLES, TOP
 from driver.comparing import Difference
+from library.examples import BUDGET, LANGUAGES, SAMPLE, compare, keyed
 
-PROGRAMS = {"C": TOP / "target/library/change", "C++": TOP / "target/library/change-c++"}
-BUDGET = 100_000
-
-SAMPLE = (EXAMPLES / "book.bin").read_bytes()
 # Weight 4,096: a run makes room, and what is keyed there cannot always be taken back.
 FULL = build([b"P", b"Q"], [TRUE, any_of(TRUE, *[positive(0)] * 2046)])
 CASES = [
@@ -24,7 +16,7 @@ CASES = [
     (SAMPLE, ("-BATT-LI", "0", "-BATT-LI", "0", "-BATT-LI")),
     (SAMPLE, ("0",)), (SAMPLE, ("+LID-STEEL", "1")), (SAMPLE, ("+LID-STEEL", "4294967296")),
     (SAMPLE, ("+LID-STEEL", "18446744073709551616")), (SAMPLE, ("+LID-STEEL", "+NONE", "0")),
-    (SAMPLE, ("+BODY-A",) * 64), (SAMPLE, ("+BODY-A",) * 65),
+    (SAMPLE, ("+BODY-A",) * 64), (SAMPLE, ("+BODY-A",) * 65), (SAMPLE, ("+BODY-A",) * 64 + ("+X",)),
     (SAMPLE, ("+BODY-A",) * 64 + ("63", "-BODY-B", "-BODY-C")),
     (FULL, ("+P",)), (SAMPLE[:-1], ("+LID-STEEL", "0"))]
 
@@ -49,7 +41,7 @@ class Order:
                 self.sheet, self.book, self.lines, self.count, k)
             self.text += b"line %d taken back, %d left\n" % (k, self.count)
         else:
-            self.sheet, self.lines, self.count = desk.keyed(self.book, *order, word.encode())
+            self.sheet, self.lines, self.count = keyed(self.book, *order, word)
 
 
 def due(book, words):
@@ -66,27 +58,13 @@ def due(book, words):
     return order.text
 
 
-def compare(programs):
-    with tempfile.TemporaryDirectory() as folder:
-        path = Path(folder) / "book.bin"
-        for book, words in CASES:
-            path.write_bytes(book)
-            for language, program in programs.items():
-                ran = subprocess.run([str(program), str(path), *words], capture_output=True,
-                                     timeout=60)
-                given = ran.stdout + ran.stderr
-                if ran.returncode != 0 or given != due(book, words):
-                    raise Difference("%s, %s: printed %r, due %r" % (
-                        language, " ".join(words)[:99], given, due(book, words)))
-
-
 def main():
     try:
-        compare(PROGRAMS)
+        count = compare("change", ((book, words, due(book, words)) for book, words in CASES))
     except Difference as difference:
         raise SystemExit("changes: %s" % difference)
     print("changes: %d orders with lines taken back, %s and the checker print the same" % (
-        len(CASES), ", ".join(PROGRAMS)))
+        count, ", ".join(LANGUAGES)))
 
 
 if __name__ == "__main__":

@@ -1,5 +1,6 @@
 """The Python module: every refusal that each call can give, memory beside and under what is lent,
-orders, reports and runs beside the checker's. From the folder above: python3 -m library.module"""
+orders, reports, runs and indexes beside the checker's. From the folder above:
+python3 -m library.module"""
 import ctypes
 import random
 import sys
@@ -9,13 +10,17 @@ from pathlib import Path
 
 from checker import calls
 from checker.books import build
-from checker.cases import CASES, CODES, NOT_P, ORDERS, P, Q
+from checker.cases import CASES, CODES, ORDERS, P
 from checker.keying import SLOTS
+from checker.mentions import NO_PLACE
 from checker.sheets import LENGTH
-from checker.trees import TRUE, at_least, conjunction as all_of, disjunction as any_of
+from checker.trees import disjunction as any_of
 from driver.comparing import CAN_REFUSE
+from driver.indexes import PAST, fresh_count
 from driver.making import random_book
-from library.lending import SPARE, Count, Lent, Lines, lend, slots
+from library.lending import SPARE, Lent, lend, slots
+from library.refusing import (AT, BAD_BOOKS, BLANK, BOOK, FULL_BOOK, INDEX, LINES, NO_SHEETS,
+                              OTHER_BOOK, SHEET, all_refusals)
 
 sys.path.insert(0, str(Path(__file__).resolve().parent.parent.parent / "python"))
 import nibdrumlin  # noqa: E402
@@ -23,20 +28,7 @@ from nibdrumlin import Book, LibraryMissing, Order, Refused, Slot, State  # noqa
 
 MOST = 2 ** 64 - 1
 RANDOM_BOOKS = 150
-SECONDS = 2
-
-BOOK = build([b"P", b"Q-7"], [P, any_of(P, all_of(NOT_P, Q)), at_least(2, NOT_P, TRUE, Q),
-                              all_of(Q, TRUE)])
-OTHER_BOOK = build([b"P"], [P])  # another number of options
-FULL_BOOK = build([b"P"], [any_of(*[P] * 2047)])
-BLANK = [7] * LENGTH
-SHEET = calls.load(BLANK, BOOK)[2][0]
-FULL_SHEET = calls.load(BLANK, FULL_BOOK)[2][0]
-AT = SHEET.index(at_least(2, NOT_P, TRUE, Q).number())  # where the at-least stands
-NO_SHEETS = [SHEET[:-1], SHEET + [0], [], [513] + SHEET[1:], SHEET[:-1] + [1],
-             SHEET[:2] + [SHEET[2] + 1] + SHEET[3:],
-             SHEET[:AT + 1] + [Q.number()] + SHEET[AT + 2:]]  # a member's option a second time
-LINES = [(1, True), (0, False)]
+SECONDS = 3
 SYMBOLS = {"check": "nd_book_check", "lookup": "nd_code_lookup"}
 
 
@@ -47,28 +39,6 @@ class Failed(Exception):
 def expect(holds, what):
     if not holds:
         raise Failed(what)
-
-
-def changed(data, at, value):
-    return data[:at] + bytes([value]) + data[at + 1:]
-
-
-# Document 01's refusals of a book, each by one fault; 1 by two.
-BAD_BOOKS = [
-    (1, b""), (1, BOOK[:7]), (1, BOOK[:-1]), (1, BOOK + b"\0"),
-    (2, changed(BOOK, 6, 1)), (2, changed(BOOK, 1, 3)),
-    (3, changed(BOOK, 8, 0)), (3, changed(BOOK, 9, ord("_"))),
-    (3, build([b"P", b"P"], [P])),
-    (4, changed(BOOK, 8 + 2 * 13, 1)), (4, changed(BOOK, 8 + 2 * 13 + 2, 0)),
-    (5, changed(BOOK, len(BOOK) - 1, 0x50)), (5, build([b"P"], [Q])),
-    (5, build([b"P"], [at_least(1, P, NOT_P)])), (5, build([b"P"], [at_least(1, any_of(P))])),
-    (6, build([b"P"], [any_of(*[P] * 2048)]))]
-
-
-# Lines that are not in order on a sheet of two options.
-BAD_LINES = [(Lines(LINES), Count(2)), (Lines(SPARE + SPARE[:1]), Count(0)), (Lines(), Count(0)),
-             (Lines([(0, True)] * 64), Count(65)), (Lines([(0, True)] * 64), Count(65_535)),
-             slots([(2, False)]), slots([(0, True), (65_535, False)])]
 
 
 def number_of(work, *arguments):
@@ -83,66 +53,11 @@ def number_of(work, *arguments):
     return 0
 
 
-def book_refusals():
-    """(call, refusal due, arguments) for every fault of a book."""
-    for number, data in BAD_BOOKS:
-        yield "check", number, (data,)
-        yield "lookup", number, (data, b"")  # the book's comes before 7
-        yield "load", number, (data, BLANK)
-        yield "write", number, (SHEET, data, b"")  # and before 12
-        yield "withdraw", number, (SHEET, data, *BAD_LINES[0], 9)  # and before 11 for the lines
-        yield "load", 11, (data, BLANK[:-1])  # and after 11 for the sheet
-    for code in (b"", b"Q", b"Q-7\0", b"p", b"P" * 14):
-        yield "lookup", 7, (BOOK, code)
-
-
-def sheet_refusals():
-    """The same for every fault of a sheet, a choice, a step or an output."""
-    for sheet in NO_SHEETS:
-        yield "write", 11, (sheet, b"", b"")
-        yield "report", 11, (sheet, b"")
-        yield "complete", 11, (sheet,)
-        yield "key", 11, (sheet, *slots([(0, True)] * 64), 9, True)
-        yield "withdraw", 11, (sheet, b"", *slots(), 9)
-        yield "step", 11, (sheet, 0, 0, 0, 0)
-        yield "run", 11, (sheet, 0)
-    for length in (0, 1, LENGTH - 1, LENGTH + 1):
-        yield "load", 11, (BOOK, [7] * length)
-    yield "write", 11, (SHEET, OTHER_BOOK, b"")
-    yield "write", 12, (SHEET, BOOK, bytes(len(BOOK) - 1))
-    for length in (0, 1):
-        yield "report", 12, (SHEET, bytes(length))
-    for rule in (0, 18, 2 ** 64 + 10, -1):
-        yield "step", 9, (SHEET, rule, 99, 99, 99)
-    for step in ((9, 0, 0, 0), (10, 0, 0, 1), (10, 2 ** 64, 0, 0), (10, 0, 2 ** 64, 0),
-                 (10, 0, 0, -1), (15, AT - 2, 0, 0), (16, AT - 2, 0, 0), (17, AT - 2, 0, 0)):
-        yield "step", 10, (SHEET, *step)
-
-
-def order_refusals():
-    """The same for every fault of a keying or of a withdrawal."""
-    for lines, count in BAD_LINES:
-        yield "key", 11, (SHEET, lines, count, 9, True)
-        yield "withdraw", 11, (SHEET, BOOK, lines, count, 99)
-    yield "withdraw", 11, (SHEET, OTHER_BOOK, *slots(LINES), 99)
-    full = [(0, False)] * SLOTS
-    for sheet, option in ((SHEET, 0), (SHEET, 2), (FULL_SHEET, 0), (FULL_SHEET, 1)):
-        yield "key", 14, (sheet, *slots(full), option, True)
-    for option in (2, 65_535, 65_536, 2 ** 64, -1):  # not narrowed: 65,536 is not option 0
-        yield "key", 7, (SHEET, *slots(full[1:]), option, False)
-    yield "key", 7, (FULL_SHEET, *slots(), 1, False)
-    yield "key", 8, (FULL_SHEET, *slots(), 0, True)
-    for k in (2, 64, 65_536, 2 ** 32, 2 ** 64, -1):
-        yield "withdraw", 13, (SHEET, BOOK, *slots(LINES), k)
-        yield "withdraw", 13, (FULL_SHEET, FULL_BOOK, *slots(full[:2]), k)
-    yield "withdraw", 8, (FULL_SHEET, FULL_BOOK, *slots(full[:2]), 1)
-
-
 def check_refusals():
     """Each is the one due, and nothing lent nor beside it was written."""
     seen = {call: set() for call in CAN_REFUSE}
     count = 0
-    for call, due, arguments in [*book_refusals(), *sheet_refusals(), *order_refusals()]:
+    for call, due, arguments in all_refusals():
         given = [lend(value) for value in arguments]
         lent = [value for value in given if hasattr(value, "part")]
         plain = [value.part if value in lent else value for value in given]
@@ -168,16 +83,29 @@ def check_accepted():
     _, bad, (due,) = calls.report(SHEET, [9] * 5)
     expect((contradictory, states.part.tolist()) == (bool(bad), due), "nd_report differs")
     lines, count = map(lend, slots(LINES))
-    nibdrumlin.nd_key(sheet.part, lines.part, count.part, 1, True)
+    index = Lent([7] * 4 + PAST)
+
+    def expect_index(call):
+        expect(index.part.tolist() == fresh_count(sheet.part.tolist()) + PAST, call + ": its index")
+    expect(nibdrumlin.nd_index(sheet.part, index.part) is None, "nd_index: it has no value")
+    expect_index("nd_index")
+    nibdrumlin.nd_key(sheet.part, lines.part, count.part, index.part, 1, True)
     expect(lines.held() == LINES + [(1, True)] + SPARE[3:] and count.part[0] == 3, "nd_key: lines")
-    nibdrumlin.nd_withdraw(sheet.part, BOOK, lines.part, count.part, 0)
+    expect_index("nd_key")
+    nibdrumlin.nd_withdraw(sheet.part, BOOK, lines.part, count.part, index.part, 0)
     expect(lines.held() == [(0, False), (1, True), (1, True)] + SPARE[3:] and count.part[0] == 2,
            "nd_withdraw: lines")
-    due = calls.withdraw(SHEET, BOOK, LINES + [(1, True)] + SPARE[3:], [3], 0)[2][0]
+    due = calls.withdraw(SHEET, BOOK, LINES + [(1, True)] + SPARE[3:], [3], INDEX, 0)[2][0]
     expect(sheet.part.tolist() == due, "nd_withdraw: the sheet differs")
-    nibdrumlin.nd_run(sheet.part, MOST)
-    expect(all(lent.has_guards() for lent in (sheet, out, states, lines, count)),
+    expect_index("nd_withdraw")
+    nibdrumlin.nd_step(sheet.part, index.part, 10, 0, 0, 0)
+    expect_index("nd_step")
+    nibdrumlin.nd_run(sheet.part, index.part, MOST)
+    expect_index("nd_run")
+    expect(all(lent.has_guards() for lent in (sheet, out, states, lines, count, index)),
            "a guard was written")
+    expect(all("index" in nibdrumlin.MEANINGS[number] for number in (11, 12)),
+           "the meanings of 11 and 12 say nothing of an index")
 
 
 def check_books():
@@ -216,6 +144,19 @@ def check_refused_orders():
         expect(number_of(work, *arguments) == number, "Order: refusal %d is due" % number)
         expect((held.numbers.tobytes(), held.lines, held.book) == before,
                "Order: a refused call changed it")
+        expect_mentions(held)
+    for option in ("Q", b"", 2, 65_536):
+        expect(number_of(order.mentions, option) == 7, "Order: mentions of %r" % option)
+
+
+def expect_mentions(order):
+    """What an order says of each option, by number and by code: the fresh count of its sheet."""
+    index = fresh_count(order.numbers.tolist())
+    for option, code in enumerate(order.book.codes):
+        count, place = index[2 * option:2 * option + 2]
+        due = count, None if place == NO_PLACE else place
+        for name in (option, code, code.encode()):
+            expect(tuple(order.mentions(name)) == due, "Order: mentions of %r" % name)
 
 
 def check_kept_orders():
@@ -228,11 +169,13 @@ def check_kept_orders():
         expect(number_of(Order.from_numbers, Book(BOOK), SHEET, lines) == 11, "Order: bad lines")
     kept = Order.from_numbers(Book(BOOK), SHEET, LINES)
     expect(kept.lines == tuple(LINES) and kept.numbers.tolist() == SHEET, "Order: kept elsewhere")
+    expect_mentions(kept)
     due = SHEET
     for step in ((10, 0, 0, 0), (15, AT - 2, 0, 0), (15, AT - 2, 0, 0), (17, AT - 2, 0, 0)):
         kept.step(*step)
-        due = calls.step(due, *step)[2][0]
+        due = calls.step(due, None, *step)[2][0]
         expect(kept.numbers.tolist() == due, "Order: a step of rule %d" % step[0])
+        expect_mentions(kept)
 
 
 def check_orders():
@@ -250,6 +193,7 @@ def check_orders():
                 arguments = (k, *[Book(build(CODES[:3], trees)) for trees in other])
             given = number_of(getattr(order, name), *arguments)
             expect(given == refusal, "an order: %s is refused %d, due %d" % (name, given, refusal))
+            expect_mentions(order)
         expect(order.lines == tuple(left), "an order: its lines")
         expect(list(order.report().states.values()) == report, "an order: its report")
     return len(ORDERS)
@@ -266,7 +210,7 @@ def raises(error, work, *arguments):
 def check_misuse():
     """What Python itself must refuse: other widths, memory that cannot be written."""
     order, nd_key = Order(Book(BOOK)), nibdrumlin.nd_key
-    lines = (Slot * SLOTS)()
+    lines, index = (Slot * SLOTS)(), array("H", INDEX)
     for name, error, work, arguments in [
             ("a sheet of bytes", TypeError, nibdrumlin.nd_complete, (bytes(2 * LENGTH),)),
             ("a book of 16-bit numbers", TypeError, nibdrumlin.nd_book_check, (array("H", [0] * 4),)),
@@ -274,15 +218,20 @@ def check_misuse():
              (order.numbers, bytes(2))),
             ("every second byte", TypeError, nibdrumlin.nd_book_check, (memoryview(BOOK)[::2],)),
             ("lines that are no slots", TypeError, nd_key,
-             (order.numbers, array("I", [0] * SLOTS), ctypes.c_uint16(0), 0, False)),
+             (order.numbers, array("I", [0] * SLOTS), ctypes.c_uint16(0), index, 0, False)),
             ("a list for slots", TypeError, nd_key,
-             (order.numbers, [(0, True)] * SLOTS, ctypes.c_uint16(0), 0, False)),
+             (order.numbers, [(0, True)] * SLOTS, ctypes.c_uint16(0), index, 0, False)),
             ("a count of two numbers", TypeError, nd_key,
-             (order.numbers, lines, array("H", [0, 0]), 0, False)),
+             (order.numbers, lines, array("H", [0, 0]), index, 0, False)),
             ("a count of 32 bits", TypeError, nd_key,
-             (order.numbers, lines, ctypes.c_uint32(0), 0, False)),
+             (order.numbers, lines, ctypes.c_uint32(0), index, 0, False)),
             ("a count that is read-only", TypeError, nd_key,
-             (order.numbers, lines, bytes(2), 0, False)),
+             (order.numbers, lines, bytes(2), index, 0, False)),
+            ("an index of 32 bits", TypeError, nibdrumlin.nd_index,
+             (order.numbers, array("I", [0] * 9))),
+            ("an index of bytes", TypeError, nibdrumlin.nd_run, (order.numbers, bytearray(9), 0)),
+            ("an index that is read-only", TypeError, nibdrumlin.nd_step,
+             (order.numbers, memoryview(index).toreadonly(), 0, 0, 0, 0)),
             ("a negative budget", ValueError, order.run, (-1,))]:
         expect(raises(error, work, *arguments), "%s: %s is due" % (name, error.__name__))
     expect(issubclass(LibraryMissing, Exception) and not issubclass(LibraryMissing, Refused),
@@ -295,12 +244,12 @@ def compare(data, options, keyed, budget):
     order, (due, lines, count) = Order(Book(data)), (calls.load(BLANK, data)[2][0], SPARE, [0])
     for option, barred in keyed:
         order.key(option, barred)
-        due, lines, count = calls.key(due, lines, count, option, barred)[2]
+        due, lines, count, _ = calls.key(due, lines, count, None, option, barred)[2]
     due = compare_sheets(order, due, options, budget)
     for left in range(len(keyed), 0, -1):
         expect(order.lines == tuple(lines[:left]), "the lines differ")
         order.withdraw((left - 1) // 2)
-        due, lines, count = calls.withdraw(due, data, lines, count, (left - 1) // 2)[2]
+        due, lines, count, _ = calls.withdraw(due, data, lines, count, None, (left - 1) // 2)[2]
         due = compare_sheets(order, due, options, budget)
     expect(order.lines == (), "there are lines where none is due")
 
@@ -309,6 +258,7 @@ def compare_sheets(order, due, options, budget):
     """What can be asked of a sheet, before a run and after it; the checker's sheet after it."""
     for _ in range(2):
         expect(order.numbers.tolist() == due, "the sheet differs")
+        expect_mentions(order)
         _, bad, (states,) = calls.report(due, [9] * options)
         given = order.report()
         expect(given.contradictory == bool(bad), "contradictory differs")
@@ -318,7 +268,7 @@ def compare_sheets(order, due, options, budget):
         expect(order.is_complete() == bool(calls.complete(due)[1]), "complete differs")
         again = Order(Book(order.write()))
         expect(again.numbers == order.numbers, "written and loaded is another sheet")
-        ran, (_, value, (due,)) = order.run(budget), calls.run(due, budget)
+        ran, (_, value, (due, _)) = order.run(budget), calls.run(due, None, budget)
         expect((ran.steps, ran.settled) == (value // 2, value % 2 == 1), "the run differs")
     return due
 

@@ -27,7 +27,7 @@ typedef char line_is_four_bytes[sizeof(struct nd_line) == 4 ? 1 : -1];
 typedef char negative_is_the_third[offsetof(struct nd_line, negative) == 2 ? 1 : -1];
 
 enum call {
-    NOTHING, CHECK, LOOKUP, LOAD, WRITE, KEY, WITHDRAW, STEP, RUN, REPORT, COMPLETE, CALLS
+    NOTHING, CHECK, LOOKUP, LOAD, WRITE, INDEX, KEY, WITHDRAW, STEP, RUN, REPORT, COMPLETE, CALLS
 };
 
 static const struct {
@@ -39,6 +39,7 @@ static const struct {
     {"nd_code_lookup", ND_STACK_BOOK},
     {"nd_load", ND_STACK_SHEET},
     {"nd_write", ND_STACK_SHEET},
+    {"nd_index", ND_STACK_SHEET},
     {"nd_key", ND_STACK_SHEET},
     {"nd_withdraw", ND_STACK_SHEET},
     {"nd_step", ND_STACK_STEP},
@@ -55,7 +56,7 @@ static struct {
 
 static uint8_t book[ND_BOOK_LONGEST], written[ND_BOOK_LONGEST], states[ND_OPTIONS_MOST];
 static size_t book_len;
-static uint16_t sheet[ND_SHEET_LENGTH], count;
+static uint16_t sheet[ND_SHEET_LENGTH], count, mentions[2 * ND_OPTIONS_MOST];
 static struct nd_line lines[ND_LINES_MOST];
 static uint64_t step[4], answer;
 static enum call current;
@@ -64,6 +65,9 @@ static unsigned char *caller_frame;
 static size_t needs[CALLS];
 static bool steps_seen[RULES + 1];
 static int whole_lists; /* lists of 64 lines of which one was taken back */
+
+/* The index that is lent: all of it is needed, since every book has as many options as can be. */
+#define MENTIONS mentions, sizeof mentions / sizeof mentions[0]
 
 static void fail(const char *what)
 {
@@ -81,17 +85,18 @@ static void make_call(void)
     case WRITE:
         answer = nd_write(sheet, ND_SHEET_LENGTH, book, book_len, written, sizeof written);
         break;
+    case INDEX: answer = nd_index(sheet, ND_SHEET_LENGTH, MENTIONS); break;
     case KEY:
-        answer = nd_key(sheet, ND_SHEET_LENGTH, lines, ND_LINES_MOST, &count, 511, true);
+        answer = nd_key(sheet, ND_SHEET_LENGTH, lines, ND_LINES_MOST, &count, MENTIONS, 511, true);
         break;
     case WITHDRAW:
         answer = nd_withdraw(sheet, ND_SHEET_LENGTH, book, book_len, lines, ND_LINES_MOST, &count,
-                             0);
+                             MENTIONS, 0);
         break;
     case STEP:
-        answer = nd_step(sheet, ND_SHEET_LENGTH, step[0], step[1], step[2], step[3]);
+        answer = nd_step(sheet, ND_SHEET_LENGTH, MENTIONS, step[0], step[1], step[2], step[3]);
         break;
-    case RUN: answer = nd_run(sheet, ND_SHEET_LENGTH, 20000); break;
+    case RUN: answer = nd_run(sheet, ND_SHEET_LENGTH, MENTIONS, 20000); break;
     case REPORT: answer = nd_report(sheet, ND_SHEET_LENGTH, states, sizeof states); break;
     case COMPLETE: answer = nd_complete(sheet, ND_SHEET_LENGTH); break;
     default: answer = 0; break;
@@ -126,11 +131,14 @@ static size_t stack_of_call(void)
     return (size_t)(caller_frame - lowest);
 }
 
-/* Makes a call that may be refused `allowed` alone, and keeps the most that it needed. */
+/* Makes a call that may be refused `allowed` alone, and keeps the most that it needed.  Where it is
+ * lent an index, that is right. */
 static void measure(enum call call, unsigned allowed)
 {
     size_t need;
 
+    if (call == KEY || call == WITHDRAW || call == STEP || call == RUN)
+        measure(INDEX, 0);
     current = call;
     need = stack_of_call();
     if (nd_refusal(answer) != 0 && nd_refusal(answer) != allowed) {

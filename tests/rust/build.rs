@@ -1,8 +1,9 @@
-//! Links the static library that holds the two C-callable functions.
+//! Links the static libraries that hold the C-callable functions: the two of `c_calls`, and
+//! those of `c_sheet_calls`, on sheets and indexes.
 //!
-//! `rt staticlib c_calls`, run at the repository's top, writes it to
-//! `target/staticlib/libc_calls.a`.  The environment variable `ND_STATICLIB_DIR`
-//! names another folder to take `libc_calls.a` from.
+//! `rt staticlib c_calls` and `rt staticlib c_sheet_calls`, run at the repository's top,
+//! write them to `target/staticlib`.  The environment variable `ND_STATICLIB_DIR` names
+//! another folder to take `libc_calls.a` and `libc_sheet_calls.a` from.
 
 use std::env;
 use std::path::PathBuf;
@@ -14,21 +15,23 @@ fn main() {
         None => PathBuf::from(env::var_os("CARGO_MANIFEST_DIR").expect("set by cargo"))
             .join("../../target/staticlib"),
     };
-    let archive = folder.join("libc_calls.a");
     println!("cargo:rerun-if-env-changed=ND_STATICLIB_DIR");
-    println!("cargo:rerun-if-changed={}", archive.display());
     let Ok(folder) = folder.canonicalize() else {
         panic!(
-            "no folder {}: run `rt staticlib c_calls` at the repository's top",
+            "no folder {}: run `tools/build-library` at the repository's top",
             folder.display()
         );
     };
-    if !archive.is_file() {
-        panic!(
-            "no {}: run `rt staticlib c_calls` at the repository's top",
-            archive.display()
-        );
-    }
     println!("cargo:rustc-link-search=native={}", folder.display());
-    println!("cargo:rustc-link-lib=static=c_calls");
+    for name in ["c_calls", "c_sheet_calls"] {
+        let archive = folder.join(format!("lib{name}.a"));
+        println!("cargo:rerun-if-changed={}", archive.display());
+        if !archive.is_file() {
+            panic!(
+                "no {}: run `rt staticlib {name}` at the repository's top",
+                archive.display()
+            );
+        }
+        println!("cargo:rustc-link-lib=static={name}");
+    }
 }

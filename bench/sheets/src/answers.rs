@@ -7,6 +7,9 @@ pub struct Ran {
     pub count: u64,
 }
 
+/// A run of a sheet, with its index and a budget.
+pub type Run = fn(&mut [u16], &mut [u16], u64) -> Ran;
+
 /// A step: rule, place, child and inner child.
 #[derive(Clone, Copy, Debug, PartialEq, Eq)]
 pub struct Redex {

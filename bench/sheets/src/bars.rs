@@ -32,7 +32,7 @@ const fn seconds(said: &'static str, limit: f64, of: fn(&Row) -> Option<f64>) ->
     }
 }
 
-const BARS: [Bar; 13] = [
+const BARS: [Bar; 14] = [
     ratio("run, times plain Rust by bounds: at most 3", 3.0, |row| {
         is_full(row).then_some(row.run[0] / row.run[1])
     }),
@@ -83,6 +83,9 @@ const BARS: [Bar; 13] = [
         3.0,
         |row| has_leasts(row).then_some(report_ratio(row)),
     ),
+    ratio("an index, times plain Rust: at most 3", 3.0, |row| {
+        is_full(row).then_some(row.index[0] / row.index[1])
+    }),
     ratio(
         "a line of 64 taken back, times a load and 63 keyings by plain Rust: at most 1.5",
         1.5,

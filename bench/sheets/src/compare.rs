@@ -1,15 +1,19 @@
-//! The library against plain Rust: loads, runs and reports must be equal.
+//! The library against plain Rust: loads, runs, reports and indexes must be equal.
 
-use crate::answers::Ran;
+use crate::answers::{Ran, Run};
 use crate::clauses;
 use crate::ffi;
 use crate::nodes::{kind, LEAST, LENGTH};
 use crate::plain::flat::used;
-use crate::plain::{bounds, load, parts, simple, sweep};
+use crate::plain::{bounds, index, load, parts, simple, sweep};
 use crate::random::Random;
 use crate::random_books::{self, book_with_leasts};
+use std::collections::BTreeMap;
 
 pub type Sheet = [u16; LENGTH];
+
+/// Fills an index from a sheet: the refusal, 0 where it is accepted.
+pub type Fill = fn(&[u16], &mut [u16]) -> u64;
 
 /// Stops with the case that differs.
 pub fn stop(what: &str, sheet: &[u16], details: &str) -> ! {
@@ -77,14 +81,51 @@ pub fn reported(sheet: &[u16], by_sweep: bool) -> Vec<u8> {
     ours
 }
 
-/// A run by one method: its answer and the sheet after it.
-pub fn after(run: fn(&mut [u16], u64) -> Ran, sheet: &Sheet, budget: u64) -> (Ran, Sheet) {
-    let mut sheet = *sheet;
-    (run(&mut sheet, budget), sheet)
+/// The index of a sheet, counted by plain Rust, and some numbers past it.
+pub fn index_of(sheet: &[u16]) -> Vec<u16> {
+    let mut index = vec![7; 2 * usize::from(sheet[0]) + 3];
+    index::count(sheet, &mut index);
+    index
+}
+
+/// A run by one method: its answer and the sheet after it. The index must be that sheet's, and
+/// the numbers past it stay.
+pub fn after(run: Run, start: &Sheet, budget: u64) -> (Ran, Sheet) {
+    let (mut sheet, mut index) = (*start, index_of(start));
+    let ran = run(&mut sheet, &mut index, budget);
+    if index != index_of(&sheet) {
+        stop("a run left another index", start, &format!("{index:?}"));
+    }
+    (ran, sheet)
+}
+
+/// Fills indexes that held anything, too short ones and longer ones too, by the library and by
+/// plain Rust: the answers, and how often each was given.
+fn fill_indexes(random: &mut Random, sheet: &[u16], seen: &mut BTreeMap<u64, u64>) {
+    let length = 2 * usize::from(sheet[0]);
+    let no_sheet = &sheet[1..];
+    for (sheet, length) in [
+        (sheet, length.saturating_sub(1)),
+        (sheet, length),
+        (sheet, length + 3),
+        (no_sheet, length),
+    ] {
+        let held: Vec<u16> = (0..length).map(|_| random.number()).collect();
+        let by = |fill: Fill| {
+            let mut index = held.clone();
+            (fill(sheet, &mut index), index)
+        };
+        let (ours, plain) = (by(ffi::index), by(index::fill));
+        if ours != plain {
+            let details = format!("{held:?}: {ours:?}, {plain:?}");
+            stop("the indexes differ", sheet, &details);
+        }
+        *seen.entry(ours.0).or_default() += 1;
+    }
 }
 
 /// The run that two methods must agree on.
-pub fn ran(methods: [fn(&mut [u16], u64) -> Ran; 2], sheet: &Sheet, budget: u64) -> (Ran, Sheet) {
+pub fn ran(methods: [Run; 2], sheet: &Sheet, budget: u64) -> (Ran, Sheet) {
     let [one, other] = methods.map(|run| after(run, sheet, budget));
     if one != other {
         let details = format!("budget {budget}: {:?}, {:?}", one.0, other.0);
@@ -116,6 +157,8 @@ pub struct Compared {
     pub with_clauses: u64,
     pub with_leasts: u64,
     pub steps: u64,
+    /// How often filling an index was refused so, 0 where it was accepted.
+    pub fillings: BTreeMap<u64, u64>,
 }
 
 /// Compares every answer on random sheets.
@@ -131,6 +174,9 @@ pub fn random_sheets(random: &mut Random, count: usize, weight: usize, seen: &mu
             if reported(&later, true) != before {
                 stop("a run changed the report", &sheet, "");
             }
+        }
+        for sheet in [sheet, stopped, settled] {
+            fill_indexes(random, &sheet, &mut seen.fillings);
         }
         let has_leasts = used(&sheet).iter().any(|&node| kind(node) == LEAST);
         let has_clauses = has_few_clauses(&sheet);

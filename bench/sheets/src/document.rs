@@ -48,7 +48,7 @@ pub fn measured(rows: &[Row], agreed: &[String], noise: &Noise, patience: f64) -
         tables::runs(rows),
         "### Reports".to_string(),
         tables::reports(rows),
-        "### Checks and loads".to_string(),
+        "### Checks, loads and indexes".to_string(),
         tables::loads(rows),
         "### Keyings and withdrawals".to_string(),
         tables::orders(rows),

@@ -7,7 +7,14 @@ use crate::orders::{Line, Order};
 extern "C" {
     fn nd_book_check(book: *const u8, book_len: usize) -> u64;
     fn nd_load(book: *const u8, book_len: usize, sheet: *mut u16, sheet_len: usize) -> u64;
-    fn nd_run(sheet: *mut u16, sheet_len: usize, budget: u64) -> u64;
+    fn nd_index(sheet: *const u16, sheet_len: usize, index: *mut u16, index_len: usize) -> u64;
+    fn nd_run(
+        sheet: *mut u16,
+        sheet_len: usize,
+        index: *mut u16,
+        index_len: usize,
+        budget: u64,
+    ) -> u64;
     fn nd_report(sheet: *const u16, sheet_len: usize, out: *mut u8, out_len: usize) -> u64;
     fn nd_key(
         sheet: *mut u16,
@@ -15,6 +22,8 @@ extern "C" {
         lines: *mut Line,
         slots: usize,
         count: *mut u16,
+        index: *mut u16,
+        index_len: usize,
         option: u64,
         negative: bool,
     ) -> u64;
@@ -26,6 +35,8 @@ extern "C" {
         lines: *mut Line,
         slots: usize,
         count: *mut u16,
+        index: *mut u16,
+        index_len: usize,
         k: u64,
     ) -> u64;
 }
@@ -43,10 +54,24 @@ pub fn load(book: &[u8], sheet: &mut [u16]) -> u64 {
     unsafe { nd_load(book.as_ptr(), book.len(), sheet.as_mut_ptr(), sheet.len()) }
 }
 
-/// A run of a sheet.
-pub fn run(sheet: &mut [u16], budget: u64) -> Ran {
+/// Fills an index from a sheet: the refusal, 0 where it is accepted.
+pub fn index(sheet: &[u16], index: &mut [u16]) -> u64 {
     // SAFETY: as above.
-    let answer = unsafe { nd_run(sheet.as_mut_ptr(), sheet.len(), budget) };
+    unsafe { nd_index(sheet.as_ptr(), sheet.len(), index.as_mut_ptr(), index.len()) }
+}
+
+/// A run of a sheet with its index.
+pub fn run(sheet: &mut [u16], index: &mut [u16], budget: u64) -> Ran {
+    // SAFETY: as above.
+    let answer = unsafe {
+        nd_run(
+            sheet.as_mut_ptr(),
+            sheet.len(),
+            index.as_mut_ptr(),
+            index.len(),
+            budget,
+        )
+    };
     assert_eq!(answer % 256, 0, "a run is refused");
     Ran {
         settled: (answer >> 8) % 2 == 1,
@@ -64,7 +89,7 @@ pub fn report(sheet: &[u16], out: &mut [u8]) -> bool {
 
 /// Keys an option: the refusal, 0 where it is accepted.
 pub fn key(order: &mut Order, option: u64, negative: bool) -> u64 {
-    let (sheet, lines) = (&mut order.sheet, &mut order.lines);
+    let (sheet, lines, index) = (&mut order.sheet, &mut order.lines, &mut order.index);
     // SAFETY: as above; the count is one number, and every line's truth value is one.
     unsafe {
         nd_key(
@@ -73,6 +98,8 @@ pub fn key(order: &mut Order, option: u64, negative: bool) -> u64 {
             lines.as_mut_ptr(),
             lines.len(),
             &mut order.count,
+            index.as_mut_ptr(),
+            index.len(),
             option,
             negative,
         )
@@ -81,7 +108,7 @@ pub fn key(order: &mut Order, option: u64, negative: bool) -> u64 {
 
 /// Takes line k back: the refusal, 0 where it is accepted.
 pub fn withdraw(order: &mut Order, book: &[u8], k: u64) -> u64 {
-    let (sheet, lines) = (&mut order.sheet, &mut order.lines);
+    let (sheet, lines, index) = (&mut order.sheet, &mut order.lines, &mut order.index);
     // SAFETY: as above.
     unsafe {
         nd_withdraw(
@@ -92,6 +119,8 @@ pub fn withdraw(order: &mut Order, book: &[u8], k: u64) -> u64 {
             lines.as_mut_ptr(),
             lines.len(),
             &mut order.count,
+            index.as_mut_ptr(),
+            index.len(),
             k,
         )
     }

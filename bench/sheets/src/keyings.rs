@@ -1,13 +1,13 @@
 //! Keyings and withdrawals: the library against plain Rust on random orders, and their times on
 //! full-size ones.
 
-use crate::compare::{loaded, random_book, stop};
+use crate::compare::{index_of, loaded, random_book, stop};
 use crate::families::Rules;
 use crate::ffi;
 use crate::measure::{medians, seconds};
 use crate::nodes::{book, literal, node, ANY, LENGTH};
 use crate::orders::{Key, Line, Order, Withdraw, SLOTS};
-use crate::plain::{lines, load};
+use crate::plain::{index, lines, load};
 use crate::random::Random;
 use std::collections::BTreeMap;
 
@@ -28,7 +28,8 @@ pub struct Times {
     pub withdraw: [f64; 3],
 }
 
-/// A call by the library and by plain Rust, which must leave the same and answer the same.
+/// A call by the library and by plain Rust, which must leave the same and answer the same. After
+/// an accepted call the index is the sheet's.
 fn both(order: &mut Order, call: [&dyn Fn(&mut Order) -> u64; 2]) -> u64 {
     let before = order.clone();
     let mut other = before.clone();
@@ -40,7 +41,18 @@ fn both(order: &mut Order, call: [&dyn Fn(&mut Order) -> u64; 2]) -> u64 {
     if answers[0] != 0 && *order != before {
         stop("a refused call changed something", &before.sheet, "");
     }
+    if answers[0] == 0 && !has_index(order, &before) {
+        let said = format!("{:?} of {before:?}", order.index);
+        stop("the index is not the sheet's", &order.sheet, &said);
+    }
     answers[0]
+}
+
+/// Whether the order's index is a fresh count of its sheet, and what is past it stayed.
+fn has_index(order: &Order, before: &Order) -> bool {
+    let mut index = before.index.clone();
+    index::count(&order.sheet, &mut index);
+    order.index == index
 }
 
 fn key(order: &mut Order, option: u64, negative: bool) -> u64 {
@@ -76,11 +88,27 @@ fn random_order(random: &mut Random, sheet: [u16; LENGTH]) -> Order {
         sheet,
         lines: (0..slots).map(|_| line(random)).collect(),
         count: count as u16,
+        index: Vec::new(),
     }
+}
+
+/// The index of a sheet, with numbers past it or without; at times one that is stale or short.
+fn random_index(random: &mut Random, sheet: &[u16]) -> Vec<u16> {
+    let mut index = index_of(sheet);
+    let length = 2 * usize::from(sheet[0]);
+    let at = random.below(length.max(1));
+    match random.below(15) {
+        0 => index.truncate(at),
+        1 => index[at] = random.number(),
+        2 => index[at] = index[at].wrapping_add(1),
+        _ => index.truncate(length + random.below(4)),
+    }
+    index
 }
 
 /// One call on an order, with its own book or another.
 fn random_call(random: &mut Random, order: &mut Order, books: &[Vec<u8>; 2], seen: &mut Seen) {
+    order.index = random_index(random, &order.sheet);
     if random.one_in(2) {
         let option = random.below(usize::from(order.sheet[0]) + 2) as u64;
         let answer = key(order, wide(random, option), random.one_in(2));
@@ -105,7 +133,8 @@ pub fn random_orders(random: &mut Random, count: usize, weight: usize, seen: &mu
         for _ in 0..8 {
             random_call(random, &mut order, &books, seen);
             if random.one_in(4) {
-                ffi::run(&mut order.sheet, random.below(4) as u64);
+                let mut index = index_of(&order.sheet);
+                ffi::run(&mut order.sheet, &mut index, random.below(4) as u64);
             }
         }
     }
@@ -130,8 +159,9 @@ pub fn full_orders(random: &mut Random, count: usize, seen: &mut Seen) {
 
 /// The order of a book with 64 lines, all of them keyed.
 fn whole_order(bytes: &[u8]) -> Order {
+    let sheet = loaded(bytes);
     let mut order = Order {
-        sheet: loaded(bytes),
+        sheet,
         lines: vec![
             Line {
                 option: 0,
@@ -140,6 +170,7 @@ fn whole_order(bytes: &[u8]) -> Order {
             SLOTS
         ],
         count: 0,
+        index: index_of(&sheet),
     };
     let options = u64::from(order.sheet[0]);
     for at in 0..SLOTS as u64 {
@@ -196,6 +227,7 @@ fn withdraw_times(bytes: &[u8], whole: &Order) -> [f64; 3] {
 /// What the caller would do who had no withdrawal: all lines but the first, keyed again.
 fn load_and_key(order: &mut Order, bytes: &[u8]) {
     let mut refusals = load::load(bytes, &mut order.sheet);
+    refusals += index::fill(&order.sheet, &mut order.index);
     let remaining: Vec<Line> = order.lines[1..].to_vec();
     order.count = 0;
     for line in remaining {

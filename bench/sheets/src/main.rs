@@ -1,6 +1,6 @@
-//! The time of checks, loads, runs, reports, keyings and withdrawals on full-size books, through
-//! the library's C interface, next to plain Rust's in the same process.  Every answer is compared
-//! first; a difference stops the benchmark with the case printed.
+//! The time of checks, loads, indexes, runs, reports, keyings and withdrawals on full-size books,
+//! through the library's C interface, next to plain Rust's in the same process.  Every answer is
+//! compared first; a difference stops the benchmark with the case printed.
 //!
 //!     tools/build-library                                         at the repository's top
 //!     cd bench/sheets && cargo run --release --offline --locked -- [FLAGS]
@@ -150,11 +150,13 @@ fn answers_agree(seed: u64) -> String {
     }
     format!(
         "Loads, runs and reports agree on {} random sheets and {} steps; the reports of {} of \
-         them, {} with at-leasts, also with propagation on their clauses, multiplied out.",
+         them, {} with at-leasts, also with propagation on their clauses, multiplied out. Indexes \
+         of these sheets, before runs and after them, are filled alike ({}).",
         figures::count(seen.sheets),
         figures::count(seen.steps),
         figures::count(seen.with_clauses),
-        figures::count(seen.with_leasts)
+        figures::count(seen.with_leasts),
+        figures::by_answer(&seen.fillings, &[0, 11, 12])
     )
 }
 
@@ -167,9 +169,10 @@ fn orders_agree(seed: u64) -> String {
     }
     keyings::full_orders(random, 300, seen);
     format!(
-        "Keyings agree on random orders ({}), and so do withdrawals ({}).",
-        figures::by_answer(&seen.keyings, &[0, 11, 14, 7, 8]),
-        figures::by_answer(&seen.withdrawals, &[0, 1, 2, 3, 4, 5, 6, 11, 13, 8])
+        "Keyings agree on random orders ({}), and so do withdrawals ({}); one index in five is \
+         stale or short.",
+        figures::by_answer(&seen.keyings, &[0, 11, 14, 7, 8, 12]),
+        figures::by_answer(&seen.withdrawals, &[0, 1, 2, 3, 4, 5, 6, 11, 13, 8, 12])
     )
 }
 

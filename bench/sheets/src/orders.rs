@@ -1,4 +1,4 @@
-//! Orders as the calls are lent them: a sheet, its lines and their count.
+//! Orders as the calls are lent them: a sheet, its lines and their count, its index.
 
 use crate::nodes::LENGTH;
 
@@ -19,6 +19,7 @@ pub struct Order {
     pub sheet: [u16; LENGTH],
     pub lines: Vec<Line>,
     pub count: u16,
+    pub index: Vec<u16>,
 }
 
 /// Keys an option on an order: the refusal, 0 where it is accepted.

@@ -1,14 +1,14 @@
 //! The measurements of one book: every answer compared first, then every call timed.
 
-use crate::answers::Ran;
-use crate::compare::{after, loaded, ran, reported};
+use crate::answers::Run;
+use crate::compare::{after, index_of, loaded, ran, reported, Fill};
 use crate::families::Rules;
 use crate::ffi;
 use crate::keyings::Times;
 use crate::measure::{grown, medians, seconds};
 use crate::nodes::{book, kind, LEAST, LENGTH};
 use crate::plain::flat::used;
-use crate::plain::{bounds, load, parts, simple, sweep};
+use crate::plain::{bounds, index, load, parts, simple, sweep};
 use crate::plain_check;
 
 /// The longest that the simplest search is waited for, in seconds.
@@ -28,6 +28,7 @@ pub struct Row {
     /// The library and plain Rust.
     pub check: [f64; 2],
     pub load: [f64; 2],
+    pub index: [f64; 2],
     pub run: [f64; 2],
     /// The simplest search: the steps that were timed, and their time.
     pub simple: (u64, f64),
@@ -61,7 +62,6 @@ impl Row {
 }
 
 type Sheet = [u16; LENGTH];
-type Run = fn(&mut [u16], u64) -> Ran;
 type Report = fn(&[u16], &mut [u8]) -> bool;
 
 /// Measures a book; the library's run is stopped where it would take longer than `patience`.
@@ -94,6 +94,7 @@ pub fn measured(
         timed,
         check: check_times(&bytes),
         load: load_times(&bytes),
+        index: index_times(&sheet),
         run: run_times([ffi::run, bounds::run], &sheet, due(timed)),
         simple: (simple_steps, simple),
         before: report_times(&sheet),
@@ -111,8 +112,8 @@ pub fn growth(half: &Rules, whole: &Rules) -> Growth {
     let step = (few > 0.0 && many > 0.0).then(|| {
         let [mut one, mut other] = sheets.map(|sheet| {
             move || {
-                let mut sheet = sheet;
-                seconds(|| ffi::run(&mut sheet, u64::MAX))
+                let (mut sheet, mut index) = (sheet, index_of(&sheet));
+                seconds(|| ffi::run(&mut sheet, &mut index, u64::MAX))
             }
         });
         grown(&mut one, &mut other) * few / many
@@ -136,8 +137,8 @@ fn report_growth(sheets: [Sheet; 2]) -> f64 {
 fn affordable(run: Run, sheet: &Sheet, steps: u64, time: f64) -> u64 {
     let mut trial = 32;
     while trial < steps {
-        let mut sheet = *sheet;
-        let took = seconds(|| run(&mut sheet, trial));
+        let (mut sheet, mut index) = (*sheet, index_of(sheet));
+        let took = seconds(|| run(&mut sheet, &mut index, trial));
         if took > 0.05 {
             let step = took / trial as f64;
             return if step * steps as f64 > time {
@@ -191,11 +192,23 @@ fn load_times(bytes: &[u8]) -> [f64; 2] {
     [times[0], times[1]]
 }
 
+fn index_times(sheet: &Sheet) -> [f64; 2] {
+    let fills: [Fill; 2] = [ffi::index, index::fill];
+    let mut calls = fills.map(|fill| {
+        let mut index = vec![7; 2 * usize::from(sheet[0])];
+        assert_eq!(fill(sheet, &mut index), 0, "an index is refused");
+        assert_eq!(index, index_of(sheet)[..index.len()], "the indexes differ");
+        move || seconds(|| fill(sheet, &mut index))
+    });
+    let sides = calls.iter_mut().map(|call| call as &mut dyn FnMut() -> f64);
+    medians(sides.collect()).try_into().expect("a time a side")
+}
+
 fn run_times<const SIDES: usize>(runs: [Run; SIDES], sheet: &Sheet, budget: u64) -> [f64; SIDES] {
     let mut calls = runs.map(|run| {
         move || {
-            let mut sheet = *sheet;
-            seconds(|| run(&mut sheet, budget))
+            let (mut sheet, mut index) = (*sheet, index_of(sheet));
+            seconds(|| run(&mut sheet, &mut index, budget))
         }
     });
     let sides = calls.iter_mut().map(|call| call as &mut dyn FnMut() -> f64);

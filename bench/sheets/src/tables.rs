@@ -121,15 +121,15 @@ fn cells([ours, plain]: [f64; 2]) -> String {
     format!("{} | {} | {}", time(ours), time(plain), ratio(ours / plain))
 }
 
-/// The checks and the loads.
+/// The checks, the loads and the indexes.
 pub fn loads(rows: &[Row]) -> String {
     let mut text = String::from(
-        "| family | weight | nodes | check | plain | ratio | load | plain | ratio |\n\
-         |---|--:|--:|--:|--:|--:|--:|--:|--:|\n",
+        "| family | weight | nodes | check | plain | ratio | load | plain | ratio | index | plain \
+         | ratio |\n|---|--:|--:|--:|--:|--:|--:|--:|--:|--:|--:|--:|\n",
     );
     for (at, row) in rows.iter().enumerate() {
-        let [check, load] = [row.check, row.load].map(cells);
-        writeln!(text, "{} {check} | {load} |", head(rows, at)).expect("a string");
+        let [check, load, index] = [row.check, row.load, row.index].map(cells);
+        writeln!(text, "{} {check} | {load} | {index} |", head(rows, at)).expect("a string");
     }
     text
 }

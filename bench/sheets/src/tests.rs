@@ -1,14 +1,15 @@
 //! Plain Rust held to documents 01 and 02 without the library: at-leasts in books and on sheets,
-//! their steps, and every report beside propagation on the clauses.
+//! their steps, every report beside propagation on the clauses, and the index of mentions.
 
 use crate::clauses;
-use crate::compare::Sheet;
+use crate::compare::{index_of, Sheet};
 use crate::nodes::{
     at_least, book, kind, literal, node, ALL, ANY, FALSE, LEAST, LENGTH, ROOT, TRUE,
 };
+use crate::orders::{Line, Order, SLOTS};
 use crate::plain::bounds::Bounds;
 use crate::plain::flat::{is_sheet, used};
-use crate::plain::{bounds, load, parts, simple, sweep};
+use crate::plain::{bounds, index, lines, load, parts, simple, sweep};
 use crate::random::Random;
 use crate::random_books::book_with_leasts;
 use crate::searches::{any_step, flat, follow, Steps};
@@ -169,11 +170,163 @@ fn reports_are_those_of_the_clauses_before_and_after_any_step() {
                 assert_eq!(report_due(&sheet), due, "{step:?} to {:x?}", used(&sheet));
             }
         }
-        bounds::run(&mut sheet, u64::MAX);
+        let mut index = index_of(&sheet);
+        bounds::run(&mut sheet, &mut index, u64::MAX);
+        assert_eq!(index, index_of(&sheet));
         assert_eq!(reported(&sheet, parts::report), due);
     }
     assert!(contradictory > 100 && forcing > 100);
     assert!(seen[1..].iter().all(|&steps| steps > 10), "{seen:?}");
+}
+
+/// The index of a sheet, option by option, each by a pass of its own.
+fn index_due(sheet: &Sheet) -> Vec<u16> {
+    let entry = |option: usize| {
+        let marks = [false, true].map(|barred| literal(option, barred));
+        let mut places = (0u16..).zip(used(sheet));
+        let mut found = (&mut places).filter(|(_, node)| marks.contains(node));
+        let first = found.next().map_or(65_535, |(place, _)| place);
+        let more = found.count() as u16;
+        [if first == 65_535 { 0 } else { 1 + more }, first]
+    };
+    (0..usize::from(sheet[0])).flat_map(entry).collect()
+}
+
+#[test]
+fn an_index_has_two_numbers_an_option() {
+    let [p, q, ..] = MARKS;
+    let not_q = BARRED[1];
+    let bodies = [vec![node(ANY, 2), p, q], least(1, &[p, not_q]), vec![p]];
+    let sheet = loaded(&book(4, &bodies));
+    let mut index = [9; 10];
+    assert_eq!(index::fill(&sheet, &mut index), 0);
+    assert_eq!(index, [3, 2, 2, 3, 0, 65_535, 0, 65_535, 9, 9]);
+    let mut short = [9; 7];
+    assert_eq!(index::fill(&sheet, &mut short), 12);
+    assert_eq!(index::fill(&sheet[1..], &mut short), 11);
+    assert_eq!(short, [9; 7]);
+    assert_eq!(index::fill(&loaded(&[0; 8]), &mut []), 0);
+}
+
+#[test]
+fn no_step_raises_a_count() {
+    let random = &mut Random::new(4);
+    let (mut seen, mut lowered) = (Steps::default(), 0);
+    for mut sheet in random_sheets(5, 1500) {
+        for _ in 0..6 {
+            let before = index_due(&sheet);
+            assert_eq!(index_of(&sheet)[..before.len()], before);
+            let mut bounds = Bounds::new(used(&sheet));
+            let Some(step) = any_step(random, flat(&sheet, &bounds)) else {
+                break;
+            };
+            bounds.step(&mut sheet, step);
+            seen[step.rule] += 1;
+            let counts = index_due(&sheet).into_iter().zip(before).step_by(2);
+            for (count, before) in counts {
+                assert!(count <= before, "{step:?} to {:x?}", used(&sheet));
+                lowered += usize::from(count < before);
+            }
+        }
+    }
+    assert!(lowered > 1000);
+    assert!(seen[1..].iter().all(|&steps| steps > 10), "{seen:?}");
+}
+
+/// An order of four options whose book has one rule, P or Q, with so many lines not R.
+fn order(lines: u16) -> (Order, Vec<u8>) {
+    let [p, q, ..] = MARKS;
+    let bytes = book(4, &[vec![node(ANY, 2), p, q]]);
+    let line = Line {
+        option: 2,
+        negative: true,
+    };
+    let sheet = loaded(&bytes);
+    let mut order = Order {
+        sheet,
+        lines: vec![line; SLOTS],
+        count: 0,
+        index: index_of(&sheet),
+    };
+    for _ in 0..lines {
+        assert_eq!(lines::key(&mut order, 2, true), 0);
+    }
+    (order, bytes)
+}
+
+#[test]
+fn keyings_and_withdrawals_keep_the_index() {
+    let (mut order, bytes) = order(3);
+    assert_eq!(order.index[..8], [1, 2, 1, 3, 3, 4, 0, 65_535]);
+    assert_eq!(order.index[8..], [7; 3]);
+    assert_eq!(lines::key(&mut order, 0, true), 0);
+    assert_eq!(order.index[..2], [2, 2]);
+    bounds::run(&mut order.sheet, &mut order.index, u64::MAX);
+    assert_eq!(order.index, index_of(&order.sheet));
+    assert_eq!(lines::withdraw(&mut order, &bytes, 3), 0);
+    assert_eq!(order.index[..8], [1, 2, 1, 3, 3, 4, 0, 65_535]);
+    assert_eq!(order.index[8..], [7; 3]);
+}
+
+/// A stale index is 11 with the other 11s, before 14, 13, 7 and 8; a short one is 12 after all.
+#[test]
+fn indexes_are_refused_in_their_order() {
+    let (few, bytes) = order(2);
+    let (many, _) = order(64);
+    let (mut wrong, mut full) = (few.clone(), few.clone());
+    wrong.count = 65;
+    // Of weight 4,096 and of one more.
+    let [whole, heavy] = [4093, 4094].map(|trues| {
+        let mut bodies = vec![vec![TRUE]; trues];
+        bodies.push(vec![MARKS[0]]);
+        book(4, &bodies)
+    });
+    full.sheet = loaded(&whole);
+    full.index = index_of(&full.sheet);
+    let keyings = [
+        (&wrong, 0, 11),
+        (&many, 4, 14),
+        (&few, 4, 7),
+        (&full, 0, 8),
+        (&few, 0, 0),
+    ];
+    let withdrawals = [
+        (&few, &bytes[1..], 0, 2),
+        (&few, &bytes[..bytes.len() - 1], 0, 1),
+        (&few, &heavy, 0, 6),
+        (&wrong, &bytes, 0, 11),
+        (&few, &bytes, 2, 13),
+        (&few, &whole, 0, 8),
+        (&few, &bytes, 0, 0),
+    ];
+    for (order, option, due) in keyings {
+        refused(order, due, |order| lines::key(order, option, false));
+    }
+    for (order, book, k, due) in withdrawals {
+        refused(order, due, |order| lines::withdraw(order, book, k));
+    }
+}
+
+/// A call with a right index, a stale and a short one; what is due is due with the first.
+fn refused(order: &Order, due: u64, call: impl Fn(&mut Order) -> u64) {
+    let early = matches!(due, 1..=6 | 11);
+    let (mut stale, mut short) = (order.clone(), order.clone());
+    stale.index[7] = 0;
+    short.index.truncate(7);
+    let with_stale = if early { due } else { 11 };
+    let with_short = if due == 0 { 12 } else { due };
+    for (mut order, due) in [
+        (order.clone(), due),
+        (stale, with_stale),
+        (short, with_short),
+    ] {
+        let before = order.clone();
+        assert_eq!(call(&mut order), due);
+        assert!(
+            due == 0 || order == before,
+            "a refused call changed something"
+        );
+    }
 }
 
 #[test]

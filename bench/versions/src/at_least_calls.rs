@@ -18,6 +18,7 @@ pub fn are_known(library: &Library) -> bool {
         sheet: Vec::new(),
         lines: Vec::new(),
         count: 0,
+        index: Vec::new(),
         out: Vec::new(),
     };
     refusal(library.call(Call::Check, &mut lent)) == 0
@@ -25,12 +26,12 @@ pub fn are_known(library: &Library) -> bool {
 
 /// Whether a call reads a node of kind 6, or names a rule that is for these alone.
 pub fn are_met(call: Call, lent: &Lent) -> bool {
-    use Call::{Check, Complete, Key, Load, Lookup, Report, Run, Step, Withdraw, Write};
+    use Call::{Check, Complete, Index, Key, Load, Lookup, Report, Run, Step, Withdraw, Write};
     match call {
         Check | Lookup | Load => in_book(&lent.book),
         Write | Withdraw { .. } => in_book(&lent.book) || in_sheet(&lent.sheet),
         Step { rule, .. } => (15..=17).contains(&rule) || in_sheet(&lent.sheet),
-        Key { .. } | Run { .. } | Report | Complete => in_sheet(&lent.sheet),
+        Index | Key { .. } | Run { .. } | Report | Complete => in_sheet(&lent.sheet),
     }
 }
 

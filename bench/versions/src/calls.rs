@@ -1,4 +1,4 @@
-//! The ten calls: what is lent to them, and what each can be refused.
+//! The eleven calls: what is lent to them, and what each can be refused.
 
 use crate::orders::Line;
 
@@ -10,15 +10,17 @@ pub struct Lent {
     pub sheet: Vec<u16>,
     pub lines: Vec<Line>,
     pub count: u16,
+    pub index: Vec<u16>,
     pub out: Vec<u8>,
 }
 
 impl Lent {
-    /// Makes the sheet and the lines what they were, in the same memory.
+    /// Makes the sheet, the lines and the index what they were, in the same memory.
     pub fn restore(&mut self, from: &Lent) {
         self.sheet.copy_from_slice(&from.sheet);
         self.lines.copy_from_slice(&from.lines);
         self.count = from.count;
+        self.index.copy_from_slice(&from.index);
     }
 }
 
@@ -29,6 +31,7 @@ pub enum Call {
     Lookup,
     Load,
     Write,
+    Index,
     Key {
         option: u64,
         negative: bool,
@@ -50,15 +53,16 @@ pub enum Call {
 }
 
 /// Every call, with the answers that it can give: 0 where it is accepted, then its refusals.
-pub const ANSWERS: [(&str, &[u64]); 10] = [
+pub const ANSWERS: [(&str, &[u64]); 11] = [
     ("check", &[0, 1, 2, 3, 4, 5, 6]),
     ("lookup", &[0, 1, 2, 3, 4, 5, 6, 7]),
     ("load", &[0, 11, 1, 2, 3, 4, 5, 6]),
     ("write", &[0, 11, 1, 2, 3, 4, 5, 6, 12]),
-    ("keying", &[0, 11, 14, 7, 8]),
-    ("withdrawal", &[0, 11, 1, 2, 3, 4, 5, 6, 13, 8]),
-    ("step", &[0, 11, 9, 10]),
-    ("run", &[0, 11]),
+    ("index", &[0, 11, 12]),
+    ("keying", &[0, 11, 14, 7, 8, 12]),
+    ("withdrawal", &[0, 11, 1, 2, 3, 4, 5, 6, 13, 8, 12]),
+    ("step", &[0, 11, 9, 10, 12]),
+    ("run", &[0, 11, 12]),
     ("report", &[0, 11, 12]),
     ("complete", &[0, 11]),
 ];
@@ -70,6 +74,7 @@ impl Call {
             Call::Lookup => "lookup",
             Call::Load => "load",
             Call::Write => "write",
+            Call::Index => "index",
             Call::Key { .. } => "keying",
             Call::Withdraw { .. } => "withdrawal",
             Call::Step { .. } => "step",
@@ -81,8 +86,20 @@ impl Call {
 
     /// Whether the call writes nothing that it reads, so that it can be made again and again.
     pub fn repeats(self) -> bool {
-        use Call::{Check, Complete, Load, Lookup, Report, Write};
-        matches!(self, Check | Lookup | Load | Write | Report | Complete)
+        use Call::{Check, Complete, Index, Load, Lookup, Report, Write};
+        matches!(
+            self,
+            Check | Lookup | Load | Write | Index | Report | Complete
+        )
+    }
+
+    /// Whether the call wants the index of its sheet, and brings it up to date.
+    pub fn keeps_index(self) -> bool {
+        use Call::{Key, Run, Step, Withdraw};
+        matches!(
+            self,
+            Key { .. } | Withdraw { .. } | Step { .. } | Run { .. }
+        )
     }
 }
 

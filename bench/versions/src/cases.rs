@@ -7,13 +7,15 @@ use crate::library::Library;
 use crate::limits::{book_of, filled, sheet_of};
 use crate::nodes::LENGTH;
 use crate::orders::{Line, SLOTS};
-use crate::scenes::next_step;
+use crate::scenes::{index_of, next_step};
 
 /// The most that a sheet may weigh.
 const FULL: usize = 4096;
 
-/// The report of a settled sheet, as the tables name it.
-pub const SETTLED: &str = "report after the run";
+/// The report and another run of a settled sheet, as the tables name them. Such a run does no
+/// step: what it costs besides weighs most there.
+pub const REPORT_SETTLED: &str = "report after the run";
+pub const RUN_SETTLED: &str = "run of a settled sheet";
 
 /// A call that is timed, with what it is lent and the refusal that it gives.
 pub struct Case {
@@ -23,7 +25,7 @@ pub struct Case {
     pub refusal: u64,
 }
 
-/// Whatever is lent with a book that is accepted: its sheet, no lines, its last code.
+/// Whatever is lent with a book that is accepted: its sheet and its index, no lines, its last code.
 fn lent(library: &Library, rules: &Rules) -> Lent {
     let book = book_of(rules);
     let end = 8 + 13 * rules.options;
@@ -40,14 +42,17 @@ fn lent(library: &Library, rules: &Rules) -> Lent {
             SLOTS
         ],
         count: 0,
+        index: Vec::new(),
     };
     accepted(library, Call::Load, &mut lent);
     lent
 }
 
+/// Makes a call; whatever the library does about an index, it is then the sheet's.
 fn accepted(library: &Library, call: Call, lent: &mut Lent) {
     let answer = library.call(call, lent);
     assert_eq!(refusal(answer), 0, "{call:?} is refused");
+    lent.index = index_of(&lent.sheet);
 }
 
 /// Keys lines until there are so many.
@@ -60,7 +65,8 @@ fn key_up_to(library: &Library, lent: &mut Lent, count: usize) {
 }
 
 /// Every call on a family's book of full size; keyings and withdrawals on its order of 64 lines.
-pub fn of_family(library: &Library, family: &Family) -> Vec<Case> {
+/// Filling an index is timed if it is asked for.
+pub fn of_family(library: &Library, family: &Family, with_index: bool) -> Vec<Case> {
     use Call::{Check, Complete, Load, Lookup, Report, Write};
     let loaded = lent(library, &(family.make)(FULL));
     let mut settled = loaded.clone();
@@ -81,11 +87,15 @@ pub fn of_family(library: &Library, family: &Family) -> Vec<Case> {
     let mut calls = vec![(last, &nearly), (Call::Withdraw { k: 0 }, &order)];
     calls.extend([Check, Lookup, Load, Write].map(|call| (call, &loaded)));
     calls.extend([step, whole, Report, Complete].map(|call| (call, &loaded)));
+    if with_index {
+        calls.push((Call::Index, &loaded));
+    }
     let mut cases: Vec<Case> = calls
         .into_iter()
         .map(|(call, lent)| case(library, call.name(), call, lent))
         .collect();
-    cases.push(case(library, SETTLED, Report, &settled));
+    cases.push(case(library, REPORT_SETTLED, Report, &settled));
+    cases.push(case(library, RUN_SETTLED, whole, &settled));
     cases
 }
 
@@ -103,9 +113,11 @@ fn case(library: &Library, name: &'static str, call: Call, lent: &Lent) -> Case 
 pub fn refused_for_weight(library: &Library, family: &Family) -> Vec<Case> {
     let of_weight = |weight| {
         let rules = filled(family, weight);
+        let sheet = sheet_of(&rules);
         Lent {
             book: book_of(&rules),
-            sheet: sheet_of(&rules),
+            index: index_of(&sheet),
+            sheet,
             ..lent(library, &filled(family, FULL))
         }
     };

@@ -1,10 +1,12 @@
-//! Every call by both libraries: the answers and all that was lent must be the same.
+//! Every call by both libraries: the answers and all that was lent must be the same.  An index
+//! must also be the one that plain Rust counts, which stands for that of a library without one.
 
 use crate::at_least_calls;
 use crate::at_least_calls::RULES;
 use crate::calls::{refusal, Call, Lent, ANSWERS};
 use crate::figures::{by_answer, count};
 use crate::library::Library;
+use crate::plain::index;
 use crate::random::Random;
 use crate::scenes;
 use std::collections::BTreeMap;
@@ -15,6 +17,8 @@ pub struct Comparing<'a> {
     after: &'a Library,
     /// Whether both know at-leasts. If not, calls that speak of them are left out.
     pub at_leasts: bool,
+    /// Whether both know the index of mentions. If not, the one that does is lent a right one.
+    indexes: bool,
     left_out: u64,
     /// How often each call gave each answer.
     seen: BTreeMap<&'static str, BTreeMap<u64, u64>>,
@@ -31,6 +35,7 @@ impl<'a> Comparing<'a> {
             before,
             after,
             at_leasts: at_least_calls::are_known(before) && at_least_calls::are_known(after),
+            indexes: before.has_index() && after.has_index(),
             left_out: 0,
             seen: BTreeMap::new(),
             steps: [0; 1 + RULES],
@@ -43,10 +48,14 @@ impl<'a> Comparing<'a> {
             self.left_out += 1;
             return;
         }
+        if !self.indexes && call.keeps_index() {
+            lent.index = scenes::index_of(&lent.sheet);
+            lent.index.extend([7, 9]);
+        }
         let start = lent.clone();
         let mut other = start.clone();
-        let answer = self.before.call(call, lent);
-        let answer_after = self.after.call(call, &mut other);
+        let answer = made(self.before, call, lent);
+        let answer_after = made(self.after, call, &mut other);
         if answer != answer_after {
             let said = format!("before answers {answer}, after {answer_after}");
             stop(&said, call, &start);
@@ -81,6 +90,7 @@ impl<'a> Comparing<'a> {
             self.every_call(random, &lent);
             let call = scenes::change(random, &lent);
             self.call(call, &mut lent);
+            lent.index = scenes::index(random, &lent.sheet);
         }
     }
 
@@ -95,17 +105,42 @@ impl<'a> Comparing<'a> {
         );
         let calls = ANSWERS.map(|(name, answers)| {
             let seen = &self.seen[name];
+            let answers: Vec<u64> = self.possible(name, answers);
             assert_eq!(seen.len(), answers.len(), "{name} answered {seen:?}");
-            format!("{name} ({})", by_answer(seen, answers))
+            format!("{name} ({})", by_answer(seen, &answers))
         });
         let total: u64 = self.seen.values().flat_map(BTreeMap::values).sum();
         format!(
             "Both give the same answers, and leave the same in all that they are lent, in {} \
-             calls: {}. Steps of rules 1 to {last} are among them.{}",
+             calls: {}. Steps of rules 1 to {last} are among them.{}{}",
             count(total),
             calls.join("; "),
-            self.left_out_said()
+            self.left_out_said(),
+            self.indexes_said()
         )
+    }
+
+    /// The answers that both can give to a call: without an index none is too short.
+    fn possible(&self, name: &str, answers: &[u64]) -> Vec<u64> {
+        let keeps_index = ["keying", "withdrawal", "step", "run"].contains(&name);
+        let mut answers = answers.to_vec();
+        answers.retain(|&answer| self.indexes || !keeps_index || answer != 12);
+        answers
+    }
+
+    fn indexes_said(&self) -> &'static str {
+        match (self.before.has_index(), self.after.has_index()) {
+            (true, true) => {
+                " Every index that a call leaves is also the one that plain Rust counts; some that \
+                 were lent were stale or short."
+            }
+            (false, false) => " Neither knows an index: plain Rust answers the call index.",
+            _ => {
+                " One of them knows no index: it is lent none, the other one a right one, and every \
+                 index that this one leaves is the one that plain Rust counts. What is said of the \
+                 call index is said beside plain Rust."
+            }
+        }
     }
 
     fn left_out_said(&self) -> String {
@@ -120,6 +155,27 @@ impl<'a> Comparing<'a> {
     }
 }
 
+/// Makes a call and answers it; the index that it leaves must be right. Plain Rust stands in for
+/// the index of a library that has none.
+fn made(library: &Library, call: Call, lent: &mut Lent) -> u64 {
+    let start = lent.clone();
+    let is_filling = matches!(call, Call::Index);
+    let mut due = start.index.clone();
+    if is_filling && !library.has_index() {
+        return index::fill(&start.sheet, &mut lent.index);
+    }
+    let answer = library.call(call, lent);
+    if refusal(answer) == 0 && (is_filling || call.keeps_index()) {
+        index::count(&lent.sheet, &mut due);
+    }
+    if !library.has_index() {
+        lent.index = due;
+    } else if lent.index != due {
+        stop("the index that is left is not right", call, &start);
+    }
+    answer
+}
+
 /// Numbers in hexadecimal.
 fn hexadecimal<T: std::fmt::LowerHex>(numbers: &[T], digits: usize) -> String {
     let numbers = numbers.iter().map(|number| format!("{number:0digits$x}"));
@@ -132,7 +188,7 @@ fn stop(what: &str, call: Call, lent: &Lent) -> ! {
     let sheet = &lent.sheet[..end.map_or(0, |end| end + 1)];
     panic!(
         "{what}\n{call:?}\nbook of {} bytes: {}\ncode: {}\nsheet of {}, zeros from {} on: {}\n\
-         {} slots, {} lines: {:?}\noutput of {} bytes",
+         {} slots, {} lines: {:?}\nindex: {:?}\noutput of {} bytes",
         lent.book.len(),
         hexadecimal(&lent.book, 2),
         hexadecimal(&lent.code, 2),
@@ -142,6 +198,7 @@ fn stop(what: &str, call: Call, lent: &Lent) -> ! {
         lent.lines.len(),
         lent.count,
         lent.lines,
+        lent.index,
         lent.out.len()
     );
 }

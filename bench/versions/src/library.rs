@@ -1,8 +1,9 @@
-//! A shared library of the ten calls, opened while the program runs, so that several builds of it
-//! stand side by side in one process.
+//! A shared library of the eleven calls, opened while the program runs, so that several builds of
+//! it stand side by side in one process.  A build from before the index of mentions has ten: it
+//! cannot fill an index, and is lent none with a keying, a withdrawal, a step and a run.
 
 use crate::calls::{Call, Lent};
-use crate::orders::Line;
+use crate::changes::Changes;
 use std::ffi::{c_char, c_int, c_void, CStr, CString};
 use std::mem::{size_of, transmute_copy};
 use std::path::Path;
@@ -26,11 +27,6 @@ type Check = unsafe extern "C" fn(Bytes, usize) -> u64;
 type Lookup = unsafe extern "C" fn(Bytes, usize, Bytes, usize) -> u64;
 type Load = unsafe extern "C" fn(Bytes, usize, Changed, usize) -> u64;
 type Write = unsafe extern "C" fn(Sheet, usize, Bytes, usize, *mut u8, usize) -> u64;
-type Key = unsafe extern "C" fn(Changed, usize, *mut Line, usize, *mut u16, u64, bool) -> u64;
-type Withdraw =
-    unsafe extern "C" fn(Changed, usize, Bytes, usize, *mut Line, usize, *mut u16, u64) -> u64;
-type Step = unsafe extern "C" fn(Changed, usize, u64, u64, u64, u64) -> u64;
-type Run = unsafe extern "C" fn(Changed, usize, u64) -> u64;
 type Report = unsafe extern "C" fn(Sheet, usize, *mut u8, usize) -> u64;
 type Complete = unsafe extern "C" fn(Sheet, usize) -> u64;
 
@@ -40,12 +36,9 @@ pub struct Library {
     lookup: Lookup,
     load: Load,
     write: Write,
-    key: Key,
-    withdraw: Withdraw,
-    step: Step,
-    run: Run,
     report: Report,
     complete: Complete,
+    changes: Changes,
 }
 
 impl Library {
@@ -53,7 +46,8 @@ impl Library {
     pub fn open(file: &Path) -> Library {
         let name = CString::new(file.as_os_str().as_encoded_bytes()).expect("a file's name");
         // SAFETY: the name ends with a zero byte. The library has nothing that runs when it is
-        // opened, and the header that it is built with declares the calls as they are here.
+        // opened, and the header that it is built with declares the calls as they are here: with
+        // an index where it has the call that fills one.
         unsafe {
             let library = dlopen(name.as_ptr(), RTLD_NOW | RTLD_LOCAL);
             assert!(!library.is_null(), "{}", fault());
@@ -62,14 +56,16 @@ impl Library {
                 lookup: symbol(library, c"nd_code_lookup"),
                 load: symbol(library, c"nd_load"),
                 write: symbol(library, c"nd_write"),
-                key: symbol(library, c"nd_key"),
-                withdraw: symbol(library, c"nd_withdraw"),
-                step: symbol(library, c"nd_step"),
-                run: symbol(library, c"nd_run"),
                 report: symbol(library, c"nd_report"),
                 complete: symbol(library, c"nd_complete"),
+                changes: Changes::of(library),
             }
         }
+    }
+
+    /// Whether it knows the index of mentions.
+    pub fn has_index(&self) -> bool {
+        matches!(self.changes, Changes::With(_))
     }
 
     /// Makes a call: its answer.
@@ -77,29 +73,18 @@ impl Library {
         let (book, book_len) = (lent.book.as_ptr(), lent.book.len());
         let (code, code_len) = (lent.code.as_ptr(), lent.code.len());
         let (sheet, sheet_len) = (lent.sheet.as_mut_ptr(), lent.sheet.len());
-        let (lines, slots) = (lent.lines.as_mut_ptr(), lent.lines.len());
         let (out, out_len) = (lent.out.as_mut_ptr(), lent.out.len());
-        let count = &mut lent.count;
         // SAFETY: every pointer is good for as many elements as its length says, no two overlap,
-        // and the library touches nothing else; every line's truth value is one.
+        // and the library touches nothing else.
         unsafe {
             match call {
                 Call::Check => (self.check)(book, book_len),
                 Call::Lookup => (self.lookup)(book, book_len, code, code_len),
                 Call::Load => (self.load)(book, book_len, sheet, sheet_len),
                 Call::Write => (self.write)(sheet, sheet_len, book, book_len, out, out_len),
-                Call::Key { option, negative } => {
-                    (self.key)(sheet, sheet_len, lines, slots, count, option, negative)
-                }
-                Call::Withdraw { k } => {
-                    (self.withdraw)(sheet, sheet_len, book, book_len, lines, slots, count, k)
-                }
-                Call::Step { rule, place, i, j } => {
-                    (self.step)(sheet, sheet_len, rule, place, i, j)
-                }
-                Call::Run { budget } => (self.run)(sheet, sheet_len, budget),
                 Call::Report => (self.report)(sheet, sheet_len, out, out_len),
                 Call::Complete => (self.complete)(sheet, sheet_len),
+                _ => self.changes.call(call, lent),
             }
         }
     }
@@ -110,11 +95,20 @@ impl Library {
 /// # Safety
 ///
 /// The library is open, and `Function` is the type of a pointer to that function.
-unsafe fn symbol<Function>(library: *mut c_void, name: &CStr) -> Function {
+pub unsafe fn symbol<Function>(library: *mut c_void, name: &CStr) -> Function {
     assert_eq!(size_of::<Function>(), size_of::<*mut c_void>());
     let address = dlsym(library, name.as_ptr());
     assert!(!address.is_null(), "{}", fault());
     transmute_copy(&address)
+}
+
+/// Whether there is a function of a name.
+///
+/// # Safety
+///
+/// The library is open.
+pub unsafe fn has_symbol(library: *mut c_void, name: &CStr) -> bool {
+    !dlsym(library, name.as_ptr()).is_null()
 }
 
 /// What the last of these functions says went wrong.

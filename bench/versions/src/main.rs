@@ -1,8 +1,9 @@
 //! An earlier build of the library beside the one of now, in one process: first every answer is
 //! compared, and a difference stops the benchmark with the case printed (where one of the two does
-//! not know node kind 6, calls that speak of it are left out); then every call is timed,
-//! the two in turn, with a copy of the earlier one as a third, whose time tells the noise, and each
-//! at several places in memory.
+//! not know node kind 6, calls that speak of it are left out; where one knows no index of mentions,
+//! the other one is lent a right one, and what it leaves there is held to plain Rust's count); then
+//! every call is timed, the two in turn, with a copy of the earlier one as a third, whose time tells
+//! the noise, and each at several places in memory.
 //!
 //!     tools/build-library                                         at the repository's top
 //!     bench/before COMMIT [FLAGS]                                 runs this with the first four
@@ -12,7 +13,8 @@
 //!     --after FILE        the library of now, an archive
 //!     --now TEXT          what the text calls it
 //!     --doc FILE          put the text between the marks of this file too
-//!     --bar NUMBER        how many times slower a call may be (1.1)
+//!     --bar LIST          how many times slower a call may be (1.1), with commas; a call with a bar
+//!                         of its own is named as in the tables: 1.1,step=2,keying=2
 //!     --only TEXT         time only the families whose names hold this text
 //!     --seed NUMBER       of the random books, sheets and orders (1)
 
@@ -23,11 +25,13 @@ mod at_least_calls;
 #[path = "../../../tests/rust/src/at_leasts.rs"]
 #[allow(dead_code)]
 mod at_leasts;
+mod bars;
 #[path = "../../../tests/rust/src/books.rs"]
 #[allow(dead_code)]
 mod books;
 mod calls;
 mod cases;
+mod changes;
 mod comparing;
 mod damage;
 #[path = "../../sheets/src/families.rs"]
@@ -63,6 +67,7 @@ mod scenes;
 mod text;
 mod timing;
 
+use bars::Bars;
 use cases::Case;
 use comparing::Comparing;
 use families::{families, Family};
@@ -82,7 +87,7 @@ struct Flags {
     after: String,
     now: String,
     doc: Option<String>,
-    bar: f64,
+    bars: Bars,
     only: String,
     seed: u64,
 }
@@ -94,7 +99,7 @@ fn flags() -> Flags {
         after: String::new(),
         now: String::from("the build of now"),
         doc: None,
-        bar: 1.1,
+        bars: Bars::new(),
         only: String::new(),
         seed: 1,
     };
@@ -109,7 +114,7 @@ fn flags() -> Flags {
             "--after" => flags.after = word,
             "--now" => flags.now = word,
             "--doc" => flags.doc = Some(word),
-            "--bar" => flags.bar = word.parse().expect("a number of times"),
+            "--bar" => flags.bars.set(&word),
             "--only" => flags.only = word,
             "--seed" => flags.seed = word.parse().expect("a whole number"),
             _ => panic!("no flag {flag}"),
@@ -155,12 +160,12 @@ fn compared(sides: &Sides, seed: u64) -> String {
 }
 
 /// Times some cases of a family.
-fn cells(sides: &Sides, bar: f64, family: &Family, cases: Vec<Case>) -> Vec<Cell> {
+fn cells(sides: &Sides, bars: &Bars, family: &Family, cases: Vec<Case>) -> Vec<Cell> {
     let cell = |case: Case| Cell {
         call: case.name,
         family: family.name.clone(),
         refusal: case.refusal,
-        times: timing::times(sides, case.call, &case.lent, bar),
+        times: timing::times(sides, case.call, &case.lent, bars.of(case.name)),
     };
     eprintln!("{}: {} calls", family.name, cases.len());
     cases.into_iter().map(cell).collect()
@@ -168,19 +173,25 @@ fn cells(sides: &Sides, bar: f64, family: &Family, cases: Vec<Case>) -> Vec<Cell
 
 fn measured(sides: &Sides, flags: &Flags, noise: &mut Noise) -> Measured {
     let (mut in_families, mut refused) = (Vec::new(), Vec::new());
+    let library = &sides.before[0];
+    let with_index = library.has_index() && sides.after[0].has_index();
     for family in families() {
         noise.sample();
         if family.name.contains(&flags.only) {
-            let cases = cases::of_family(&sides.before[0], &family);
-            in_families.extend(cells(sides, flags.bar, &family, cases));
+            let cases = cases::of_family(library, &family, with_index);
+            in_families.extend(cells(sides, &flags.bars, &family, cases));
         }
         if TOO_HEAVY.contains(&family.name.as_str()) {
-            let cases = cases::refused_for_weight(&sides.before[0], &family);
-            refused.extend(cells(sides, flags.bar, &family, cases));
+            let cases = cases::refused_for_weight(library, &family);
+            refused.extend(cells(sides, &flags.bars, &family, cases));
         }
     }
     noise.sample();
     assert!(!in_families.is_empty(), "no family is named so");
+    let is_timed = |call: &str| in_families.iter().any(|cell: &Cell| cell.call == call);
+    for call in flags.bars.named() {
+        assert!(is_timed(call), "no call {call:?} has a time");
+    }
     Measured {
         families: in_families,
         refused,
@@ -195,7 +206,7 @@ fn main() {
     let noise = &mut Noise::new();
     let measured = measured(&sides, &flags, noise);
     let names = [&*flags.earlier, &*flags.now];
-    let text = text::whole(names, &compared, &noise.said(), &measured, flags.bar);
+    let text = text::whole(names, &compared, &noise.said(), &measured, &flags.bars);
     println!("{text}");
     if let Some(file) = &flags.doc {
         marks::put(file, text::MARK, &text);

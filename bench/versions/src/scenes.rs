@@ -8,7 +8,7 @@ use crate::damage::{damage_sheet, damaged_book};
 use crate::nodes::{value, LENGTH};
 use crate::orders::{Line, SLOTS};
 use crate::plain::flat::{fill_sizes, is_sheet, used, Flat, MOST};
-use crate::plain::{load, simple};
+use crate::plain::{index, load, simple};
 use crate::random::Random;
 
 /// The most nodes of a sheet that is run to its end wherever it is met.
@@ -36,7 +36,34 @@ fn options(sheet: &[u16]) -> usize {
     sheet.first().map_or(0, |&options| usize::from(options))
 }
 
-/// A book and a sheet, with lines, a code and an output that go with them or do not.
+/// The index of a sheet, counted by plain Rust; of what is no sheet, none.
+pub fn index_of(sheet: &[u16]) -> Vec<u16> {
+    if !is_sheet(sheet) {
+        return Vec::new();
+    }
+    let mut index = vec![0; 2 * options(sheet)];
+    index::count(sheet, &mut index);
+    index
+}
+
+/// An index to lend with a sheet: its own, with numbers past it or without, and at times one that
+/// is stale or short.
+pub fn index(random: &mut Random, sheet: &[u16]) -> Vec<u16> {
+    let mut index = index_of(sheet);
+    let at = random.below(index.len().max(1));
+    match random.below(12) {
+        0 => index.truncate(at),
+        1 if !index.is_empty() => index[at] = random.number(),
+        2 if !index.is_empty() => index[at] = index[at].wrapping_add(1),
+        _ => {
+            let past = random.below(3);
+            index.extend((0..past).map(|_| random.number()));
+        }
+    }
+    index
+}
+
+/// A book and a sheet, with lines, an index, a code and an output that go with them or do not.
 pub fn lent(random: &mut Random, book: Vec<u8>, sheet: Vec<u16>) -> Lent {
     let (options, written) = (options(&sheet), written_length(&sheet));
     let short = random.pick(&[0, options.saturating_sub(1), written - 1]);
@@ -53,6 +80,7 @@ pub fn lent(random: &mut Random, book: Vec<u8>, sheet: Vec<u16>) -> Lent {
     Lent {
         code: code(random, &book),
         out: vec![random.byte(); length],
+        index: index(random, &sheet),
         book,
         sheet,
         lines,
@@ -123,8 +151,8 @@ pub fn random_lent(random: &mut Random, weight: usize, at_leasts: bool) -> Lent 
 
 /// The calls on what is lent: every one, and several of those that are given numbers.
 pub fn calls(random: &mut Random, lent: &Lent) -> Vec<Call> {
-    use Call::{Check, Complete, Load, Lookup, Report, Run, Write};
-    let mut calls = vec![Check, Lookup, Load, Write, Report, Complete];
+    use Call::{Check, Complete, Index, Load, Lookup, Report, Run, Write};
+    let mut calls = vec![Check, Lookup, Load, Write, Index, Report, Complete];
     for _ in 0..2 {
         calls.push(keying(random, lent));
         calls.push(withdrawal(random, lent));

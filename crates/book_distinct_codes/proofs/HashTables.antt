@@ -1,6 +1,6 @@
 -- Laws of the tables by which a code is found: equal codes have equal hashes, and one code more is entered.
 use mathlib.Core.Bool.{Bool, true, false, _&&_, not}
-use mathlib.Core.List.{List, [], _∷_}
+use mathlib.Core.List.{List}
 use mathlib.Core.Path.{_≡_, refl, sym, ap, _∙_}
 use Prim.Native.Nat.{ℕ, zero, suc, _+_, _-_, _*_, _≤_, _<_}
 use native.Mathlib.Numerals.{add-one}
@@ -12,6 +12,7 @@ use lib.Seq.{getD-take, getD-set-same, getD-set-other}
 use Rattle.model.specs.Base.{same-list}
 use Rattle.model.specs.Limits.{most-options, code-length}
 use Rattle.model.specs.Book.{same-code, code-ok, codes-ok, pieces}
+use Rattle.theory_forms.specs.Placed.{same-list-is}
 use Rattle.book_codes.specs.CodePlaces.{code-at}
 use Rattle.book_codes.proofs.CodesFrom.{from-first}
 use Rattle.book_distinct_codes.specs.Hashes.{comes-from, comes-after, quad, hash, Link, Links, Walk, buckets}
@@ -27,27 +28,12 @@ unfolding hash
 hash-take s = rw (quad-take s 0 (omega arith), quad-take s 4 (omega arith), quad-take s 8 (omega arith), getD-take code-length s 12 0 (omega arith))
 
 -- Codes of different hashes are different.
-both : (a b : Bool) → a && b ≡ true → (a ≡ true) × (b ≡ true)
-both true b h = (refl, h)
-both false b h = (h, cc)
-
-equal : (x y : List ℕ) → same-list x y ≡ true → x ≡ y
-unfolding same-list
-equal [] [] h = refl
-equal [] (y ∷ ys) h = cc
-equal (x ∷ xs) [] h = cc
-equal (x ∷ xs) (y ∷ ys) h =
-    let e = both (eqb x y) (same-list xs ys) h in
-    let first = eqb-true x y (e .0) in
-    let rest = equal xs ys (e .1) in
-    cc
-
 unlike : (d c : List ℕ) → (hash d ≡ hash c → ⊥) → same-code d c ≡ false
 unfolding same-code
 unlike d c h = go (same-list d c) refl
   where
     go : (t : Bool) → same-list d c ≡ t → t ≡ false
-    go true e = absurd (h (ap hash (equal d c e)))
+    go true e = absurd (h (ap hash (same-list-is d c .0 e)))
     go false e = refl
 
 module _ (n : ℕ) (s : List ℕ) where

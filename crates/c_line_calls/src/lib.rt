@@ -1,55 +1,88 @@
 // The calls on the lines of an order, for C (include/nibdrumlin_sheets.h). Each copies the lines out, hands the copy on, and where it is
 // accepted stores in the lent lines and the lent count what is to stand there. Each answers one number: the refusal (0: accepted).
 ghost use mathlib.Core.Path.{_≡_};
-ghost use Rattle.calls.specs.Calls.{keyOf, withdrawOf};
+ghost use Rattle.calls.specs.Calls.{keyWith, withdrawWith};
 ghost use Rattle.c_calls.specs.Packed.{packedDone};
 ghost use Rattle.order_lines.specs.LineMeaning.{linesOf, order};
 use order_lines::Line;
 use order_lines::SLOTS;
 
-// A keying, by a copy of the lines: its answer, and what it leaves of the sheet.
+// A keying, by a copy of the lines: its answer, and what it leaves of the sheet and the index.
 fn key_copied(
     sheet: &mut [u16],
     lines: [Line; SLOTS],
     count: u16,
-    option: u64,
-    negative: bool,
-) -> u64
-    ensures { λ r. ⌜ r ≡ packedDone (keyOf (order (now (sheet .entry)) lines count) option negative .answer) ⌝ }
-    ensures { λ r. ⌜ now (sheet .exit) ≡ keyOf (order (now (sheet .entry)) lines count) option negative .lent .sheet ⌝ }
-{
-    c_calls::done(call_keying::key(sheet, lines, count, option, negative))
-}
-
-// A withdrawal, by a copy of the lines: its answer, and what it leaves of the sheet.
-fn withdraw_copied(sheet: &mut [u16], book: &[u8], lines: [Line; SLOTS], count: u16, k: u64) -> u64
-    ensures { λ r. ⌜ r ≡ packedDone (withdrawOf (order (now (sheet .entry)) lines count) (now (book .entry)) k .answer) ⌝ }
-    ensures { λ r. ⌜ now (sheet .exit) ≡ withdrawOf (order (now (sheet .entry)) lines count) (now (book .entry)) k .lent .sheet ⌝ }
-{
-    c_calls::done(call_withdrawal::withdraw(sheet, book, lines, count, k))
-}
-
-// A keying: where it is accepted, the slot at the count gets the line, and the count rises by one.
-#[no_mangle]
-pub extern "C" fn nd_key(
-    sheet: &mut [u16],
-    lines: &mut [Line],
-    count: &mut u16,
+    index: &mut [u16],
     option: u64,
     negative: bool,
 ) -> u64
     ensures { λ r. ⌜
         r
-        ≡ packedDone (keyOf (order (now (sheet .entry)) (now (lines .entry)) (now (count .entry))) option negative .answer) ⌝ }
+        ≡ packedDone (keyWith (order (now (sheet .entry)) lines count) (now (index .entry)) option negative .answer) ⌝ }
     ensures { λ r. ⌜
         now (sheet .exit)
-        ≡ keyOf (order (now (sheet .entry)) (now (lines .entry)) (now (count .entry))) option negative .lent .sheet ⌝ }
+        ≡ keyWith (order (now (sheet .entry)) lines count) (now (index .entry)) option negative .lent .own .sheet ⌝ }
+    ensures { λ r. ⌜
+        now (index .exit)
+        ≡ keyWith (order (now (sheet .entry)) lines count) (now (index .entry)) option negative .lent .index ⌝ }
+{
+    c_calls::done(call_keying::key_with(sheet, lines, count, index, option, negative))
+}
+
+// A withdrawal, by a copy of the lines: its answer, and what it leaves of the sheet and the index.
+fn withdraw_copied(
+    sheet: &mut [u16],
+    book: &[u8],
+    lines: [Line; SLOTS],
+    count: u16,
+    index: &mut [u16],
+    k: u64,
+) -> u64
+    ensures { λ r. ⌜
+        r
+        ≡ packedDone
+        (withdrawWith (order (now (sheet .entry)) lines count) (now (book .entry)) (now (index .entry)) k .answer) ⌝ }
+    ensures { λ r. ⌜
+        now (sheet .exit)
+        ≡ withdrawWith (order (now (sheet .entry)) lines count) (now (book .entry)) (now (index .entry)) k .lent .own .sheet ⌝ }
+    ensures { λ r. ⌜
+        now (index .exit)
+        ≡ withdrawWith (order (now (sheet .entry)) lines count) (now (book .entry)) (now (index .entry)) k .lent .index ⌝ }
+{
+    c_calls::done(call_withdrawal::withdraw(sheet, book, lines, count, index, k))
+}
+
+// A keying: where it is accepted, the slot at the count gets the line, the count rises by one, and the mark is counted in the index.
+#[no_mangle]
+pub extern "C" fn nd_key(
+    sheet: &mut [u16],
+    lines: &mut [Line],
+    count: &mut u16,
+    index: &mut [u16],
+    option: u64,
+    negative: bool,
+) -> u64
+    ensures { λ r. ⌜
+        r
+        ≡ packedDone
+        (keyWith (order (now (sheet .entry)) (now (lines .entry)) (now (count .entry)))
+        (now (index .entry)) option negative .answer) ⌝ }
+    ensures { λ r. ⌜
+        now (sheet .exit)
+        ≡ keyWith (order (now (sheet .entry)) (now (lines .entry)) (now (count .entry)))
+        (now (index .entry)) option negative .lent .own .sheet ⌝ }
     ensures { λ r. ⌜
         linesOf (now (lines .exit))
-        ≡ keyOf (order (now (sheet .entry)) (now (lines .entry)) (now (count .entry))) option negative .lent .lines ⌝ }
+        ≡ keyWith (order (now (sheet .entry)) (now (lines .entry)) (now (count .entry)))
+        (now (index .entry)) option negative .lent .own .lines ⌝ }
     ensures { λ r. ⌜
         now (count .exit)
-        ≡ keyOf (order (now (sheet .entry)) (now (lines .entry)) (now (count .entry))) option negative .lent .count ⌝ }
+        ≡ keyWith (order (now (sheet .entry)) (now (lines .entry)) (now (count .entry)))
+        (now (index .entry)) option negative .lent .own .count ⌝ }
+    ensures { λ r. ⌜
+        now (index .exit)
+        ≡ keyWith (order (now (sheet .entry)) (now (lines .entry)) (now (count .entry)))
+        (now (index .entry)) option negative .lent .index ⌝ }
 {
     let n = *count;
     let all = order_lines::copied(lines, n);
@@ -57,6 +90,7 @@ pub extern "C" fn nd_key(
         sheet,
         all,
         order_lines::judged(lines.len(), n),
+        index,
         option,
         negative,
     );
@@ -70,32 +104,48 @@ pub extern "C" fn nd_key(
     answer
 }
 
-// A withdrawal of line k: where it is accepted, the later lines move up by one, and the count falls by one.
+// A withdrawal of line k: where it is accepted, the later lines move up by one, the count falls by one, and the index is counted anew.
 #[no_mangle]
 pub extern "C" fn nd_withdraw(
     sheet: &mut [u16],
     book: &[u8],
     lines: &mut [Line],
     count: &mut u16,
+    index: &mut [u16],
     k: u64,
 ) -> u64
     ensures { λ r. ⌜
         r
         ≡ packedDone
-        (withdrawOf (order (now (sheet .entry)) (now (lines .entry)) (now (count .entry))) (now (book .entry)) k .answer) ⌝ }
+        (withdrawWith (order (now (sheet .entry)) (now (lines .entry)) (now (count .entry)))
+        (now (book .entry)) (now (index .entry)) k .answer) ⌝ }
     ensures { λ r. ⌜
         now (sheet .exit)
-        ≡ withdrawOf (order (now (sheet .entry)) (now (lines .entry)) (now (count .entry))) (now (book .entry)) k .lent .sheet ⌝ }
+        ≡ withdrawWith (order (now (sheet .entry)) (now (lines .entry)) (now (count .entry)))
+        (now (book .entry)) (now (index .entry)) k .lent .own .sheet ⌝ }
     ensures { λ r. ⌜
         linesOf (now (lines .exit))
-        ≡ withdrawOf (order (now (sheet .entry)) (now (lines .entry)) (now (count .entry))) (now (book .entry)) k .lent .lines ⌝ }
+        ≡ withdrawWith (order (now (sheet .entry)) (now (lines .entry)) (now (count .entry)))
+        (now (book .entry)) (now (index .entry)) k .lent .own .lines ⌝ }
     ensures { λ r. ⌜
         now (count .exit)
-        ≡ withdrawOf (order (now (sheet .entry)) (now (lines .entry)) (now (count .entry))) (now (book .entry)) k .lent .count ⌝ }
+        ≡ withdrawWith (order (now (sheet .entry)) (now (lines .entry)) (now (count .entry)))
+        (now (book .entry)) (now (index .entry)) k .lent .own .count ⌝ }
+    ensures { λ r. ⌜
+        now (index .exit)
+        ≡ withdrawWith (order (now (sheet .entry)) (now (lines .entry)) (now (count .entry)))
+        (now (book .entry)) (now (index .entry)) k .lent .index ⌝ }
 {
     let n = *count;
     let all = order_lines::copied(lines, n);
-    let answer = withdraw_copied(sheet, book, all, order_lines::judged(lines.len(), n), k);
+    let answer = withdraw_copied(
+        sheet,
+        book,
+        all,
+        order_lines::judged(lines.len(), n),
+        index,
+        k,
+    );
     if answer == 0 {
         let last = n - 1;
         *count = last;

@@ -13,11 +13,12 @@ use Rattle.model.specs.Sheet.{options-in, used-in, nodes-in, is-sheet}
 use Rattle.model.specs.Book.{options-of, written}
 use Rattle.calls.specs.Outcomes.{accepted}
 use Rattle.calls.specs.Chains.{book-refusal}
-use Rattle.calls.specs.Calls.{writeOf, Ran, runOf}
+use Rattle.calls.specs.Calls.{writeOf, Ran, runOf, runWith}
 use Rattle.model.specs.Strategy.{cube}
 use Rattle.theory_forms.specs.Sheets.{sheet-weight, sheet-formed}
 use Rattle.theory_rewriting.specs.Measure.{bulk}
 use Rattle.theory_rewriting.specs.Reached.{run-bounded}
+use Rattle.theory_index.specs.IndexedCalls.{result-with}
 use Rattle.call_laws.specs.Books.{accepted-book}
 use Rattle.call_laws.specs.Accepted.{accepted-due, write-accepted, run-accepted}
 use Rattle.book_write.proofs.Written.{sizes-of, length-written}
@@ -61,10 +62,14 @@ cube-small x h =
     let twice : x * x * x ≤ 12288 * x * x = mul-le-mul-right x once in
     omega arith
 
-pub run-fits : (s : List ℕ) (b : ℕ) (v : Ran) → accepted v ≡ runOf s b .answer → v .count ≤ 1855425871872
+run-fits : (s : List ℕ) (b : ℕ) (v : Ran) → accepted v ≡ runOf s b .answer → v .count ≤ 1855425871872
 unfolding runOf weight
 run-fits s b v e =
     let a = accepted-due _ _ v _ _ e in
     let sheet = run-accepted s (a .0) in
     let few = run-bounded s b (sheet-formed s sheet) in
     omega (arith, ap (λ r. r .count) (a .1), cube-small (bulk 2 (nodes-in s)) (omega (arith, sheet-weight s sheet, leasts-within (nodes-in s))))
+
+pub run-with-fits : (s index : List ℕ) (b : ℕ) (v : Ran) → accepted v ≡ runWith s index b .answer → v .count ≤ 1855425871872
+unfolding runWith
+run-with-fits s index b v e = run-fits s b v (result-with (λ u. u) s index (runOf s b) e)

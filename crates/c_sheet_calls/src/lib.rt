@@ -1,7 +1,7 @@
 // The calls on sheets, for C (include/nibdrumlin_sheets.h). Each answers one number, as the calls of `c_calls` do: the low 8 bits are
 // the refusal (0: accepted), the rest is the value.
 ghost use mathlib.Core.Path.{_≡_};
-ghost use Rattle.calls.specs.Calls.{loadOf, writeOf, reportOf, completeOf, stepOf, runOf};
+ghost use Rattle.calls.specs.Calls.{loadOf, writeOf, reportOf, completeOf, stepWith, runWith, fillOf};
 ghost use Rattle.c_calls.specs.Packed.{packedDone, packedValue};
 ghost use Rattle.c_sheet_calls.specs.PackedValues.{packedBool, packedRan};
 use call_report::Completed;
@@ -58,25 +58,43 @@ pub extern "C" fn nd_complete(sheet: &[u16]) -> u64
     }
 }
 
-// A single step.
+// A single step, on a sheet with its index.
 #[no_mangle]
-pub extern "C" fn nd_step(sheet: &mut [u16], rule: u64, place: u64, i: u64, j: u64) -> u64
-    ensures { λ r. ⌜ r ≡ packedDone (stepOf (now (sheet .entry)) rule place i j .answer) ⌝ }
-    ensures { λ r. ⌜ now (sheet .exit) ≡ stepOf (now (sheet .entry)) rule place i j .lent ⌝ }
+pub extern "C" fn nd_step(
+    sheet: &mut [u16],
+    index: &mut [u16],
+    rule: u64,
+    place: u64,
+    i: u64,
+    j: u64,
+) -> u64
+    ensures { λ r. ⌜ r ≡ packedDone (stepWith (now (sheet .entry)) (now (index .entry)) rule place i j .answer) ⌝ }
+    ensures { λ r. ⌜ now (sheet .exit) ≡ stepWith (now (sheet .entry)) (now (index .entry)) rule place i j .lent .own ⌝ }
+    ensures { λ r. ⌜ now (index .exit) ≡ stepWith (now (sheet .entry)) (now (index .entry)) rule place i j .lent .index ⌝ }
 {
-    c_calls::done(call_step::step(sheet, rule, place, i, j))
+    c_calls::done(call_step::step(sheet, index, rule, place, i, j))
 }
 
-// A run; the value is twice the count, plus 1 where it is settled.
+// A run, on a sheet with its index; the value is twice the count, plus 1 where it is settled.
 #[no_mangle]
-pub extern "C" fn nd_run(sheet: &mut [u16], budget: u64) -> u64
-    ensures { λ r. ⌜ r ≡ packedRan (runOf (now (sheet .entry)) budget .answer) ⌝ }
-    ensures { λ r. ⌜ now (sheet .exit) ≡ runOf (now (sheet .entry)) budget .lent ⌝ }
+pub extern "C" fn nd_run(sheet: &mut [u16], index: &mut [u16], budget: u64) -> u64
+    ensures { λ r. ⌜ r ≡ packedRan (runWith (now (sheet .entry)) (now (index .entry)) budget .answer) ⌝ }
+    ensures { λ r. ⌜ now (sheet .exit) ≡ runWith (now (sheet .entry)) (now (index .entry)) budget .lent .own ⌝ }
+    ensures { λ r. ⌜ now (index .exit) ≡ runWith (now (sheet .entry)) (now (index .entry)) budget .lent .index ⌝ }
 {
-    let answer = call_run::run(sheet, budget);
+    let answer = call_run::run_with(sheet, index, budget);
     match answer {
         Ran::Settled(n) => COUNT * n + VALUE,
         Ran::Stopped(n) => COUNT * n,
         Ran::Refused(r) => c_calls::refused(r),
     }
+}
+
+// The index of a sheet, filled whatever it held.
+#[no_mangle]
+pub extern "C" fn nd_index(sheet: &[u16], index: &mut [u16]) -> u64
+    ensures { λ r. ⌜ r ≡ packedDone (fillOf (now (sheet .entry)) (now (index .entry)) .answer) ⌝ }
+    ensures { λ r. ⌜ now (index .exit) ≡ fillOf (now (sheet .entry)) (now (index .entry)) .lent ⌝ }
+{
+    c_calls::done(call_index::fill(sheet, index))
 }

@@ -5,6 +5,7 @@ use Prim.Native.Nat.{ℕ}
 use Rattle.calls.specs.Refusals as M
 use Rattle.calls.specs.Outcomes.{Answer, refused, accepted, Outcome}
 use Rattle.calls.specs.Lines.{State}
+use Rattle.calls.specs.Index.{Indexed}
 use Rattle.call_answers.specs.declared.Refusal as R
 use Rattle.call_answers.specs.declared.Refusal.the-variants as V₁
 use Rattle.call_answers.specs.declared.Done as D
@@ -48,3 +49,11 @@ afterCall a l = record { answer = a; lent = l }
 -- What a call on an order answers, and leaves of its sheet.
 abbrev pub onSheet : {A : Type 0} → Outcome State A → Outcome (List ℕ) A
 onSheet o = record { answer = o .answer; lent = o .lent .sheet }
+
+-- What a call leaves of its own, beside what it leaves of its index.
+abbrev pub besideIndex : {L : Type 0} → L → List ℕ → Indexed L
+besideIndex own index = record { own = own; index = index }
+
+-- What a call on an order with an index answers, and leaves of its sheet and its index.
+abbrev pub onIndexedSheet : {A : Type 0} → Outcome (Indexed State) A → Outcome (Indexed (List ℕ)) A
+onIndexedSheet o = record { answer = o .answer; lent = record { own = o .lent .own .sheet; index = o .lent .index } }

@@ -32,15 +32,6 @@ unfolding outcome
 accepted-due none a v kept filled e = (refl, cc)
 accepted-due (some r) a v kept filled e = let z : _≡_ {A = ℕ} 0 1 = cc in absurd (omega arith)
 
--- What an outcome on an order leaves of its sheet.
-pub outcome-sheet :
-    {A : Type 0} (due : Option Refusal) (a : A) (kept filled : State) →
-    outcome due a (kept .sheet) (filled .sheet)
-    ≡ record { answer = outcome due a kept filled .answer; lent = outcome due a kept filled .lent .sheet }
-unfolding outcome
-outcome-sheet none a kept filled = refl
-outcome-sheet (some r) a kept filled = refl
-
 -- A sheet written with a book's codes.
 pub record Writable (s b out : List ℕ) : Type 0 where
   pub sheet : is-sheet s ≡ true

@@ -2,7 +2,7 @@
 use mathlib.Core.Bool.{Bool, true, false, not, _&&_}
 use mathlib.Core.List.{List, [], _∷_, _++_, map-append, append-nil, append-assoc}
 use mathlib.Core.Logic.{Iff·rfl, Iff·trans, Iff·symm}
-use mathlib.Core.Option.{Option, none, some}
+use mathlib.Core.Option.{Option, none}
 use mathlib.Core.Path.{_≡_, refl, sym, ap, _∙_}
 use Prim.Native.Nat.{ℕ, _+_, _-_, _*_, _≤_, _<_}
 use native.Mathlib.Omega.{arith}
@@ -22,10 +22,11 @@ use Rattle.model.specs.Sheet.{options-in, nodes-in, is-sheet, sheet-of, clauses
 use Rattle.model.specs.Results.{appended, stepped, run-through}
 use Rattle.model.specs.Book.{options-of, book-nodes, clauses-of-book}
 use Rattle.calls.specs.Refusals.{Refusal}
-use Rattle.calls.specs.Outcomes.{Answer, refused, accepted, if-accepted, outcome}
+use Rattle.calls.specs.Outcomes.{accepted, if-accepted, Outcome, outcome}
 use Rattle.calls.specs.Lines.{Line, State, counted, without, moved-up, with-marks}
+use Rattle.calls.specs.Index.{mark-count, Indexed}
 use Rattle.calls.specs.Chains.{key-refusal, withdraw-refusal, step-refusal, run-refusal}
-use Rattle.calls.specs.Calls.{keyOf, withdrawOf, stepOf, runOf}
+use Rattle.calls.specs.Calls.{keyOf, withdrawOf, stepOf, runOf, with-index, keyWith, withdrawWith, stepWith, runWith}
 use Rattle.calls.specs.History.{Call, key, withdraw, step, run, with-sheet, after-call, after-calls, Account, with-choice, without-line}
 use Rattle.calls.specs.History.{account-call, account-calls, choice-clauses, meaning, rekeys, is-stretch, steps-of-call, steps-of}
 use Rattle.theory_forms.specs.Logic.{true-false, and-split, is-some-of}
@@ -35,13 +36,16 @@ use Rattle.call_laws.specs.Valuations.{SameModels, model-holds, same-of,
 use Rattle.call_laws.specs.Soundness.{step-holds}
 use Rattle.theory_forms.specs.Shape.{Shaped, shaped-rooted, shaped-decode}
 use Rattle.theory_rewriting.specs.ShapeKept.{step-shaped}
-use Rattle.theory_rewriting.specs.Steps.{Steps, done, more, steps-append, steps-shaped, steps-weight}
+use Rattle.theory_rewriting.specs.Steps.{Steps, done, more, steps-append, steps-weight}
 use Rattle.theory_rewriting.specs.Runs.{run-steps}
 use Rattle.theory_rewriting.specs.Reached.{strategy-steps}
-use Rattle.theory_forms.specs.Sheets.{sheet-shaped, sheet-options, sheet-weight, sheet-made, nodes-made, options-made}
+use Rattle.theory_forms.specs.Sheets.{sheet-shaped, sheet-options, nodes-made, options-made}
+use Rattle.theory_index.specs.Mentions.{steps-mentions}
+use Rattle.theory_index.specs.Left.{steps-left, steps-nodes}
+use Rattle.theory_index.specs.WithIndex.{with-cases}
 use Rattle.theory_formats.specs.Loading.{Accepted, loaded-shaped, loaded-sheet, loaded-meaning}
 use Rattle.call_laws.specs.Books.{accepted-book}
-use Rattle.call_laws.specs.Accepted.{Keyable, key-accepted, Withdrawable, withdraw-accepted, step-accepted}
+use Rattle.call_laws.specs.Accepted.{Keyable, key-accepted, Withdrawable, withdraw-accepted, step-accepted, run-accepted}
 use Rattle.call_laws.specs.OrderLines.{option-literal, keyed-counted, withdrawn-counted, without-length, known-without, mark-put}
 use Rattle.theory_forms.specs.Choice.{chosen-is, chosen-shaped, chosen-weight}
 
@@ -92,23 +96,20 @@ pub record Effect (t u : State) (a : Account) (quiet : Bool) (k : ℕ) : Type 0 
 pub still : (t : State) (a : Account) (quiet : Bool) → Agrees a t → Effect t t a quiet 0
 still t a quiet h = record { agrees = h; steps = λ e. done }
 
--- The nodes of the sheet that steps leave.
-steps-leave :
-    (s : List ℕ) {k : ℕ} {ms : List Node} →
-    is-sheet s ≡ true →
-    Steps k (nodes-in s) ms →
-    nodes-in (sheet-of (options-in s) ms) ≡ ms
-steps-leave s h t =
-    let form = sheet-shaped s h in
-    nodes-made (sheet-options s h) (steps-shaped form t) (omega (arith, sheet-weight s h, steps-weight form t))
-
--- It is no heavier than the sheet that they were done on.
+-- What steps leave is no heavier than the sheet that they were done on, and names no option more often.
 pub steps-lighter :
     (s : List ℕ) {k : ℕ} {ms : List Node} →
     is-sheet s ≡ true →
     Steps k (nodes-in s) ms →
     weight (nodes-in (sheet-of (options-in s) ms)) ≤ weight (nodes-in s)
-steps-lighter s h t = rw (steps-leave s h t) (steps-weight (sheet-shaped s h) t)
+steps-lighter s h t = rw (steps-nodes s h t) (steps-weight (sheet-shaped s h) t)
+
+pub steps-name :
+    (v : ℕ) (s : List ℕ) {k : ℕ} {ms : List Node} →
+    is-sheet s ≡ true →
+    Steps k (nodes-in s) ms →
+    mark-count v (nodes-in (sheet-of (options-in s) ms)) ≤ mark-count v (nodes-in s)
+steps-name v s h t = rw (steps-nodes s h t) (steps-mentions v (sheet-shaped s h) t)
 
 -- Steps done on a sheet.
 stepped-effect :
@@ -121,15 +122,15 @@ stepped-effect t a {k} {ms} g w =
     let s = t .sheet in
     let h = g .keeps in
     let form = sheet-shaped s (h .sheet) in
-    let light : weight ms ≤ most-weight = omega (arith, sheet-weight s (h .sheet), steps-weight form w) in
-    let back = steps-leave s (h .sheet) w in
+    let left = steps-left s (h .sheet) w in
+    let back = steps-nodes s (h .sheet) w in
     record {
       agrees =
           record {
             keeps =
                 record {
-                  sheet = sheet-made (sheet-options s (h .sheet)) (steps-shaped form w) light;
-                  options = options-made (options-in s) ms ∙ h .options;
+                  sheet = left .sheet;
+                  options = left .options ∙ h .options;
                   models =
                       same-trans (same-of (ap (λ ns. clauses root (decode ns)) back))
                       (same-trans (steps-models form w) (h .models));
@@ -291,81 +292,68 @@ withdrawn-effect t a b k h w =
       steps = λ e. true-false (sym e);
     }
 
-key-effect :
-    (t : State) (a : Account) (v : ℕ) (negative : Bool) →
+-- A keying or a withdrawal, with any index: refused it does nothing, and accepted it does what it does without one.
+rekeying-effect :
+    (t : State) (a b : Account) (index : List ℕ) (own : Option Refusal) (filled : State) →
     Agrees a t →
-    Effect t (after-call (key v negative) t) (account-call (key v negative) t a) (not (rekeys (key v negative) t))
-    (steps-of-call (key v negative) t)
-unfolding after-call account-call rekeys steps-of-call keyOf outcome if-accepted
-key-effect t a v negative h = go (key-refusal t v) refl
+    (own ≡ none → Effect t filled b false 0) →
+    let o = with-index (λ u. u .sheet) t index (outcome {A = Unit {0}} own tt t filled) in
+    Effect t (o .lent .own) (if-accepted (o .answer) a (λ _. b)) (not (if-accepted (o .answer) false (λ _. true))) 0
+unfolding if-accepted
+rekeying-effect t a b index own filled h effect =
+    with-cases (λ u. u .sheet) t index tt filled own Does (λ r. still t a true h) (λ e right. effect e)
   where
-    l : Literal
-    l = literal v negative
+    Does : Outcome (Indexed State) (Unit {0}) → Type 0
+    Does o = Effect t (o .lent .own) (if-accepted (o .answer) a (λ _. b)) (not (if-accepted (o .answer) false (λ _. true))) 0
 
-    filled : State
-    filled = record { sheet = appended (t .sheet) l; lines = set (t .lines) (t .count) l; count = t .count + 1 }
-
-    go :
-        (o : Option Refusal) →
-        key-refusal t v ≡ o →
-        Effect t (outcome {A = Unit {0}} o tt t filled .lent)
-        (if-accepted (outcome {A = Unit {0}} o tt t filled .answer) a (λ _. with-choice a l))
-        (not (if-accepted (outcome {A = Unit {0}} o tt t filled .answer) false (λ _. true))) 0
-    go none e = keyed-effect t a v negative h (key-accepted t v e)
-    go (some r) e = still t a true h
+key-effect :
+    (t : State) (a : Account) (index : List ℕ) (v : ℕ) (negative : Bool) →
+    Agrees a t →
+    let c = key index v negative in
+    Effect t (after-call c t) (account-call c t a) (not (rekeys c t)) (steps-of-call c t)
+unfolding after-call account-call rekeys steps-of-call keyWith keyOf
+key-effect t a index v negative h =
+    rekeying-effect t a _ index (key-refusal t v) _ h (λ e. keyed-effect t a v negative h (key-accepted t v e))
 
 withdraw-effect :
-    (t : State) (a : Account) (b : List ℕ) (k : ℕ) →
+    (t : State) (a : Account) (b index : List ℕ) (k : ℕ) →
     Agrees a t →
-    Effect t (after-call (withdraw b k) t) (account-call (withdraw b k) t a) (not (rekeys (withdraw b k) t))
-    (steps-of-call (withdraw b k) t)
-unfolding after-call account-call rekeys steps-of-call withdrawOf outcome if-accepted
-withdraw-effect t a b k h = go (withdraw-refusal t b k) refl
-  where
-    filled : State
-    filled =
-        record {
-          sheet = with-marks (sheet-of (options-of b) (book-nodes b)) (without k (counted t));
-          lines = moved-up k (t .count) (t .lines);
-          count = t .count - 1;
-        }
+    let c = withdraw b index k in
+    Effect t (after-call c t) (account-call c t a) (not (rekeys c t)) (steps-of-call c t)
+unfolding after-call account-call rekeys steps-of-call withdrawWith withdrawOf
+withdraw-effect t a b index k h =
+    rekeying-effect t a _ index (withdraw-refusal t b k) _ h (λ e. withdrawn-effect t a b k h (withdraw-accepted t b k e))
 
-    go :
-        (o : Option Refusal) →
-        withdraw-refusal t b k ≡ o →
-        Effect t (outcome {A = Unit {0}} o tt t filled .lent)
-        (if-accepted (outcome {A = Unit {0}} o tt t filled .answer) a (λ _. without-line a b k))
-        (not (if-accepted (outcome {A = Unit {0}} o tt t filled .answer) false (λ _. true))) 0
-    go none e = withdrawn-effect t a b k h (withdraw-accepted t b k e)
-    go (some r) e = still t a true h
+-- A step or a run, with any index: refused it does nothing, and accepted it does the steps that it counts.
+stepping-effect :
+    {A : Type 0} (t : State) (a : Account) (index : List ℕ) (own : Option Refusal) (x : A) (count : A → ℕ) (ms : List Node) →
+    Agrees a t →
+    (own ≡ none → Steps (count x) (nodes-in (t .sheet)) ms) →
+    let s = t .sheet in
+    let o = with-index (λ u. u) s index (outcome own x s (sheet-of (options-in s) ms)) in
+    Effect t (with-sheet t (o .lent .own)) a true (if-accepted (o .answer) 0 count)
+unfolding if-accepted
+stepping-effect {A} t a index own x count ms h steps =
+    with-cases (λ u. u) (t .sheet) index x _ own Does (λ r. still t a true h) (λ e right. stepped-effect t a h (steps e))
+  where
+    Does : Outcome (Indexed (List ℕ)) A → Type 0
+    Does o = Effect t (with-sheet t (o .lent .own)) a true (if-accepted (o .answer) 0 count)
 
 step-effect :
-    (t : State) (a : Account) (r p i j : ℕ) →
+    (t : State) (a : Account) (index : List ℕ) (r p i j : ℕ) →
     Agrees a t →
-    Effect t (after-call (step r p i j) t) (account-call (step r p i j) t a) (not (rekeys (step r p i j) t))
-    (steps-of-call (step r p i j) t)
-unfolding after-call account-call rekeys steps-of-call stepOf stepped outcome if-accepted maybe
-step-effect t a r p i j h = go (step-refusal s r p i j) refl
+    let c = step index r p i j in
+    Effect t (after-call c t) (account-call c t a) (not (rekeys c t)) (steps-of-call c t)
+unfolding after-call account-call rekeys steps-of-call stepWith stepOf stepped maybe
+step-effect t a index r p i j h = stepping-effect t a index (step-refusal s r p i j) tt (λ _. 1) _ h one
   where
     s : List ℕ
     s = t .sheet
 
-    tried : Option (List Node)
-    tried = rules.step r p i j (nodes-in s)
-
-    filled : List ℕ
-    filled = sheet-of (options-in s) (maybe (nodes-in s) (λ ns. ns) tried)
-
-    one : (ms : List Node) → tried ≡ some ms → Effect t (with-sheet t filled) a true 1
-    one ms e = rw e (stepped-effect t a h (more r p i j e done))
-
-    go :
-        (o : Option Refusal) →
-        step-refusal s r p i j ≡ o →
-        Effect t (with-sheet t (outcome {A = Unit {0}} o tt s filled .lent)) a true
-        (if-accepted (outcome {A = Unit {0}} o tt s filled .answer) 0 (λ _. 1))
-    go none e = let w = is-some-of tried (step-accepted s r p i j e .there) in one (w .0) (w .1)
-    go (some x) e = still t a true h
+    one : step-refusal s r p i j ≡ none → Steps 1 (nodes-in s) (maybe (nodes-in s) (λ ns. ns) (rules.step r p i j (nodes-in s)))
+    one e =
+        let w = is-some-of (rules.step r p i j (nodes-in s)) (step-accepted s r p i j e .there) in
+        rw (w .1) (more r p i j (w .1) done)
 
 -- A run on a sheet is accepted, and the sheet then holds the nodes that it leaves.
 pub run-outcome :
@@ -384,25 +372,47 @@ pub run-leaves :
     (s : List ℕ) (b : ℕ) →
     is-sheet s ≡ true →
     nodes-in (sheet-of (options-in s) (strategy.run b (nodes-in s) .nodes)) ≡ strategy.run b (nodes-in s) .nodes
-run-leaves s b h = steps-leave s h (strategy-steps (run-steps b (nodes-in s)))
+run-leaves s b h = steps-nodes s h (strategy-steps (run-steps b (nodes-in s)))
 
 run-effect :
-    (t : State) (a : Account) (b : ℕ) →
+    (t : State) (a : Account) (index : List ℕ) (b : ℕ) →
     Agrees a t →
-    Effect t (after-call (run b) t) (account-call (run b) t a) (not (rekeys (run b) t)) (steps-of-call (run b) t)
-unfolding after-call account-call rekeys steps-of-call if-accepted
-run-effect t a b h =
-    rw (run-outcome (t .sheet) b (h .keeps .sheet), after-call) (stepped-effect t a h (strategy-steps (run-steps b (nodes-in (t .sheet)))))
+    let c = run index b in
+    Effect t (after-call c t) (account-call c t a) (not (rekeys c t)) (steps-of-call c t)
+unfolding after-call account-call rekeys steps-of-call runWith runOf run-through
+run-effect t a index b h =
+    stepping-effect t a index (run-refusal (t .sheet)) _ (λ r. r .count) _ h (λ e. strategy-steps (run-steps b (nodes-in (t .sheet))))
+
+-- What holds of a sheet, and of all that steps lead to from it, holds of what a step and a run leave, whatever index they are lent.
+module _
+    (s index : List ℕ)
+    (P : List ℕ → Type 0)
+    (here : P s)
+    (there : is-sheet s ≡ true → (k : ℕ) (ms : List Node) → Steps k (nodes-in s) ms → P (sheet-of (options-in s) ms))
+  where
+    pub after-step : (r p i j : ℕ) → P (stepWith s index r p i j .lent .own)
+    unfolding stepWith stepOf stepped maybe
+    after-step r p i j =
+        with-cases (λ u. u) s index tt _ (step-refusal s r p i j) (λ o. P (o .lent .own)) (λ x. here) (λ e right.
+        let w = step-accepted s r p i j e in
+        let t = is-some-of (rules.step r p i j (nodes-in s)) (w .there) in
+        rw (t .1) (there (w .sheet) 1 (t .0) (more r p i j (t .1) done)))
+
+    pub after-run : (budget : ℕ) → P (runWith s index budget .lent .own)
+    unfolding runWith runOf run-through
+    after-run budget =
+        with-cases (λ u. u) s index _ _ (run-refusal s) (λ o. P (o .lent .own)) (λ x. here) (λ e right.
+        there (run-accepted s e) _ _ (strategy-steps (run-steps budget (nodes-in s))))
 
 -- What each call does to the state and the account.
 pub call-effect :
     (c : Call) (t : State) (a : Account) →
     Agrees a t →
     Effect t (after-call c t) (account-call c t a) (not (rekeys c t)) (steps-of-call c t)
-call-effect (key v negative) t a h = key-effect t a v negative h
-call-effect (withdraw b k) t a h = withdraw-effect t a b k h
-call-effect (step r p i j) t a h = step-effect t a r p i j h
-call-effect (run b) t a h = run-effect t a b h
+call-effect (key index v negative) t a h = key-effect t a index v negative h
+call-effect (withdraw b index k) t a h = withdraw-effect t a b index k h
+call-effect (step index r p i j) t a h = step-effect t a index r p i j h
+call-effect (run index b) t a h = run-effect t a index b h
 
 -- One effect after another.
 pub effect-then :
@@ -427,32 +437,37 @@ calls-effect (c ∷ cs) t a h =
     let e = call-effect c t a h in
     effect-then e (calls-effect cs (after-call c t) (account-call c t a) (e .agrees))
 
--- No call changes the options of the account's book.
-kept-options-call :
-    (c : Call) (t : State) (a : Account) →
-    Agrees a t →
-    options-of (account-call c t a .book) ≡ options-of (a .book)
-unfolding account-call if-accepted withdrawOf outcome
-kept-options-call (key v negative) t a h = go (keyOf t v negative .answer)
-  where
-    go :
-        (o : Answer (Unit {0})) →
-        options-of (if-accepted o a (λ _. with-choice a (literal v negative)) .book) ≡ options-of (a .book)
-    go (accepted u) = refl
-    go (refused r) = refl
-kept-options-call (withdraw b k) t a h = go (withdraw-refusal t b k) refl _
-  where
-    go :
-        (o : Option Refusal) →
-        withdraw-refusal t b k ≡ o →
-        (filled : State) →
-        let done = outcome {A = Unit {0}} o tt t filled .answer in
-        options-of (if-accepted done a (λ _. without-line a b k) .book) ≡ options-of (a .book)
-    go none e filled = withdraw-accepted t b k e .same ∙ h .keeps .options
-    go (some r) e filled = refl
-kept-options-call (step r p i j) t a h = refl
-kept-options-call (run b) t a h = refl
+-- No call changes a sheet's N, whatever is lent to it.
+marks-options : (ls : List Line) (s : List ℕ) → options-in (with-marks s ls) ≡ options-in s
+unfolding with-marks appended
+marks-options [] s = refl
+marks-options (l ∷ ls) s = marks-options ls (appended s l) ∙ options-made (options-in s) (chosen l (nodes-in s))
 
+pub same-options : (c : Call) (t : State) → options-in (after-call c t .sheet) ≡ options-in (t .sheet)
+unfolding after-call keyWith keyOf withdrawWith withdrawOf stepWith stepOf runWith runOf appended stepped run-through
+same-options (key index v negative) t =
+    with-cases (λ u. u .sheet) t index tt _ (key-refusal t v) (λ o. options-in (o .lent .own .sheet) ≡ options-in (t .sheet))
+    (λ r. refl)
+    (λ e right. options-made (options-in (t .sheet)) _)
+same-options (withdraw b index k) t =
+    with-cases (λ u. u .sheet) t index tt _ (withdraw-refusal t b k) (λ o. options-in (o .lent .own .sheet) ≡ options-in (t .sheet))
+    (λ r. refl)
+    (λ e right.
+    marks-options (without k (counted t)) (sheet-of (options-of b) (book-nodes b))
+    ∙ options-made (options-of b) (book-nodes b)
+    ∙ withdraw-accepted t b k e .same)
+same-options (step index r p i j) t =
+    let s = t .sheet in
+    with-cases (λ u. u) s index tt _ (step-refusal s r p i j) (λ o. options-in (o .lent .own) ≡ options-in s)
+    (λ r. refl)
+    (λ e right. options-made (options-in s) _)
+same-options (run index b) t =
+    let s = t .sheet in
+    with-cases (λ u. u) s index _ _ (run-refusal s) (λ o. options-in (o .lent .own) ≡ options-in s)
+    (λ r. refl)
+    (λ e right. options-made (options-in s) _)
+
+-- So none changes the options of the account's book.
 pub kept-options :
     (cs : List Call) (t : State) (a : Account) →
     Agrees a t →
@@ -460,7 +475,8 @@ pub kept-options :
 unfolding account-calls
 kept-options [] t a h = refl
 kept-options (c ∷ cs) t a h =
-    kept-options cs (after-call c t) (account-call c t a) (call-effect c t a h .agrees) ∙ kept-options-call c t a h
+    let there = call-effect c t a h .agrees in
+    kept-options cs (after-call c t) (account-call c t a) there ∙ sym (there .keeps .options) ∙ same-options c t ∙ h .keeps .options
 
 -- One list of calls after another.
 pub after-append : (cs ds : List Call) (t : State) → after-calls (cs ++ ds) t ≡ after-calls ds (after-calls cs t)

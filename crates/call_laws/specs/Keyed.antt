@@ -2,7 +2,7 @@
 use mathlib.Core.Bool.{Bool, true, false}
 use mathlib.Core.List.{List, [], _∷_, _++_}
 use mathlib.Core.Logic.{_⊎_, inl, inr}
-use mathlib.Core.Path.{_≡_, refl, ap, _∙_}
+use mathlib.Core.Path.{_≡_, refl, sym, ap, _∙_}
 use Prim.Native.Nat.{ℕ}
 use native.Mathlib.Omega.{arith}
 use lib.Dec.{eqb}
@@ -13,16 +13,23 @@ use Rattle.calls.specs.Lines.{State}
 use Rattle.calls.specs.Conditions.{has-full-list}
 use Rattle.calls.specs.Calls.{lookupOf}
 use Rattle.calls.specs.History.{Call, key, after-call, after-calls}
+use Rattle.calls.specs.Index.{fresh-count}
 use Rattle.calls.specs.Desk.{key-found, key-signed, keyed, go-on, all-keyed}
+use Rattle.theory_index.specs.Right.{fresh-right}
+use Rattle.theory_index.specs.WithIndex.{key-right}
 
--- What a line leaves is the state as it was, or as a keying leaves it.
+-- What a line leaves is the state as it was, or as a keying leaves it: the desk keeps no index, and keys as a call does whose index is
+-- the fresh count.
 abbrev One-call : State → State → Type 0
 One-call t left = (left ≡ t) ⊎ ((c : Call) × (left ≡ after-call c t))
 
 found-call : (found : Answer ℕ) (negative : Bool) (t : State) → One-call t (key-found found negative t .lent)
 unfolding key-found after-call
 found-call (refused r) negative t = inl refl
-found-call (accepted v) negative t = inr (key v negative, refl)
+found-call (accepted v) negative t =
+    let s = t .sheet in
+    let same = key-right t (fresh-count s) (fresh-right s) v negative in
+    inr (key (fresh-count s) v negative, sym (ap (λ o. o .lent .own) same))
 
 signed-call : (book l : List ℕ) (t : State) → One-call t (key-signed book l t .lent)
 unfolding key-signed pick

@@ -1,15 +1,20 @@
 -- Chains of refusals, whatever they are: which refusal a chain gives, and what a call that goes by it answers.
-use mathlib.Core.Bool.{Bool, true, false}
+use mathlib.Core.Bool.{Bool, true, false, not}
 use mathlib.Core.List.{List, [], _∷_, _++_}
 use mathlib.Core.Logic.{_↔_, Iff·trans}
 use mathlib.Core.Option.{Option, none, some}
 use mathlib.Core.Path.{_≡_, refl, sym, ap, _∙_}
 use Prim.Native.Nat.{ℕ}
 use native.Mathlib.Omega.{arith}
-use Rattle.model.specs.Base.{any, only-if, first-of}
-use Rattle.calls.specs.Refusals.{Refusal, due, _or-else_}
+use borrow.Author.Tests.{not-true}
+use Rattle.model.specs.Base.{all, any, only-if, first-of, then}
+use Rattle.calls.specs.Refusals.{Refusal, sheet-refused, output-refused, due, _or-else_}
+use Rattle.calls.specs.Conditions.{has-short-index, has-stale-index}
+use Rattle.calls.specs.Chains.{is-early, early, index-refusal}
 use Rattle.calls.specs.Outcomes.{Answer, refused, accepted, answer, outcome}
-use Rattle.theory_forms.specs.Logic.{none-some, some-inj, or-neither, none-due}
+use Rattle.calls.specs.Calls.{with-index}
+use Rattle.theory_forms.specs.Logic.{none-some, some-inj, and-split, or-neither, none-due}
+use Rattle.theory_index.specs.WithIndex.{with-index-is}
 
 -- A refusal and the condition that it is due on.
 pub record Test : Type 0 where
@@ -110,6 +115,60 @@ unfolding first-of
 first-last none = refl
 first-last (some r) = refl
 
+-- What a chain gives is one of its refusals.
+first-among :
+    (p : Refusal → Bool) (ts : List Test) {r : Refusal} →
+    all (λ t. p (t .refusal)) ts ≡ true →
+    first-due ts ≡ some r →
+    p r ≡ true
+unfolding first-due first-of only-if all
+first-among p [] h e = none-some e
+first-among p (t ∷ ts) {r} h e = let w = and-split (p (t .refusal)) _ h in go (t .holds) e (w .0) (first-among p ts (w .1))
+  where
+    go :
+        (b : Bool) →
+        first-of (only-if b (t .refusal)) (first-due ts) ≡ some r →
+        p (t .refusal) ≡ true →
+        (first-due ts ≡ some r → p r ≡ true) →
+        p r ≡ true
+    go true e h f = ap p (sym (some-inj e)) ∙ h
+    go false e h f = f e
+
+-- The chain of a call with an index. Where the chain without one begins with refusals that come before the 11 of an index and goes on
+-- with others, that 11 stands between them, and 12 at the end.
+module _ (s index : List ℕ) (before after : List Test) where
+  pub with-index-chain :
+      all (λ t. is-early (t .refusal)) before ≡ true →
+      all (λ t. not (is-early (t .refusal))) after ≡ true →
+      index-refusal s index (first-due (before ++ after))
+      ≡ first-due (before ++ (sheet-refused on has-stale-index s index ∷ (after ++ (output-refused on has-short-index s index ∷ []))))
+  unfolding index-refusal early then only-if first-of first-due
+  with-index-chain p q =
+      rw (
+        first-append before after,
+        first-append before (stale ∷ (after ++ (short ∷ []))),
+        first-append after (short ∷ []),
+      )
+      (go (first-due before) (first-due after) (due (stale .holds) (stale .refusal)) (due (short .holds) (short .refusal))
+      (λ r e. first-among is-early before p e)
+      (λ r e. not-true (is-early r) (first-among (λ x. not (is-early x)) after q e)))
+    where
+      stale : Test
+      stale = sheet-refused on has-stale-index s index
+
+      short : Test
+      short = output-refused on has-short-index s index
+
+      go :
+          (early-one late-one at-stale at-short : Option Refusal) →
+          ((r : Refusal) → early-one ≡ some r → is-early r ≡ true) →
+          ((r : Refusal) → late-one ≡ some r → is-early r ≡ false) →
+          first-of (early (first-of early-one late-one)) (first-of at-stale (first-of (first-of early-one late-one) at-short))
+          ≡ first-of early-one (first-of at-stale (first-of late-one (first-of at-short none)))
+      go (some r) late-one at-stale at-short h k = rw (h r refl)
+      go none none at-stale at-short h k = rw (first-last at-short)
+      go none (some r) at-stale at-short h k = rw (k r refl)
+
 -- An answer by a chain: refused exactly by the first refusal that is due, a result exactly where none is.
 pub record By-chain {A : Type 0} (given : Answer A) (tests : List Test) : Type 0 where
   pub refusal : (r : Refusal) → (given ≡ refused r) ↔ First r tests
@@ -139,3 +198,20 @@ module _ {A : Type 0} (a : A) {tests : List Test} where
   unfolding outcome answer
   answered-lent kept filled none e = answered none e
   answered-lent kept filled (some r) e = answered (some r) e
+
+-- A call with an index, by the chain of the call without one.
+pub answered-with :
+    {L A : Type 0} (sheet : L → List ℕ) (held : L) (index : List ℕ) (a : A) (filled : L) (own : Option Refusal)
+    (before after : List Test) →
+    own ≡ first-due (before ++ after) →
+    all (λ t. is-early (t .refusal)) before ≡ true →
+    all (λ t. not (is-early (t .refusal))) after ≡ true →
+    By-chain
+    (with-index sheet held index (outcome own a held filled) .answer)
+    (before
+    ++ (sheet-refused on has-stale-index (sheet held) index
+    ∷ (after ++ (output-refused on has-short-index (sheet held) index ∷ []))))
+answered-with sheet held index a filled own before after e p q =
+    rw (with-index-is sheet held index a filled own)
+    (answered-lent a _ _ (index-refusal (sheet held) index own)
+    (ap (index-refusal (sheet held) index) e ∙ with-index-chain (sheet held) index before after p q))

@@ -1,7 +1,7 @@
 -- Lines keyed one after another on a sheet that has room for all their marks: none is refused. Lists of calls in parts, and calls that
 -- leave the account as it is.
 use mathlib.Core.Bool.{Bool, true, false, not}
-use mathlib.Core.List.{List, [], _∷_, _++_, map, append-nil, append-assoc}
+use mathlib.Core.List.{List, [], _∷_, _++_, append-nil, append-assoc}
 use mathlib.Core.Option.{none}
 use mathlib.Core.Path.{_≡_, refl, sym, ap, _∙_}
 use Prim.Native.Nat.{ℕ, _+_, _*_, _≤_, _<_}
@@ -18,10 +18,13 @@ use Rattle.model.specs.Results.{appended}
 use Rattle.calls.specs.Outcomes.{Answer, refused, accepted, outcome, if-accepted}
 use Rattle.calls.specs.Lines.{Line, most-lines, State, counted, with-marks}
 use Rattle.calls.specs.Chains.{key-refusal}
-use Rattle.calls.specs.Calls.{keyOf, withdrawOf}
+use Rattle.calls.specs.Index.{fresh-count}
+use Rattle.calls.specs.Calls.{keyOf, keyWith, withdrawWith}
 use Rattle.calls.specs.History.{Call, key, withdraw, step, run, after-call, after-calls, Account, with-choice, without-line}
 use Rattle.calls.specs.History.{account-call, account-calls, rekeys, is-stretch}
 use Rattle.theory_forms.specs.Logic.{true-false, and-split}
+use Rattle.theory_index.specs.Right.{fresh-right}
+use Rattle.theory_index.specs.WithIndex.{beside, key-right}
 use Rattle.call_laws.specs.Accepted.{InOrder, in-order-lines, Keyable}
 use Rattle.call_laws.specs.OrderLines.{keyed-counted, known-more, mark-put}
 
@@ -61,10 +64,14 @@ keyed-in-order t l sheet o free known room =
       known = rw (now, marked .options) (known-more (options-in (t .sheet)) (counted t) l (o .known) known);
     }
 
--- The call that keys a line.
-unfoldable pub keying : Line → Call
-keying (pos v) = key v false
-keying (neg v) = key v true
+-- The call that keys a line, with the fresh count of the sheet that it is lent as its index; and those that key lines one after another.
+unfoldable pub keying : State → Line → Call
+keying t (pos v) = key (fresh-count (t .sheet)) v false
+keying t (neg v) = key (fresh-count (t .sheet)) v true
+
+unfoldable pub keyings : List Line → State → List Call
+keyings [] t = []
+keyings (l ∷ ls) t = keying t l ∷ keyings ls (after-call (keying t l) t)
 
 -- What it leaves of the state and of the account, where it is accepted.
 pub key-outcome :
@@ -74,20 +81,32 @@ pub key-outcome :
 unfolding keyOf outcome
 key-outcome t v negative e = rw e
 
+fresh-outcome :
+    (t : State) (v : ℕ) (negative : Bool) →
+    key-refusal t v ≡ none →
+    let index = fresh-count (t .sheet) in
+    keyWith t index v negative
+    ≡ beside (λ u. u .sheet) index (record { answer = accepted tt; lent = keyed-state t (literal v negative) })
+fresh-outcome t v negative e =
+    let index = fresh-count (t .sheet) in
+    key-right t index (fresh-right (t .sheet)) v negative ∙ ap (beside (λ u. u .sheet) index) (key-outcome t v negative e)
+
 keying-done :
     (t : State) (a : Account) (l : Line) →
     key-refusal t (option l) ≡ none →
-    (after-call (keying l) t ≡ keyed-state t l) × (account-call (keying l) t a ≡ with-choice a l)
+    (after-call (keying t l) t ≡ keyed-state t l) × (account-call (keying t l) t a ≡ with-choice a l)
 unfolding keying option after-call account-call if-accepted literal pick
 keying-done t a (pos v) e =
-    (ap (λ o. o .lent) (key-outcome t v false e), ap (λ o. if-accepted (o .answer) a (λ _. with-choice a (pos v))) (key-outcome t v false e))
+    let o = fresh-outcome t v false e in
+    (ap (λ x. x .lent .own) o, ap (λ x. if-accepted (x .answer) a (λ _. with-choice a (pos v))) o)
 keying-done t a (neg v) e =
-    (ap (λ o. o .lent) (key-outcome t v true e), ap (λ o. if-accepted (o .answer) a (λ _. with-choice a (neg v))) (key-outcome t v true e))
+    let o = fresh-outcome t v true e in
+    (ap (λ x. x .lent .own) o, ap (λ x. if-accepted (x .answer) a (λ _. with-choice a (neg v))) o)
 
 -- All of them.
 pub record Rekeyed (ls : List Line) (t : State) (a : Account) : Type 0 where
-  pub sheet : after-calls (map keying ls) t .sheet ≡ with-marks (t .sheet) ls
-  pub choices : account-calls (map keying ls) t a .choices ≡ a .choices ++ ls
+  pub sheet : after-calls (keyings ls t) t .sheet ≡ with-marks (t .sheet) ls
+  pub choices : account-calls (keyings ls t) t a .choices ≡ a .choices ++ ls
 
 pub all-rekeyed :
     (ls : List Line) (t : State) (a : Account) →
@@ -97,7 +116,7 @@ pub all-rekeyed :
     weight (nodes-in (t .sheet)) + literal-weight * length ls ≤ most-weight →
     t .count + length ls ≤ most-lines →
     Rekeyed ls t a
-unfolding after-calls account-calls with-marks all
+unfolding after-calls account-calls with-marks all keyings
 all-rekeyed [] t a sheet o known room few = record { sheet = refl; choices = sym (append-nil (a .choices)) }
 all-rekeyed (l ∷ ls) t a sheet o known room few =
     let w = and-split (ltb (option l) (options-in (t .sheet))) _ known in
@@ -111,9 +130,9 @@ all-rekeyed (l ∷ ls) t a sheet o known room few =
     (keyed-in-order t l sheet o (omega arith) here (omega arith))
     (rw (one .options) (w .1)) (omega (arith, one .weight)) (omega arith) in
     record {
-      sheet = ap (λ u. after-calls (map keying ls) u .sheet) (done .0) ∙ later .sheet;
+      sheet = ap (λ u. after-calls (keyings ls u) u .sheet) (done .0) ∙ later .sheet;
       choices =
-          (λ i. account-calls (map keying ls) (done .0 i) (done .1 i) .choices)
+          (λ i. account-calls (keyings ls (done .0 i)) (done .0 i) (done .1 i) .choices)
           ∙ later .choices
           ∙ append-assoc (a .choices) (l ∷ []) ls;
     }
@@ -129,7 +148,7 @@ account-append (c ∷ cs) ds t a = account-append cs ds (after-call c t) (accoun
 -- A call that neither keys nor withdraws leaves the account.
 quiet-call : (c : Call) (t : State) (a : Account) → rekeys c t ≡ false → account-call c t a ≡ a
 unfolding account-call rekeys if-accepted
-quiet-call (key v negative) t a e = go (keyOf t v negative .answer) e
+quiet-call (key index v negative) t a e = go (keyWith t index v negative .answer) e
   where
     go :
         (o : Answer (Unit {0})) →
@@ -137,7 +156,7 @@ quiet-call (key v negative) t a e = go (keyOf t v negative .answer) e
         if-accepted o a (λ _. with-choice a (literal v negative)) ≡ a
     go (refused r) e = refl
     go (accepted u) e = true-false e
-quiet-call (withdraw b k) t a e = go (withdrawOf t b k .answer) e
+quiet-call (withdraw b index k) t a e = go (withdrawWith t b index k .answer) e
   where
     go :
         (o : Answer (Unit {0})) →
@@ -145,8 +164,8 @@ quiet-call (withdraw b k) t a e = go (withdrawOf t b k .answer) e
         if-accepted o a (λ _. without-line a b k) ≡ a
     go (refused r) e = refl
     go (accepted u) e = true-false e
-quiet-call (step r p i j) t a e = refl
-quiet-call (run b) t a e = refl
+quiet-call (step index r p i j) t a e = refl
+quiet-call (run index b) t a e = refl
 
 pub quiet-calls : (cs : List Call) (t : State) (a : Account) → is-stretch cs t ≡ true → account-calls cs t a ≡ a
 unfolding account-calls is-stretch

@@ -1,7 +1,8 @@
 -- A list of calls that ends in a settled run leaves a sheet in normal form.
-use mathlib.Core.Bool.{true}
+use mathlib.Core.Bool.{true, false}
 use mathlib.Core.List.{List, [], _∷_, _++_}
 use mathlib.Core.Logic.{_⊎_, inl, inr, ⊎-elim, _↔_}
+use mathlib.Core.Option.{none}
 use mathlib.Core.Path.{_≡_, refl, sym, ap, subst}
 use Prim.Native.Nat.{ℕ, suc, _≤_}
 use native.Mathlib.Omega.{arith}
@@ -12,8 +13,12 @@ use Rattle.model.specs.Clauses.{Derived, Contradictory, clauses}
 use Rattle.model.specs.Rules.{NoRule}
 use Rattle.model.specs.Strategy as strategy
 use Rattle.model.specs.Sheet.{options-in, nodes-in, is-sheet, clauses-in, is-unit, Falsum}
-use Rattle.calls.specs.Outcomes.{if-accepted}
+use Rattle.model.specs.Results.{run-through}
+use Rattle.calls.specs.Outcomes.{if-accepted, Outcome}
 use Rattle.calls.specs.Lines.{State}
+use Rattle.calls.specs.Index.{Indexed}
+use Rattle.calls.specs.Chains.{run-refusal}
+use Rattle.calls.specs.Calls.{Ran, runOf, runWith}
 use Rattle.calls.specs.History.{Call, key, withdraw, step, run, after-call, after-calls, Account, account-call, says-settled, ends-settled}
 use Rattle.theory_forms.specs.Logic.{true-false, either}
 use Rattle.theory_meaning.specs.Clauses.{clauses-root}
@@ -21,7 +26,8 @@ use Rattle.theory_forms.specs.Shape.{shaped-decode}
 use Rattle.call_laws.specs.Normal.{normal-form, falsum-contradictory}
 use Rattle.theory_rewriting.specs.Runs.{run-steps, run-settled, run-stopped, run-is}
 use Rattle.theory_forms.specs.Sheets.{sheet-shaped}
-use Rattle.call_laws.specs.Effects.{Agrees, call-effect, run-outcome, run-leaves}
+use Rattle.theory_index.specs.WithIndex.{with-cases}
+use Rattle.call_laws.specs.Effects.{Agrees, call-effect, run-leaves}
 
 -- A run that says settled leaves a sheet to which no rule applies.
 settled-call :
@@ -29,14 +35,21 @@ settled-call :
     is-sheet (t .sheet) ≡ true →
     says-settled c t ≡ true →
     NoRule (nodes-in (after-call c t .sheet))
-unfolding says-settled after-call if-accepted
-settled-call (key v negative) t h e = true-false (sym e)
-settled-call (withdraw b k) t h e = true-false (sym e)
-settled-call (step r p i j) t h e = true-false (sym e)
-settled-call (run b) t h e =
-    let s = t .sheet in
-    let said = run-outcome s b h in
-    rw (said, after-call) (subst NoRule (sym (run-leaves s b h)) (run-settled b (nodes-in s) .0 (rw said at e)))
+unfolding says-settled after-call if-accepted runWith runOf run-through
+settled-call (key index v negative) t h e = true-false (sym e)
+settled-call (withdraw b index k) t h e = true-false (sym e)
+settled-call (step index r p i j) t h e = true-false (sym e)
+settled-call (run index b) t h e =
+    with-cases (λ u. u) s index _ _ (run-refusal s) Settled
+    (λ r said. true-false (sym said))
+    (λ none right said. subst NoRule (sym (run-leaves s b h)) (run-settled b (nodes-in s) .0 said))
+    e
+  where
+    s : List ℕ
+    s = t .sheet
+
+    Settled : Outcome (Indexed (List ℕ)) Ran → Type 0
+    Settled o = if-accepted (o .answer) false (λ r. r .settled) ≡ true → NoRule (nodes-in (o .lent .own))
 
 pub ends-no-rule :
     (cs : List Call) (t : State) (a : Account) →

@@ -2,10 +2,10 @@
 ghost use mathlib.Core.Path.{_≡_};
 ghost use Prim.Native.Nat.{_≤_};
 ghost use Rattle.calls.specs.Chains.{«withdraw-refusal»};
-ghost use Rattle.calls.specs.Calls.{withdrawOf};
+ghost use Rattle.calls.specs.Calls.{withdrawWith};
 ghost use Rattle.calls.specs.Lines.{«most-lines»};
 ghost use Rattle.theory_formats.specs.Loading.{Accepted};
-ghost use Rattle.call_answers.specs.AnswerMeaning.{doneOf, dueOf, afterCall, onSheet};
+ghost use Rattle.call_answers.specs.AnswerMeaning.{doneOf, dueOf, afterCall, besideIndex, onIndexedSheet};
 ghost use Rattle.order_lines.specs.LineMeaning.{order};
 ghost use Rattle.call_withdrawal.specs.LastTests.{«line-refusal»};
 use call_answers::Done;
@@ -30,7 +30,7 @@ fn refuse_line(book: &[u8], count: u16, k: u64) -> Done
     Done::Accepted
 }
 
-// Why a withdrawal is refused. Nothing is written yet.
+// Why a withdrawal is refused, apart from its index. Nothing is written yet.
 fn refuse(sheet: &[u16], book: &[u8], lines: [Line; SLOTS], count: u16, k: u64) -> Done
     ensures { λ r. ⌜ dueOf r ≡ «withdraw-refusal» (order (now (sheet .entry)) lines count) (now (book .entry)) k ⌝ }
 {
@@ -50,18 +50,28 @@ fn refuse(sheet: &[u16], book: &[u8], lines: [Line; SLOTS], count: u16, k: u64) 
     refuse_line(book, count, k)
 }
 
-// The withdrawal of line k, by a copy of the lines: what it answers, and what it leaves of the sheet. Once all is tested the book is
-// loaded and the standing lines get their marks, of which none can be refused.
-pub fn withdraw(sheet: &mut [u16], book: &[u8], lines: [Line; SLOTS], count: u16, k: u64) -> Done
+// The withdrawal of line k, by a copy of the lines: what it answers, and what it leaves of the sheet and the index. Once all is tested the
+// book is loaded and the standing lines get their marks, of which none can be refused; then the index is counted anew.
+pub fn withdraw(
+    sheet: &mut [u16],
+    book: &[u8],
+    lines: [Line; SLOTS],
+    count: u16,
+    index: &mut [u16],
+    k: u64,
+) -> Done
     ensures { λ r. ⌜
-        afterCall (doneOf r) (now (sheet .exit))
-        ≡ onSheet (withdrawOf (order (now (sheet .entry)) lines count) (now (book .entry)) k) ⌝ }
+        afterCall (doneOf r) (besideIndex (now (sheet .exit)) (now (index .exit)))
+        ≡ onIndexedSheet
+        (withdrawWith (order (now (sheet .entry)) lines count) (now (book .entry)) (now (index .entry)) k) ⌝ }
 {
-    let refused = refuse(sheet, book, lines, count, k);
+    let own = refuse(sheet, book, lines, count, k);
+    let refused = call_index::refuse(sheet, index, own);
     let Done::Accepted = refused else {
         return refused;
     };
     book_load::fill_sheet(book, sheet);
     order_marks::put_standing(sheet, lines, common_nodes::wide16(count), k as usize);
+    sheet_index::fill(sheet, index);
     Done::Accepted
 }

@@ -10,10 +10,12 @@ use Rattle.model.specs.Strategy.{run}
 use Rattle.model.specs.Sheet.{nodes-in, sheet-of, report-in}
 use Rattle.model.specs.Results.{appended, stepped, run-through}
 use Rattle.model.specs.Book.{options-of, codes-of, book-nodes, written, option-of-code}
-use Rattle.calls.specs.Outcomes.{Answer, answer, Outcome, outcome}
+use Rattle.calls.specs.Outcomes.{Answer, answer, Outcome, outcome, refusal-in, unless}
 use Rattle.calls.specs.Chains.{book-refusal, lookup-refusal, load-refusal, write-refusal, report-refusal}
 use Rattle.calls.specs.Chains.{complete-refusal, key-refusal, withdraw-refusal, step-refusal, run-refusal}
+use Rattle.calls.specs.Chains.{fill-refusal, index-refusal}
 use Rattle.calls.specs.Lines.{State, counted, without, moved-up, with-marks}
+use Rattle.calls.specs.Index.{fresh-count, Indexed}
 
 -- The book check.
 unfoldable pub checkOf : List ℕ → Answer (Unit {0})
@@ -43,7 +45,8 @@ reportOf s out =
 unfoldable pub completeOf : List ℕ → Answer Bool
 completeOf s = answer (complete-refusal s) (complete (report-in s))
 
--- A keying. Document 02, U2: "keying adds a line and the mark".
+-- The next four are without an index, as the desk program makes them; with one they stand at the end. A keying. Document 02, U2: "keying
+-- adds a line and the mark".
 unfoldable pub keyOf : State → ℕ → Bool → Outcome State (Unit {0})
 keyOf t v negative =
     outcome (key-refusal t v) tt t
@@ -80,3 +83,31 @@ runOf s budget =
     (record { settled = run budget (nodes-in s) .settled; count = run budget (nodes-in s) .count })
     s
     (run-through s budget)
+
+-- Document 02, U5: "One call fills it from any sheet, whatever it held." "Numbers past twice N stay."
+unfoldable pub fillOf : List ℕ → List ℕ → Outcome (List ℕ) (Unit {0})
+fillOf s index = outcome (fill-refusal s index) tt index (placed (fresh-count s) index)
+
+-- Document 02, U5: "Every choice, withdrawal, step and run brings the index up to date, and it must then equal a fresh count of the
+-- sheet." A call with an index, by the call without one: all that it may write has a sheet, and it held this before.
+unfoldable pub with-index : {L A : Type 0} → (L → List ℕ) → L → List ℕ → Outcome L A → Outcome (Indexed L) A
+with-index sheet held index o =
+    unless
+    (index-refusal (sheet held) index (refusal-in (o .answer)))
+    (record { own = held; index = index })
+    (record {
+      answer = o .answer;
+      lent = record { own = o .lent; index = placed (fresh-count (sheet (o .lent))) index };
+    })
+
+unfoldable pub keyWith : State → List ℕ → ℕ → Bool → Outcome (Indexed State) (Unit {0})
+keyWith t index v negative = with-index (λ u. u .sheet) t index (keyOf t v negative)
+
+unfoldable pub withdrawWith : State → List ℕ → List ℕ → ℕ → Outcome (Indexed State) (Unit {0})
+withdrawWith t book index k = with-index (λ u. u .sheet) t index (withdrawOf t book k)
+
+unfoldable pub stepWith : List ℕ → List ℕ → ℕ → ℕ → ℕ → ℕ → Outcome (Indexed (List ℕ)) (Unit {0})
+stepWith s index rule place i j = with-index (λ u. u) s index (stepOf s rule place i j)
+
+unfoldable pub runWith : List ℕ → List ℕ → ℕ → Outcome (Indexed (List ℕ)) Ran
+runWith s index budget = with-index (λ u. u) s index (runOf s budget)

@@ -1,10 +1,13 @@
 -- The refusals of each call in their order: "11 for the sheet; the book as 1 (under 8), 2, 1, 3, 4, 5, 6; 11 for N; then 7, 8, 9, 10;
--- last 12". Document 02, U2: 13 and 14 "both come after 11 and before 7". The first that is due is the call's answer.
-use mathlib.Core.Bool.{not}
+-- last 12". Document 02, U2: 13 and 14 "both come after 11 and before 7". The first that is due is the call's answer. Those of a keying, a
+-- withdrawal, a step and a run stand here without an index; `index-refusal` puts an index's own among them.
+use mathlib.Core.Bool.{Bool, not, _||_}
 use mathlib.Core.List.{List}
 use mathlib.Core.Option.{Option}
 use Prim.Native.Nat.{ℕ}
+use lib.Dec.{eqb, leb}
 use lib.ListN.{length}
+use Rattle.model.specs.Base.{then}
 use Rattle.model.specs.Rules.{is-rule}
 use Rattle.model.specs.Sheet.{options-in, is-sheet}
 use Rattle.model.specs.Book.{head-in-limits, written}
@@ -12,10 +15,11 @@ use Rattle.calls.specs.Refusals.{Refusal, due, _or-else_}
 use Rattle.calls.specs.Refusals.{length-refused, head-refused, code-refused, contents-refused, body-refused, weight-refused}
 use Rattle.calls.specs.Refusals.{option-refused, full-refused, rule-refused, step-refused, sheet-refused, output-refused}
 use Rattle.calls.specs.Conditions.{lacks-head, is-length-due, has-good-codes, has-good-contents, has-good-bodies, is-light}
-use Rattle.calls.specs.Refusals.{line-refused, list-refused}
+use Rattle.calls.specs.Refusals.{line-refused, list-refused, refusal-number}
 use Rattle.calls.specs.Lines.{State}
 use Rattle.calls.specs.Conditions.{has-option, has-code, is-full, applies, is-book-of, is-long-enough, is-shorter}
 use Rattle.calls.specs.Conditions.{leaves-too-much, has-lines-in-order, has-line, has-full-list}
+use Rattle.calls.specs.Conditions.{has-short-index, has-stale-index}
 
 -- What is tested of a book once its head and its length are right.
 unfoldable pub part-refusal : List ℕ → Option Refusal
@@ -80,3 +84,24 @@ step-refusal s rule place i j =
 
 unfoldable pub run-refusal : List ℕ → Option Refusal
 run-refusal s = due (not (is-sheet s)) sheet-refused
+
+-- Document 02, U5: the call that fills an index, "from any sheet, whatever it held".
+unfoldable pub fill-refusal : List ℕ → List ℕ → Option Refusal
+fill-refusal s index =
+    due (not (is-sheet s)) sheet-refused or-else due (has-short-index s index) output-refused
+
+-- The refusals that come before the 11 of an index: a book's, 1 to 6, and every other 11.
+unfoldable pub is-early : Refusal → Bool
+is-early r = leb (refusal-number r) 6 || eqb (refusal-number r) 11
+
+unfoldable pub early : Option Refusal → Option Refusal
+early own = then own (λ r. due (is-early r) r)
+
+-- Document 02, U5: a choice, withdrawal, step or run is lent an index beside the sheet. "An index long enough but unequal to the fresh
+-- count before the call is refused 11", with the other 11s; "one shorter than twice N 12", last of all. So by what is due without one:
+unfoldable pub index-refusal : List ℕ → List ℕ → Option Refusal → Option Refusal
+index-refusal s index own =
+    early own
+    or-else due (has-stale-index s index) sheet-refused
+    or-else own
+    or-else due (has-short-index s index) output-refused

@@ -1,10 +1,10 @@
 -- The conditions that the refusals are due on, each by its name.
-use mathlib.Core.Bool.{Bool, _&&_}
+use mathlib.Core.Bool.{Bool, not, _&&_}
 use mathlib.Core.List.{List}
 use Prim.Native.Nat.{ℕ, _+_, _-_, _*_}
 use lib.Dec.{eqb, leb, ltb}
-use lib.ListN.{length}
-use Rattle.model.specs.Base.{all, is-some}
+use lib.ListN.{length, take}
+use Rattle.model.specs.Base.{all, is-some, same-list}
 use Rattle.model.specs.Literal.{option}
 use Rattle.model.specs.Code.{weight}
 use Rattle.model.specs.Rules.{step}
@@ -13,6 +13,7 @@ use Rattle.model.specs.Sheet.{options-in, nodes-in}
 use Rattle.model.specs.Book.{options-of, size-of, length-due, codes-of, codes-ok, contents-of, in-line, bodies-of, body-ok}
 use Rattle.model.specs.Book.{book-nodes, option-of-code}
 use Rattle.calls.specs.Lines.{most-lines, State, counted}
+use Rattle.calls.specs.Index.{fresh-count}
 
 -- "1 length (fewer than 8 bytes, or not the length due)."
 abbrev pub lacks-head : List ℕ → Bool
@@ -80,3 +81,15 @@ has-line t k = ltb k (t .count)
 
 abbrev pub has-full-list : State → Bool
 has-full-list t = eqb (t .count) most-lines
+
+-- Document 02, U5: "one shorter than twice N 12"; "an index long enough but unequal to the fresh count before the call is refused 11".
+-- "Numbers past twice N stay", and are not looked at.
+abbrev pub index-length : List ℕ → ℕ
+index-length s = 2 * options-in s
+
+abbrev pub has-short-index : List ℕ → List ℕ → Bool
+has-short-index s index = is-shorter index (index-length s)
+
+abbrev pub has-stale-index : List ℕ → List ℕ → Bool
+has-stale-index s index =
+    not (has-short-index s index) && not (same-list (take (index-length s) index) (fresh-count s))

@@ -6,16 +6,16 @@ use Rattle.model.specs.Literal.{Literal, literal}
 use Rattle.model.specs.Clauses.{Clause}
 use Rattle.model.specs.Book.{clauses-of-book}
 use Rattle.calls.specs.Outcomes.{if-accepted}
-use Rattle.calls.specs.Calls.{keyOf, withdrawOf, stepOf, runOf}
+use Rattle.calls.specs.Calls.{keyWith, withdrawWith, stepWith, runWith}
 use Rattle.calls.specs.Lines.{Line, State, counted, without}
 
 -- "The list holds choices, single steps and runs, in any order and number, with any arguments." Document 02, U2: "Withdrawals,
--- refused ones too, now stand in the list."
+-- refused ones too, now stand in the list." U5: each names an index of its own, any numbers.
 pub data Call : Type 0 where
-  key : ℕ → Bool → Call
-  withdraw : List ℕ → ℕ → Call
-  step : ℕ → ℕ → ℕ → ℕ → Call
-  run : ℕ → Call
+  key : List ℕ → ℕ → Bool → Call
+  withdraw : List ℕ → List ℕ → ℕ → Call
+  step : List ℕ → ℕ → ℕ → ℕ → ℕ → Call
+  run : List ℕ → ℕ → Call
 
 -- "Each call is lent the sheet as the call before left it." Document 02, U2: "each keying and withdrawal is lent the lines as the one
 -- before left them, and nothing else writes them".
@@ -23,10 +23,10 @@ abbrev pub with-sheet : State → List ℕ → State
 with-sheet t s = record { sheet = s; lines = t .lines; count = t .count }
 
 unfoldable pub after-call : Call → State → State
-after-call (key v negative) t = keyOf t v negative .lent
-after-call (withdraw book k) t = withdrawOf t book k .lent
-after-call (step r p i j) t = with-sheet t (stepOf (t .sheet) r p i j .lent)
-after-call (run b) t = with-sheet t (runOf (t .sheet) b .lent)
+after-call (key index v negative) t = keyWith t index v negative .lent .own
+after-call (withdraw book index k) t = withdrawWith t book index k .lent .own
+after-call (step index r p i j) t = with-sheet t (stepWith (t .sheet) index r p i j .lent .own)
+after-call (run index b) t = with-sheet t (runWith (t .sheet) index b .lent .own)
 
 unfoldable pub after-calls : List Call → State → State
 after-calls [] t = t
@@ -54,11 +54,11 @@ without-line a book k = record { book = book; choices = without k (a .ledger); l
 
 -- The account after a call.
 unfoldable pub account-call : Call → State → Account → Account
-account-call (key v negative) t a =
-    if-accepted (keyOf t v negative .answer) a (λ _. with-choice a (literal v negative))
-account-call (withdraw book k) t a = if-accepted (withdrawOf t book k .answer) a (λ _. without-line a book k)
-account-call (step r p i j) t a = a
-account-call (run b) t a = a
+account-call (key index v negative) t a =
+    if-accepted (keyWith t index v negative .answer) a (λ _. with-choice a (literal v negative))
+account-call (withdraw book index k) t a = if-accepted (withdrawWith t book index k .answer) a (λ _. without-line a book k)
+account-call (step index r p i j) t a = a
+account-call (run index b) t a = a
 
 unfoldable pub account-calls : List Call → State → Account → Account
 account-calls [] t a = a
@@ -75,10 +75,10 @@ meaning a = clauses-of-book (a .book) ++ choice-clauses (a .choices)
 -- "A stretch is any unbroken part of the list that holds no accepted choice." Document 02, U2: "A stretch for the step bound holds no
 -- accepted withdrawal either, even if no line is left."
 unfoldable pub rekeys : Call → State → Bool
-rekeys (key v negative) t = if-accepted (keyOf t v negative .answer) false (λ _. true)
-rekeys (withdraw book k) t = if-accepted (withdrawOf t book k .answer) false (λ _. true)
-rekeys (step r p i j) t = false
-rekeys (run b) t = false
+rekeys (key index v negative) t = if-accepted (keyWith t index v negative .answer) false (λ _. true)
+rekeys (withdraw book index k) t = if-accepted (withdrawWith t book index k .answer) false (λ _. true)
+rekeys (step index r p i j) t = false
+rekeys (run index b) t = false
 
 unfoldable pub is-stretch : List Call → State → Bool
 is-stretch [] t = true
@@ -86,10 +86,10 @@ is-stretch (c ∷ cs) t = not (rekeys c t) && is-stretch cs (after-call c t)
 
 -- "The steps it does are its accepted single steps and the counts that its runs returned, added up."
 unfoldable pub steps-of-call : Call → State → ℕ
-steps-of-call (key v negative) t = zero
-steps-of-call (withdraw book k) t = zero
-steps-of-call (step r p i j) t = if-accepted (stepOf (t .sheet) r p i j .answer) 0 (λ _. 1)
-steps-of-call (run b) t = if-accepted (runOf (t .sheet) b .answer) 0 (λ r. r .count)
+steps-of-call (key index v negative) t = zero
+steps-of-call (withdraw book index k) t = zero
+steps-of-call (step index r p i j) t = if-accepted (stepWith (t .sheet) index r p i j .answer) 0 (λ _. 1)
+steps-of-call (run index b) t = if-accepted (runWith (t .sheet) index b .answer) 0 (λ r. r .count)
 
 unfoldable pub steps-of : List Call → State → ℕ
 steps-of [] t = zero
@@ -97,10 +97,10 @@ steps-of (c ∷ cs) t = steps-of-call c t + steps-of cs (after-call c t)
 
 -- "Where the list ends in a run that says settled."
 unfoldable pub says-settled : Call → State → Bool
-says-settled (key v negative) t = false
-says-settled (withdraw book k) t = false
-says-settled (step r p i j) t = false
-says-settled (run b) t = if-accepted (runOf (t .sheet) b .answer) false (λ r. r .settled)
+says-settled (key index v negative) t = false
+says-settled (withdraw book index k) t = false
+says-settled (step index r p i j) t = false
+says-settled (run index b) t = if-accepted (runWith (t .sheet) index b .answer) false (λ r. r .settled)
 
 unfoldable pub ends-settled : List Call → State → Bool
 ends-settled [] t = false

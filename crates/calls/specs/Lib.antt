@@ -2,6 +2,7 @@
 pub mod Refusals
 pub mod Outcomes
 pub mod Lines
+pub mod Index
 pub mod Conditions
 pub mod Chains
 pub mod Calls

@@ -25,3 +25,13 @@ pub record Outcome (L A : Type 0) : Type 0 where
 unfoldable pub outcome : {L A : Type 0} → Option Refusal → A → L → L → Outcome L A
 outcome none a kept filled = record { answer = accepted a; lent = filled }
 outcome (some r) a kept filled = record { answer = refused r; lent = kept }
+
+-- Why an answer is none, if it is.
+unfoldable pub refusal-in : {A : Type 0} → Answer A → Option Refusal
+refusal-in (refused r) = some r
+refusal-in (accepted a) = none
+
+-- The outcome, unless a refusal is due: then that one, and what was held.
+unfoldable pub unless : {L A : Type 0} → Option Refusal → L → Outcome L A → Outcome L A
+unless none held o = o
+unless (some r) held o = record { answer = refused r; lent = held }

@@ -22,14 +22,25 @@ start = lined (sheet 2 (root 1 ∷ any-of 2 ∷ P ∷ Q ∷ [])) [] 0
 unfoldable pub after-first-choice : State
 after-first-choice = lined (sheet 2 (root 2 ∷ any-of 2 ∷ P ∷ Q ∷ not-Q ∷ [])) (neg 1 ∷ []) 1
 
--- A stretch: no such option, a run of one step, a step that does not apply, one that does.
+-- Document 02, U5: each call names an index. For P and for Q: how many marks, and where the first stands.
+abbrev pub mentions : ℕ → ℕ → ℕ → ℕ → List ℕ
+mentions p at-p q at-q = p ∷ at-p ∷ q ∷ at-q ∷ []
+
+-- A stretch: no such option, a run of one step, a step that does not apply, a choice whose index is not the fresh count, a step that
+-- applies, a run whose index is too short.
 unfoldable pub stretch : List Call
-stretch = key 2 false ∷ run 1 ∷ step 1 0 0 0 ∷ step 5 1 1 0 ∷ []
+stretch =
+    key (mentions 1 2 2 3) 2 false
+    ∷ run (mentions 1 2 2 3) 1
+    ∷ step (mentions 1 2 1 4) 1 0 0 0
+    ∷ key (mentions 1 2 2 3) 0 true
+    ∷ step (mentions 1 2 1 4) 5 1 1 0
+    ∷ run [] 20
+    ∷ []
 
 -- A choice, that stretch, another choice, a run to the end.
 unfoldable pub whole : List Call
-whole =
-    key 1 true ∷ key 2 false ∷ run 1 ∷ step 1 0 0 0 ∷ step 5 1 1 0 ∷ key 0 false ∷ run 20 ∷ []
+whole = key (mentions 1 2 1 3) 1 true ∷ stretch ++ (key (mentions 1 2 1 3) 0 false ∷ run (mentions 2 2 1 3) 20 ∷ [])
 
 -- No sheet at all, so that every call is refused.
 unfoldable pub no-sheet : State
@@ -51,16 +62,16 @@ listed =
       steps = steps-of whole start ∷ steps-of stretch after-first-choice ∷ steps-of whole no-sheet ∷ [];
       ends =
           ends-settled whole start
-          ∷ ends-settled (run 1 ∷ []) after-first-choice
-          ∷ ends-settled (key 1 true ∷ []) start
+          ∷ ends-settled (run (mentions 1 2 2 3) 1 ∷ []) after-first-choice
+          ∷ ends-settled (key (mentions 1 2 1 3) 1 true ∷ []) start
           ∷ ends-settled [] start
           ∷ ends-settled whole no-sheet
           ∷ [];
       stretches =
           is-stretch stretch after-first-choice
           ∷ is-stretch [] start
-          ∷ is-stretch (key 1 true ∷ []) start
-          ∷ is-stretch (key 2 true ∷ key 1 true ∷ []) start
+          ∷ is-stretch (key (mentions 1 2 1 3) 1 true ∷ []) start
+          ∷ is-stretch (key (mentions 1 2 1 3) 2 true ∷ key (mentions 1 2 1 3) 1 true ∷ []) start
           ∷ [];
     }
 
@@ -119,7 +130,7 @@ unfoldable pub unkeyed : State
 unkeyed = lined (sheet 2 (root 1 ∷ any-of 2 ∷ P ∷ Q ∷ [])) (neg 1 ∷ []) 1
 
 unfoldable pub taking-back : List Call
-taking-back = key 0 false ∷ run 1 ∷ withdraw P-or-Q 1 ∷ []
+taking-back = key (mentions 1 2 1 3) 0 false ∷ run (mentions 2 2 1 3) 1 ∷ withdraw P-or-Q (mentions 1 4 1 3) 1 ∷ []
 
 -- Another book of two options: the rule "not P".
 unfoldable pub other-book : List ℕ
@@ -135,17 +146,20 @@ pub record Taken : Type 0 where
 unfoldable pub taken : Taken
 taken =
     let first = loaded P-or-Q unkeyed in
-    let refused = key 0 false ∷ withdraw P-or-Q 2 ∷ withdraw first-book 18446744073709551616 ∷ [] in
-    let other = key 0 false ∷ withdraw other-book 0 ∷ [] in
-    let none = taking-back ++ (withdraw P-or-Q 0 ∷ run 20 ∷ []) in
+    let after = mentions 2 2 1 3 in
+    let keyed = key (mentions 1 2 1 3) 0 false in
+    let refused = keyed ∷ withdraw P-or-Q after 2 ∷ withdraw first-book after 18446744073709551616 ∷ withdraw P-or-Q [] 0 ∷ [] in
+    let other = keyed ∷ withdraw other-book after 0 ∷ [] in
+    let none = taking-back ++ (withdraw P-or-Q (mentions 1 2 2 3) 0 ∷ run (mentions 1 2 1 3) 20 ∷ []) in
     record {
       accounts =
           map (λ cs. account-calls cs unkeyed first) (taking-back ∷ refused ∷ other ∷ []);
       sheets = map (λ cs. after-calls cs unkeyed .sheet) (taking-back ∷ other ∷ none ∷ []);
       lines-are = counted (after-calls taking-back unkeyed);
       stretches =
-          is-stretch (withdraw P-or-Q 1 ∷ []) unkeyed
-          ∷ is-stretch (withdraw P-or-Q 0 ∷ []) unkeyed
+          is-stretch (withdraw P-or-Q (mentions 1 2 1 3) 1 ∷ []) unkeyed
+          ∷ is-stretch (withdraw P-or-Q (mentions 1 2 1 3) 0 ∷ []) unkeyed
+          ∷ is-stretch (withdraw P-or-Q (mentions 1 2 1 4) 0 ∷ []) unkeyed
           ∷ [];
       steps = steps-of none unkeyed;
     }
@@ -167,8 +181,8 @@ pub taken-come-to :
           ∷ sheet 2 (root 1 ∷ any-of 2 ∷ P ∷ Q ∷ [])
           ∷ [];
       lines-are = neg 1 ∷ [];
-      -- A refused withdrawal is in a stretch; an accepted one is in none, "even if no line is left".
-      stretches = true ∷ false ∷ [];
+      -- A refused withdrawal is in a stretch, refused for its index too; an accepted one is in none, "even if no line is left".
+      stretches = true ∷ false ∷ true ∷ [];
       -- "The next run counts from zero": the one step before, and none after, as no rule applies.
       steps = 1;
     }

@@ -15,6 +15,7 @@ use Rattle.model.specs.Book
 use Rattle.calls.specs.Refusals
 use Rattle.calls.specs.Outcomes
 use Rattle.calls.specs.Lines
+use Rattle.calls.specs.Index
 use Rattle.calls.specs.Chains
 use Rattle.calls.specs.Calls
 use Rattle.calls.specs.History
@@ -78,6 +79,12 @@ unfolding Refusals.refusal-number Outcomes.answer Outcomes.if-accepted Outcomes.
     Lines.moved-up Lines.with-marks
 of-calls = tt
 
+of-indexes : Unit {0}
+unfolding Index.names Index.mark-count Index.first-mark Index.entries Index.fresh-count Outcomes.refusal-in Outcomes.unless
+    Chains.fill-refusal Chains.is-early Chains.early Chains.index-refusal Calls.fillOf Calls.with-index Calls.keyWith
+    Calls.withdrawWith Calls.stepWith Calls.runWith
+of-indexes = tt
+
 of-lists : Unit {0}
 unfolding History.after-call History.after-calls History.account-call History.account-calls History.choice-clauses History.meaning
     History.rekeys History.is-stretch History.steps-of-call History.steps-of History.says-settled History.ends-settled
@@ -90,5 +97,5 @@ unfolding Desk.before-line Desk.lines Desk.key-found Desk.key-signed Desk.keyed 
 of-desk = tt
 
 unfoldable pub definitions : Unit {0}
-unfolding of-combinators of-literals of-forests of-nodes of-meaning of-rules of-runs of-sheets of-books of-calls of-lists of-desk
+unfolding of-combinators of-literals of-forests of-nodes of-meaning of-rules of-runs of-sheets of-books of-calls of-indexes of-lists of-desk
 definitions = tt

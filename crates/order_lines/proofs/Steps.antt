@@ -3,7 +3,7 @@
 --     sets n       `_i = rv`, at a local whose room stands at entry n
 --     gone n, void n       a local is freed, whose value or room stands at entry n, with what says that it dies behind it
 --     opens-number, closes-number, opens-lent, closes-lent     a `&mut` of a number and a `&mut [T]`, opened with the lifetime's token and closed at another value
---     says-four    what a contract of four clauses says, at the exit
+--     says-five    what a contract of five clauses says, at the exit
 --     asks         a call of a covered function of plain data
 use mathlib.Core.Path.{_≡_, refl, sym, ap, subst}
 use Prim.Native.Nat.{ℕ, zero, _<_, _^_}
@@ -100,17 +100,17 @@ module _ {M : Type 1} {𝓤 : URA M} {H : Heap 𝓤} {A : Atoms 𝓤} {K : Type 
   closes-lent R x zs long room = step (λ s. move t (1 ∷ []) $ fsplit3 t $ move t (3 ∷ 0 ∷ 1 ∷ 2 ∷ []) $ closes-slice t z R (x .now) zs long (x .ptr .0) (x .ptr .1) $ fjoin t $
       pureI t (at-slice R (at-last x zs) (slice-vals x)) (tt, (tt, tt)) (ap (λ (m : ℕ). sliceVal (x .ptr) m ∷ []) (sym long), subst (Room R) (sym long) room) $ fjoin t $ s)
 
--- ---- a contract of four clauses: each is shown, and they stand side by side
+-- ---- a contract of five clauses: each is shown, and they stand side by side
 besides : {M : Type 1} (𝓤 : URA M) {P Q : SProp 𝓤} → ent 𝓤 (emp 𝓤) P → ent 𝓤 (emp 𝓤) Q → ent 𝓤 (emp 𝓤) (sep 𝓤 P Q)
 besides 𝓤 p q = via 𝓤 (sep 𝓤 (emp 𝓤) (emp 𝓤)) (emp∗ 𝓤 (emp 𝓤)) (mono∗ 𝓤 p q)
 
 also : {M : Type 1} (𝓤 : URA M) (P : SProp 𝓤) {Q : SProp 𝓤} → ent 𝓤 (emp 𝓤) Q → ent 𝓤 P (sep 𝓤 P Q)
 also 𝓤 P {Q} q = via 𝓤 (sep 𝓤 Q P) (via 𝓤 (sep 𝓤 (emp 𝓤) P) (emp∗ 𝓤 P) (monoL 𝓤 P q)) (comm∗ 𝓤 Q P)
 
-pub says-four : {M : Type 1} {𝓤 : URA M} {H : Heap 𝓤} {A : Atoms 𝓤} {K : Type 0} {W : Given 𝓤 H A} {Γ : List (Item 𝓤)} → K → {φ ψ χ ω : Type 0} {P : SProp 𝓤} → φ → ψ → χ → ω
-    → Step K W Γ (prop P) Γ (prop (sep 𝓤 P (sep 𝓤 (fact 𝓤 φ) (sep 𝓤 (fact 𝓤 ψ) (sep 𝓤 (fact 𝓤 χ) (fact 𝓤 ω))))))
-says-four {𝓤 = 𝓤} t {φ} {ψ} {χ} {ω} {P} x y z w = step (λ s. record {
-  prf = via 𝓤 P (s .prf) (also 𝓤 P (besides 𝓤 (factI 𝓤 φ (emp 𝓤) x) (besides 𝓤 (factI 𝓤 ψ (emp 𝓤) y) (besides 𝓤 (factI 𝓤 χ (emp 𝓤) z) (factI 𝓤 ω (emp 𝓤) w)))));
+pub says-five : {M : Type 1} {𝓤 : URA M} {H : Heap 𝓤} {A : Atoms 𝓤} {K : Type 0} {W : Given 𝓤 H A} {Γ : List (Item 𝓤)} → K → {φ ψ χ ω ζ : Type 0} {P : SProp 𝓤} → φ → ψ → χ → ω → ζ
+    → Step K W Γ (prop P) Γ (prop (sep 𝓤 P (sep 𝓤 (fact 𝓤 φ) (sep 𝓤 (fact 𝓤 ψ) (sep 𝓤 (fact 𝓤 χ) (sep 𝓤 (fact 𝓤 ω) (fact 𝓤 ζ)))))))
+says-five {𝓤 = 𝓤} t {φ} {ψ} {χ} {ω} {ζ} {P} x y z w v = step (λ s. record {
+  prf = via 𝓤 P (s .prf) (also 𝓤 P (besides 𝓤 (factI 𝓤 φ (emp 𝓤) x) (besides 𝓤 (factI 𝓤 ψ (emp 𝓤) y) (besides 𝓤 (factI 𝓤 χ (emp 𝓤) z) (besides 𝓤 (factI 𝓤 ω (emp 𝓤) w) (factI 𝓤 ζ (emp 𝓤) v))))));
 })
 
 -- ---- a call of a function that takes and gives plain data, and asks nothing: what it is passed is had for nothing, and the caller has its answer with what the contract says of it

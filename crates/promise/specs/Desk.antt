@@ -16,10 +16,13 @@ use Rattle.calls.specs.Chains.{load-refusal}
 use Rattle.calls.specs.Calls.{Ran, checkOf, loadOf, runOf, reportOf}
 use Rattle.calls.specs.Lines.{State}
 use Rattle.calls.specs.History.{Call, run, after-call, after-calls, loaded, account-calls}
+use Rattle.calls.specs.Index.{fresh-count}
 use Rattle.calls.specs.Desk.{lines, keyed, go-on, all-keyed, with-no-lines, decimal, line, printed, refused-word}
 use Rattle.calls.specs.Desk.{first-line, option-lines, desk-budget, screen-length, deskOf}
 use Rattle.theory_forms.specs.Logic.{none-due}
 use Rattle.theory_meaning.specs.ExactReports.{report-tells}
+use Rattle.theory_index.specs.Right.{fresh-right}
+use Rattle.theory_index.specs.WithIndex.{run-right}
 use Rattle.call_laws.specs.Accepted.{accepted-due}
 use Rattle.call_laws.specs.Effects.{Agrees, run-outcome, after-append, kept-options}
 use Rattle.call_laws.specs.PlacedOutputs.{lines-placed}
@@ -102,16 +105,19 @@ module _ (book input : List ℕ) where
       keyed-sheet : is-sheet s ≡ true
       keyed-sheet = rw e (means cs .is-a-sheet)
 
-      -- The report fits the screen, since a book has no more options than the screen has bytes.
+      -- The report fits the screen, since a book has no more options than the screen has bytes. (The desk keeps no index: its run does what
+      -- one with the fresh count as its index does.)
       report-told :
           (told : Report)
           × (reportOf (runOf s desk-budget .lent) (replicate screen-length 0) ≡ reported told (replicate screen-length 0))
           × (length (told .marks) ≡ options-of book)
       unfolding after-calls after-call screen-length
       report-told =
-          let calls = cs ++ (run desk-budget ∷ []) in
-          let after = after-append cs (run desk-budget ∷ []) first in
-          let left : after-calls calls first .sheet ≡ runOf s desk-budget .lent = rw (after, e) in
+          let index = fresh-count s in
+          let calls = cs ++ (run index desk-budget ∷ []) in
+          let after = after-append cs (run index desk-budget ∷ []) first in
+          let same-run = ap (λ o. o .lent .own) (run-right s index (fresh-right s) desk-budget) in
+          let left : after-calls calls first .sheet ≡ runOf s desk-budget .lent = rw (after, ← e) same-run in
           let few = accepted-exactly book .0 (loaded-book good) .options in
           let same = kept-options calls first (loaded book first) first-agrees in
           let screen : List ℕ = replicate screen-length 0 in

@@ -9,4 +9,5 @@ pub mod Order
 pub mod Withdrawals
 pub mod Runs
 pub mod Weights
+pub mod Indexes
 pub mod Desk

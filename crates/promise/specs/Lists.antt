@@ -145,7 +145,8 @@ loaded-agrees book target lines count ok long =
 
 -- "For every list of choices, single steps and runs, refused ones included, from a freshly loaded sheet, each on the sheet that the
 -- one before left": every accepted book, every target that a load fills, every list of calls with any arguments. Document 02, U2:
--- "Withdrawals, refused ones too, now stand in the list of demand 3, which starts with any lent lines."
+-- "Withdrawals, refused ones too, now stand in the list of demand 3, which starts with any lent lines." U5: every call names an index of
+-- its own, any numbers.
 pub demand-3 :
     (book target : List ℕ) (lines : List Line) (count : ℕ) →
     (book-accepted : checkOf book ≡ accepted tt) →

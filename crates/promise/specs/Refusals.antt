@@ -12,10 +12,12 @@ use Rattle.calls.specs.Refusals.{Refusal, length-refused, head-refused, code-re
 use Rattle.calls.specs.Refusals.{option-refused, full-refused, rule-refused, step-refused, sheet-refused, output-refused}
 use Rattle.calls.specs.Refusals.{line-refused, list-refused, refusal-number}
 use Rattle.calls.specs.Outcomes.{refused, accepted, answer, Outcome, outcome}
-use Rattle.calls.specs.Chains.{book-refusal}
+use Rattle.calls.specs.Chains.{book-refusal, key-refusal, withdraw-refusal, step-refusal, run-refusal}
 use Rattle.calls.specs.Lines.{State}
 use Rattle.calls.specs.Calls.{checkOf, loadOf, writeOf, reportOf, keyOf, withdrawOf, stepOf, runOf}
+use Rattle.calls.specs.Calls.{fillOf, with-index, keyWith, withdrawWith, stepWith, runWith}
 use Rattle.theory_formats.specs.Loading.{Accepted}
+use Rattle.theory_index.specs.WithIndex.{with-cases}
 use Rattle.call_laws.specs.Books.{accepted-book, book-accepted}
 
 -- "A result or one refusal numbered 1 to 12"; with 13 and 14 since document 02, U2.
@@ -50,28 +52,49 @@ unfolding outcome
 outcome-keeps none a kept filled r e = let z : _≡_ {A = ℕ} 0 1 = cc in absurd (omega arith)
 outcome-keeps (some x) a kept filled r e = refl
 
+with-keeps :
+    {L A : Type 0} (sheet : L → List ℕ) (held : L) (index : List ℕ) (own : Option Refusal) (a : A) (filled : L) →
+    Keeps (with-index sheet held index (outcome own a held filled)) (record { own = held; index = index })
+with-keeps sheet held index own a filled r =
+    with-cases sheet held index a filled own (λ o. o .answer ≡ refused r → o .lent ≡ record { own = held; index = index })
+    (λ x e. refl)
+    (λ none right e. let z : _≡_ {A = ℕ} 0 1 = cc in absurd (omega arith))
+
 -- "After a refusal each lent buffer holds what it held before": all that each call may write, for a keying and a withdrawal the sheet,
--- the lines and the count. (The others it only reads.)
+-- the lines and the count. (The others it only reads.) Document 02, U5: the index too.
 pub record Nothing-written : Type 0 where
   pub load : (book target : List ℕ) → Keeps (loadOf book target) target
   pub write : (sheet book out : List ℕ) → Keeps (writeOf sheet book out) out
   pub report : (sheet out : List ℕ) → Keeps (reportOf sheet out) out
-  pub key : (order : State) (v : ℕ) (negative : Bool) → Keeps (keyOf order v negative) order
-  pub withdraw : (order : State) (book : List ℕ) (k : ℕ) → Keeps (withdrawOf order book k) order
-  pub step : (sheet : List ℕ) (r p i j : ℕ) → Keeps (stepOf sheet r p i j) sheet
-  pub run : (sheet : List ℕ) (b : ℕ) → Keeps (runOf sheet b) sheet
+  pub fill : (sheet index : List ℕ) → Keeps (fillOf sheet index) index
+  pub key :
+      (order : State) (index : List ℕ) (v : ℕ) (negative : Bool) →
+      Keeps (keyWith order index v negative) (record { own = order; index = index })
+  pub withdraw :
+      (order : State) (book index : List ℕ) (k : ℕ) →
+      Keeps (withdrawWith order book index k) (record { own = order; index = index })
+  pub step :
+      (sheet index : List ℕ) (r p i j : ℕ) →
+      Keeps (stepWith sheet index r p i j) (record { own = sheet; index = index })
+  pub run : (sheet index : List ℕ) (b : ℕ) → Keeps (runWith sheet index b) (record { own = sheet; index = index })
+  -- The desk keeps no index: its keyings, and its run.
+  pub desk-key : (order : State) (v : ℕ) (negative : Bool) → Keeps (keyOf order v negative) order
+  pub desk-run : (sheet : List ℕ) (b : ℕ) → Keeps (runOf sheet b) sheet
 
 pub nothing-written : Nothing-written
-unfolding loadOf writeOf reportOf keyOf withdrawOf stepOf runOf
+unfolding loadOf writeOf reportOf fillOf keyOf withdrawOf stepOf runOf keyWith withdrawWith stepWith runWith
 nothing-written =
     record {
       load = λ b t. outcome-keeps _ _ _ _;
       write = λ s b o. outcome-keeps _ _ _ _;
       report = λ s o. outcome-keeps _ _ _ _;
-      key = λ t v n. outcome-keeps _ _ _ _;
-      withdraw = λ t b k. outcome-keeps _ _ _ _;
-      step = λ s r p i j. outcome-keeps _ _ _ _;
-      run = λ s b. outcome-keeps _ _ _ _;
+      fill = λ s x. outcome-keeps _ _ _ _;
+      key = λ t x v n. with-keeps (λ u. u .sheet) t x (key-refusal t v) tt _;
+      withdraw = λ t b x k. with-keeps (λ u. u .sheet) t x (withdraw-refusal t b k) tt _;
+      step = λ s x r p i j. with-keeps (λ u. u) s x (step-refusal s r p i j) tt _;
+      run = λ s x b. with-keeps (λ u. u) s x (run-refusal s) _ _;
+      desk-key = λ t v n. outcome-keeps _ _ _ _;
+      desk-run = λ s b. outcome-keeps _ _ _ _;
     }
 
 -- The book check accepts exactly where no refusal is due.

@@ -20,7 +20,7 @@ use Rattle.calls.specs.Chains.{report-refusal}
 use Rattle.calls.specs.Calls.{reportOf}
 use Rattle.theory_meaning.specs.ExactReports.{report-tells}
 use Rattle.call_laws.specs.RefusalChains.{first-last}
-use Rattle.call_laws.specs.PlacedOutputs.{placed-start, placed-rest, placed-at, placed-length, placed-whole}
+use Rattle.theory_forms.specs.Placed.{placed-start, placed-rest, placed-at, placed-length, placed-whole}
 
 -- The outcome of an accepted report that gives this result, and these bytes at the start of an output.
 abbrev pub reported : Report → List ℕ → Outcome (List ℕ) Bool

@@ -1,52 +1,37 @@
 -- "No step raises the weight": whatever is lent to a single step or to a run, and whatever it answers.
 use mathlib.Core.List.{List}
-use mathlib.Core.Option.{Option, none, some}
-use mathlib.Core.Path.{_≡_, refl}
+use mathlib.Core.Path.{ap, subst}
 use Prim.Native.Nat.{ℕ, _≤_}
 use native.Mathlib.Omega.{arith}
-use Rattle.model.specs.Base.{maybe}
 use Rattle.model.specs.Code.{weight}
 use Rattle.model.specs.Rules as rules
 use Rattle.model.specs.Sheet.{nodes-in}
-use Rattle.model.specs.Results.{stepped, run-through}
-use Rattle.calls.specs.Refusals.{Refusal}
-use Rattle.calls.specs.Outcomes.{outcome}
-use Rattle.calls.specs.Chains.{step-refusal, run-refusal}
-use Rattle.calls.specs.Calls.{stepOf, runOf}
-use Rattle.theory_forms.specs.Logic.{is-some-of}
-use Rattle.theory_rewriting.specs.Steps.{done, more}
-use Rattle.theory_rewriting.specs.Runs.{run-steps}
-use Rattle.theory_rewriting.specs.Reached.{strategy-steps}
-use Rattle.call_laws.specs.Accepted.{step-accepted, run-accepted}
-use Rattle.call_laws.specs.Effects.{steps-lighter}
+use Rattle.calls.specs.Index.{fresh-count}
+use Rattle.calls.specs.Calls.{runOf, stepWith, runWith}
+use Rattle.theory_index.specs.Right.{fresh-right}
+use Rattle.theory_index.specs.WithIndex.{run-right}
+use Rattle.call_laws.specs.Effects.{steps-lighter, after-step, after-run}
 
 -- What is left weighs at most what was lent.
 abbrev pub Lighter : List ℕ → List ℕ → Type 0
 Lighter left lent = weight (nodes-in left) ≤ weight (nodes-in lent)
 
 pub record No-step-raises-the-weight : Type 0 where
-  pub step : (sheet : List ℕ) (r p i j : ℕ) → Lighter (stepOf sheet r p i j .lent) sheet
-  pub run : (sheet : List ℕ) (budget : ℕ) → Lighter (runOf sheet budget .lent) sheet
-
--- A refused call leaves what was lent.
-lighter-if :
-    {A : Type 0} (due : Option Refusal) (a : A) (s filled : List ℕ) →
-    (due ≡ none → Lighter filled s) →
-    Lighter (outcome due a s filled .lent) s
-unfolding outcome
-lighter-if none a s filled h = h refl
-lighter-if (some r) a s filled h = omega arith
+  pub step : (sheet index : List ℕ) (r p i j : ℕ) → Lighter (stepWith sheet index r p i j .lent .own) sheet
+  pub run : (sheet index : List ℕ) (budget : ℕ) → Lighter (runWith sheet index budget .lent .own) sheet
+  -- The desk keeps no index: its run does what one with the fresh count as its index does.
+  pub desk-run : (sheet : List ℕ) (budget : ℕ) → Lighter (runOf sheet budget .lent) sheet
 
 pub no-step-raises-the-weight : No-step-raises-the-weight
-unfolding stepOf runOf stepped run-through maybe
-no-step-raises-the-weight = record { step = step; run = run }
+no-step-raises-the-weight =
+    record {
+      step = λ s index. after-step s index (λ left. Lighter left s) (omega arith) (λ h k ms. steps-lighter s h);
+      run = run;
+      desk-run = λ s budget.
+          subst (λ left. Lighter left s)
+          (ap (λ o. o .lent .own) (run-right s (fresh-count s) (fresh-right s) budget))
+          (run s (fresh-count s) budget);
+    }
   where
-    step : (s : List ℕ) (r p i j : ℕ) → Lighter (stepOf s r p i j .lent) s
-    step s r p i j = lighter-if (step-refusal s r p i j) tt s _ (λ e.
-        let w = step-accepted s r p i j e in
-        let t = is-some-of (rules.step r p i j (nodes-in s)) (w .there) in
-        rw (t .1) (steps-lighter s (w .sheet) (more r p i j (t .1) done)))
-
-    run : (s : List ℕ) (budget : ℕ) → Lighter (runOf s budget .lent) s
-    run s budget = lighter-if (run-refusal s) _ s _ (λ e.
-        steps-lighter s (run-accepted s e) (strategy-steps (run-steps budget (nodes-in s))))
+    run : (s index : List ℕ) (budget : ℕ) → Lighter (runWith s index budget .lent .own) s
+    run s index = after-run s index (λ left. Lighter left s) (omega arith) (λ h k ms. steps-lighter s h)

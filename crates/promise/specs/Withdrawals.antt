@@ -1,9 +1,9 @@
 -- Document 02, U2: taking a choice back. "Taking line k back .. loads the sheet afresh and keys the remaining lines in order"; "the run's
 -- work is dropped". Both theorems are about any state of an order, however it was reached.
 use mathlib.Core.Bool.{Bool, true}
-use mathlib.Core.List.{List, [], _∷_, _++_, map, append-nil}
+use mathlib.Core.List.{List, [], _∷_, _++_, append-nil}
 use mathlib.Core.Path.{_≡_, refl, sym, ap, _∙_}
-use Prim.Native.Nat.{ℕ, _+_, _-_, _*_, _≤_}
+use Prim.Native.Nat.{ℕ, _+_, _*_, _≤_}
 use native.Mathlib.Omega.{arith}
 use native.Mathlib.Numerals.{add-one}
 use lib.Dec.{ltb}
@@ -16,43 +16,46 @@ use Rattle.model.specs.Limits.{sheet-length, most-weight, literal-weight}
 use Rattle.model.specs.Sheet.{nodes-in, sheet-of, options-in}
 use Rattle.model.specs.Propagation.{report}
 use Rattle.model.specs.Book.{options-of, book-nodes, clauses-of-book}
-use Rattle.calls.specs.Outcomes.{accepted, if-accepted, outcome}
+use Rattle.calls.specs.Outcomes.{accepted, if-accepted}
 use Rattle.calls.specs.Chains.{key-refusal, withdraw-refusal}
 use Rattle.calls.specs.Lines.{Line, most-lines, State, counted, without}
-use Rattle.calls.specs.Calls.{checkOf, keyOf, withdrawOf, reportOf}
+use Rattle.calls.specs.Calls.{checkOf, keyOf, withdrawOf, keyWith, withdrawWith, reportOf}
 use Rattle.calls.specs.History.{Call, key, withdraw, after-call, after-calls, Account, loaded, with-choice, without-line}
 use Rattle.calls.specs.History.{account-call, account-calls, is-stretch, choice-clauses, meaning}
 use Rattle.theory_formats.specs.Loading.{loaded-sheet, loaded-shaped}
 use Rattle.theory_forms.specs.Sheets.{nodes-made, options-made}
+use Rattle.theory_index.specs.WithIndex.{with-accepted}
 use Rattle.call_laws.specs.Books.{accepted-book}
-use Rattle.call_laws.specs.Accepted.{accepted-due, withdraw-accepted, key-accepted}
+use Rattle.call_laws.specs.Accepted.{withdraw-accepted, key-accepted}
 use Rattle.call_laws.specs.LoadingAndWriting.{load-accepted}
 use Rattle.call_laws.specs.OrderLines.{without-length, known-without}
-use Rattle.call_laws.specs.Rekeyed.{keying, all-rekeyed, account-append, quiet-calls}
+use Rattle.call_laws.specs.Rekeyed.{keyings, all-rekeyed, account-append, quiet-calls}
 use Rattle.promise.specs.Reports.{reported}
 use Rattle.promise.specs.Lists.{order-of, demand-3}
 
 -- A withdrawal leaves the very sheet that its book, freshly loaded, has once the standing lines are keyed by the calls; and none of
--- these keyings is refused.
-pub record As-keyed-afresh (order : State) (book : List ℕ) (k : ℕ) (fresh : State) : Type 0 where
-  pub sheet : withdrawOf order book k .lent .sheet ≡ after-calls (map keying (without k (counted order))) fresh .sheet
+-- these keyings is refused. (Each is lent the fresh count of its sheet as its index.)
+pub record As-keyed-afresh (order : State) (book index : List ℕ) (k : ℕ) (fresh : State) : Type 0 where
+  pub sheet :
+      withdrawWith order book index k .lent .own .sheet
+      ≡ after-calls (keyings (without k (counted order)) fresh) fresh .sheet
   pub none-refused :
-      account-calls (map keying (without k (counted order))) fresh (loaded book fresh) .choices
+      account-calls (keyings (without k (counted order)) fresh) fresh (loaded book fresh) .choices
       ≡ without k (counted order)
 
 -- Whatever order it is taken back from, whatever the target of the load holds, and whatever stands in the empty slots.
 pub taken-back-as-afresh :
-    (order : State) (book : List ℕ) (k : ℕ) →
-    (taken-back : withdrawOf order book k .answer ≡ accepted tt) →
+    (order : State) (book index : List ℕ) (k : ℕ) →
+    (taken-back : withdrawWith order book index k .answer ≡ accepted tt) →
     (target : List ℕ) →
     (target-long-enough : length target ≡ sheet-length) →
     (slots : List Line) →
     (all-slots : length slots ≡ most-lines) →
-    As-keyed-afresh order book k (order-of book target slots 0)
-unfolding withdrawOf outcome all
-taken-back-as-afresh order book k e target long slots full =
-    let none = accepted-due (withdraw-refusal order book k) tt tt _ _ (sym e) .0 in
-    let w = withdraw-accepted order book k none in
+    As-keyed-afresh order book index k (order-of book target slots 0)
+unfolding withdrawWith withdrawOf all
+taken-back-as-afresh order book index k e target long slots full =
+    let done = with-accepted (λ u. u .sheet) order index tt _ (withdraw-refusal order book k) e in
+    let w = withdraw-accepted order book k (done .0) in
     let lines = w .lines in
     let good = accepted-book book (w .book) in
     let standing = without k (counted order) in
@@ -68,7 +71,8 @@ taken-back-as-afresh order book k e target long slots full =
     let all-in =
     all-rekeyed standing start (loaded book start) (loaded-sheet book good)
     (record { slots = full; few = omega arith; known = refl }) known room (omega (arith, many, few, lines .few)) in
-    rw (load-accepted book target (w .book) long) (record { sheet = rw none (sym (all-in .sheet)); none-refused = all-in .choices })
+    rw (load-accepted book target (w .book) long)
+    (record { sheet = ap (λ x. x .own .sheet) (done .2) ∙ sym (all-in .sheet); none-refused = all-in .choices })
 
 -- The last line keyed, taken back with the book that was loaded: "the run's work is dropped", and the report is the one from before the
 -- keying, whatever steps and runs came between. No line before it may stand unkeyed (its mark would be a choice from now on).
@@ -79,6 +83,7 @@ module _
     (before between : List Call)
     (v : ℕ)
     (negative : Bool)
+    (index index′ : List ℕ)
   where
     abbrev start : State
     start = order-of book target lines count
@@ -90,10 +95,10 @@ module _
     account = account-calls before start (loaded book start)
 
     abbrev keyed : State
-    keyed = after-call (key v negative) here
+    keyed = after-call (key index v negative) here
 
     abbrev calls : List Call
-    calls = before ++ (key v negative ∷ (between ++ (withdraw book (here .count) ∷ [])))
+    calls = before ++ (key index v negative ∷ (between ++ (withdraw book index′ (here .count) ∷ [])))
 
     -- The report goes by the account's book and choices.
     same-account :
@@ -106,16 +111,16 @@ module _
 
     -- The account in the end.
     reckoned :
-        keyOf here v negative .answer ≡ accepted tt →
+        keyWith here index v negative .answer ≡ accepted tt →
         is-stretch between keyed ≡ true →
-        withdrawOf (after-calls between keyed) book (here .count) .answer ≡ accepted tt →
+        withdrawWith (after-calls between keyed) book index′ (here .count) .answer ≡ accepted tt →
         account-calls calls start (loaded book start) ≡ without-line (with-choice account (literal v negative)) book (here .count)
     unfolding account-calls account-call if-accepted
     reckoned e quiet f =
         let l = literal v negative in
-        let last : List Call = withdraw book (here .count) ∷ [] in
+        let last : List Call = withdraw book index′ (here .count) ∷ [] in
         let there = after-calls between keyed in
-        account-append before (key v negative ∷ (between ++ last)) start (loaded book start)
+        account-append before (key index v negative ∷ (between ++ last)) start (loaded book start)
         ∙ ap (λ o. account-calls (between ++ last) keyed (if-accepted o account (λ _. with-choice account l))) e
         ∙ account-append between last keyed (with-choice account l)
         ∙ ap (account-calls last there) (quiet-calls between keyed (with-choice account l) quiet)
@@ -135,17 +140,17 @@ module _
         (target-long-enough : length target ≡ sheet-length) →
         (same-book : account .book ≡ book) →
         (no-line-unkeyed : account .choices ≡ account .ledger) →
-        (key-accepted : keyOf here v negative .answer ≡ accepted tt) →
+        (key-accepted : keyWith here index v negative .answer ≡ accepted tt) →
         (only-steps-between : is-stretch between keyed ≡ true) →
-        (withdraw-accepted : withdrawOf (after-calls between keyed) book (here .count) .answer ≡ accepted tt) →
+        (withdraw-accepted : withdrawWith (after-calls between keyed) book index′ (here .count) .answer ≡ accepted tt) →
         (out : List ℕ) →
         (out-has-room : options-of book ≤ length out) →
         reportOf (after-calls calls start .sheet) out ≡ reportOf (here .sheet) out
-    unfolding keyOf
+    unfolding keyWith keyOf
     taken-back-as-never-keyed ok long same all-in e quiet f out room =
         let l = literal v negative in
         let d = demand-3 book target lines count ok long in
-        let none = accepted-due (key-refusal here v) tt tt _ _ (sym e) .0 in
+        let none = with-accepted (λ u. u .sheet) here index tt _ (key-refusal here v) e .0 in
         let order = key-accepted here v none .lines in
         let few = length-take-le (here .count) (here .lines) (omega (arith, order .slots, order .few)) in
         let long-as : here .count ≡ length (account .ledger) = sym (ap length (sym (d before .lines-are)) ∙ few) in

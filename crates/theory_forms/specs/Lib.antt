@@ -1,6 +1,7 @@
--- Laws of the combinators, lists, literals and forests.
+-- Laws of the combinators, lists, buffers, literals and forests.
 pub mod Logic
 pub mod Lists
+pub mod Placed
 pub mod Literals
 pub mod Forests
 pub mod Ended

@@ -1,11 +1,20 @@
-//! The two functions of the static library, as declared in `include/nibdrumlin.h`,
-//! and safe wrappers.  Neither has a condition that a slice does not meet.
+//! The two functions of `include/nibdrumlin.h`, and of `include/nibdrumlin_sheets.h` the
+//! one that fills an index and the run, with safe wrappers.  None has a condition that a
+//! slice does not meet.
 
 use std::ptr;
 
 extern "C" {
     fn nd_book_check(book: *const u8, book_len: usize) -> u64;
     fn nd_code_lookup(book: *const u8, book_len: usize, code: *const u8, code_len: usize) -> u64;
+    fn nd_index(sheet: *const u16, sheet_len: usize, index: *mut u16, index_len: usize) -> u64;
+    fn nd_run(
+        sheet: *mut u16,
+        sheet_len: usize,
+        index: *mut u16,
+        index_len: usize,
+        budget: u64,
+    ) -> u64;
 }
 
 /// The library's book check.
@@ -36,6 +45,33 @@ pub fn code_lookup_null(book: &[u8], code: &[u8]) -> u64 {
             book.len(),
             null_if_empty(code),
             code.len(),
+        )
+    }
+}
+
+/// The library's call that fills an index from a sheet.
+pub fn index(sheet: &[u16], index: &mut [u16]) -> u64 {
+    // SAFETY: the pointers are good for as many numbers as the slices have, of which the
+    // library writes the index's alone, and the two do not overlap.
+    unsafe { nd_index(sheet.as_ptr(), sheet.len(), index.as_mut_ptr(), index.len()) }
+}
+
+/// The same with an index of no numbers, by a null pointer.
+pub fn index_null(sheet: &[u16]) -> u64 {
+    // SAFETY: as above; no number of an index of length 0 is read or written.
+    unsafe { nd_index(sheet.as_ptr(), sheet.len(), ptr::null_mut(), 0) }
+}
+
+/// The library's run.
+pub fn run(sheet: &mut [u16], index: &mut [u16], budget: u64) -> u64 {
+    // SAFETY: as for the index; the library writes both.
+    unsafe {
+        nd_run(
+            sheet.as_mut_ptr(),
+            sheet.len(),
+            index.as_mut_ptr(),
+            index.len(),
+            budget,
         )
     }
 }

@@ -1,12 +1,12 @@
-//! The book check and the code lookup, written from document 01 and document 02's node
-//! kind 6 alone.
+//! The book check, the code lookup and the index of mentions, written from document 01 and
+//! document 02's node kind 6 and index alone.
 //!
 //! Every step follows the paper's wording, in the order in which the refusals are
 //! tested.  Nothing is shared with the library under test.
 
 use std::collections::HashSet;
 
-/// The refusals that the two calls can give.
+/// The refusals that these calls can give.
 #[derive(Clone, Copy, Debug, PartialEq, Eq)]
 pub enum Refusal {
     Length = 1,
@@ -16,7 +16,12 @@ pub enum Refusal {
     Body = 5,
     Weight = 6,
     NoSuchCode = 7,
+    NotASheet = 11,
+    TooShort = 12,
 }
+
+/// "The place of the first (65,535 if none)."
+const NO_PLACE: u16 = 65_535;
 
 /// The book check's answer as one number.
 pub fn book_check(book: &[u8]) -> u64 {
@@ -26,6 +31,32 @@ pub fn book_check(book: &[u8]) -> u64 {
 /// The code lookup's answer as one number.
 pub fn code_lookup(book: &[u8], code: &[u8]) -> u64 {
     answer(option_number(book, code))
+}
+
+/// The answer of the call that fills an index from a sheet, and the index after it.
+pub fn index(sheet: &[u16], index: &[u16]) -> (u64, Vec<u16>) {
+    let filled = nodes_of(sheet).and_then(|(options, nodes)| {
+        let rest = past_count(options, index)?;
+        Ok([&fresh_count(options, nodes), rest].concat())
+    });
+    match filled {
+        Ok(after) => (0, after),
+        Err(refusal) => (refusal as u64, index.to_vec()),
+    }
+}
+
+/// The refusal of a call that has none of its own but those of its sheet and its index: a
+/// run.
+pub fn run_refusal(sheet: &[u16], index: &[u16]) -> u64 {
+    answer(nodes_of(sheet).and_then(|(options, nodes)| {
+        let rest = past_count(options, index)?;
+        let given = &index[..index.len() - rest.len()];
+        if given == fresh_count(options, nodes) {
+            Ok(0)
+        } else {
+            Err(Refusal::NotASheet)
+        }
+    }))
 }
 
 /// The refusal in the low 8 bits (0: accepted), the value above them.
@@ -162,4 +193,47 @@ fn after_members(nodes: &[u16], count: usize, options: usize) -> Option<&[u16]> 
 /// True, an empty all-of, or false, an empty any-of.
 fn is_constant(node: u16) -> bool {
     node == 3 * 4096 || node == 4 * 4096
+}
+
+/// N and the nodes of a sheet, from the root on.
+fn nodes_of(sheet: &[u16]) -> Result<(usize, &[u16]), Refusal> {
+    root_tree(sheet).ok_or(Refusal::NotASheet)
+}
+
+/// The same, none where the numbers are no sheet: "exactly 4,098 16-bit numbers: N (0 to
+/// 512), the count of nodes used, the nodes from the root on as one tree with kind 5 only at
+/// its head, then zeros", of a weight of at most 4,096.
+fn root_tree(sheet: &[u16]) -> Option<(usize, &[u16])> {
+    if sheet.len() != 4098 || sheet[0] > 512 || sheet[1] > 4096 {
+        return None;
+    }
+    let options = usize::from(sheet[0]);
+    let (nodes, zeros) = sheet[2..].split_at(usize::from(sheet[1]));
+    let (&root, mut rules) = nodes.split_first()?;
+    for _ in 0..root % 4096 {
+        rules = after_tree(rules, options)?;
+    }
+    let marks = nodes.iter().filter(|&&node| is_mark(node)).count();
+    let is_sheet = root / 4096 == 5
+        && rules.is_empty()
+        && zeros.iter().all(|&number| number == 0)
+        && nodes.len() + marks <= 4096;
+    is_sheet.then_some((options, nodes))
+}
+
+/// "Option after option, two 16-bit numbers each: the count of its marks and the place of
+/// the first."
+fn fresh_count(options: usize, nodes: &[u16]) -> Vec<u16> {
+    let of_option = |option: usize| {
+        let is_its_mark = |&node: &u16| is_mark(node) && usize::from(node % 4096) == option;
+        let count = nodes.iter().filter(|node| is_its_mark(node)).count() as u16;
+        let first = nodes.iter().position(|node| is_its_mark(node));
+        [count, first.map_or(NO_PLACE, |place| place as u16)]
+    };
+    (0..options).flat_map(of_option).collect()
+}
+
+/// "Numbers past twice N": of an index that is long enough.
+fn past_count(options: usize, index: &[u16]) -> Result<&[u16], Refusal> {
+    index.get(2 * options..).ok_or(Refusal::TooShort)
 }

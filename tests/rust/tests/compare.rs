@@ -1,6 +1,6 @@
 //! The library against the reference, on hundreds of thousands of books and codes.
 //!
-//!     rt staticlib c_calls                            at the repository's top
+//!     tools/build-library                             at the repository's top
 //!     cd tests/rust && cargo test --offline --locked
 //!
 //! `-- --nocapture` shows what was compared.  The environment variable `ND_SEED`

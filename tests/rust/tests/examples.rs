@@ -3,6 +3,7 @@
 
 use nibdrumlin_tests::at_leasts::at_least;
 use nibdrumlin_tests::books::{code, node, Book, ALL_OF, ANY_OF, BARRED, OPTION};
+use nibdrumlin_tests::sheets::sheet;
 use nibdrumlin_tests::{ffi, reference};
 
 #[track_caller]
@@ -15,6 +16,21 @@ fn check(book: &[u8], due: u64) {
 fn look_up(book: &[u8], code: &[u8], due: u64) {
     assert_eq!(reference::code_lookup(book, code), due, "reference");
     assert_eq!(ffi::code_lookup(book, code), due, "library");
+}
+
+/// Fills an index that held something else from the sheet of these bodies.
+#[track_caller]
+fn count(options: usize, bodies: &[Vec<u16>], due: &[u16]) {
+    let codes = (0..options).map(|at| code(format!("C{at}").as_bytes()));
+    let sheet = sheet(&Book::new(codes.collect(), bodies));
+    let mut index = vec![7; due.len()];
+    assert_eq!(
+        reference::index(&sheet, &index),
+        (0, due.to_vec()),
+        "reference"
+    );
+    assert_eq!(ffi::index(&sheet, &mut index), 0, "library");
+    assert_eq!(index, due, "library");
 }
 
 /// P or (P and Q), byte by byte.
@@ -268,4 +284,31 @@ fn no_rules() {
     book.pairs = vec![[0, 0]];
     book.count();
     check(&book.bytes(), 4);
+}
+
+/// Document 02: "two 16-bit numbers each: the count of its marks and the place of the first
+/// (65,535 if none). Numbers past twice N stay."
+#[test]
+fn counts_of_mentions() {
+    let none = 65_535;
+    let (p, q, not_p) = (node(OPTION, 0), node(OPTION, 1), node(BARRED, 0));
+    count(0, &[], &[]);
+    count(0, &[vec![node(ALL_OF, 0)]], &[7, 7]);
+    count(2, &[], &[0, none, 0, none]);
+    // P or (P and Q): the root is at place 0, the any-of at 1.
+    let first_case = vec![node(ANY_OF, 2), p, node(ALL_OF, 2), p, q];
+    count(2, &[first_case.clone()], &[2, 2, 1, 5]);
+    count(3, &[first_case.clone()], &[2, 2, 1, 5, 0, none, 7]);
+    count(2, &[vec![not_p], first_case], &[3, 1, 1, 6]);
+    // Members of an at-least are marks; its k and the numbers of children name no option.
+    count(
+        2,
+        &[vec![at_least(3, 1), q, node(ALL_OF, 0), not_p], vec![q]],
+        &[1, 4, 2, 2],
+    );
+    // One any-of with 2,047 marks, and 4,093 trues before a mark.
+    let marks = [vec![node(ANY_OF, 2047)], vec![not_p; 2047]].concat();
+    count(1, &[marks], &[2047, 2]);
+    let trues = [vec![vec![node(ALL_OF, 0)]; 4093], vec![vec![p]]].concat();
+    count(1, &trues, &[1, 4094]);
 }

@@ -3,7 +3,8 @@
 //! lowers the bounds of its zone, of its place and of the two nodes above, and no others; in the
 //! zone of rules 9 and 10 only those of nodes that have a constant among their children.
 
-use super::flat::{fill_sizes, is_sheet, used, Flat, Sizes, MOST};
+use super::flat::{fill_sizes, used, Flat, Sizes, MOST};
+use super::index;
 use super::least::Tables;
 use super::rules::LAST;
 use super::steps::{apply, Zone};
@@ -155,8 +156,12 @@ fn has_constant(flat: Flat, place: usize) -> bool {
 }
 
 /// A run.
-pub fn run(sheet: &mut [u16], budget: u64) -> Ran {
-    assert!(is_sheet(sheet));
+pub fn run(sheet: &mut [u16], index: &mut [u16], budget: u64) -> Ran {
+    index::kept(sheet, index, |sheet| steps(sheet, budget))
+}
+
+/// The steps of a run.
+fn steps(sheet: &mut [u16], budget: u64) -> Ran {
     let mut bounds = Bounds::new(used(sheet));
     let mut count = 0;
     while let Some(redex) = bounds.find(used(sheet)) {

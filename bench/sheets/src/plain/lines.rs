@@ -1,12 +1,32 @@
 //! Keying and taking back: the tests in the order of documents 01 and 02, then the marks.
 
 use super::flat::{is_sheet, used, MOST};
+use super::index;
 use super::load::{checked, fill, Checked};
 use crate::nodes::{literal, node, value, weight, ROOT};
 use crate::orders::{Line, Order, SLOTS};
 
 /// Keys an option: the refusal, 0 where it is accepted.
 pub fn key(order: &mut Order, option: u64, negative: bool) -> u64 {
+    let own = key_refusal(order, option);
+    let refusal = index::refusal(&order.sheet, &order.index, own);
+    if refusal != 0 {
+        return refusal;
+    }
+    let line = Line {
+        option: option as u16,
+        negative,
+    };
+    let place = usize::from(order.sheet[1]);
+    append(&mut order.sheet, line);
+    index::mention_last(&mut order.index, option as usize, place);
+    order.lines[usize::from(order.count)] = line;
+    order.count += 1;
+    0
+}
+
+/// What a keying is refused but for its index.
+fn key_refusal(order: &Order, option: u64) -> u64 {
     if !is_sheet(&order.sheet) || !are_in_order(order) {
         return 11;
     }
@@ -19,37 +39,38 @@ pub fn key(order: &mut Order, option: u64, negative: bool) -> u64 {
     if weight(used(&order.sheet)) + 2 > MOST {
         return 8;
     }
-    let line = Line {
-        option: option as u16,
-        negative,
-    };
-    append(&mut order.sheet, line);
-    order.lines[usize::from(order.count)] = line;
-    order.count += 1;
     0
 }
 
 /// Takes line k back: the refusal, 0 where it is accepted.
 pub fn withdraw(order: &mut Order, book: &[u8], k: u64) -> u64 {
-    if !is_sheet(&order.sheet) {
-        return 11;
+    let book = book_for_withdrawal(order, book, k);
+    let own = book.as_ref().err().map_or(0, |&refusal| refusal);
+    let refusal = index::refusal(&order.sheet, &order.index, own);
+    if let (0, Ok(book)) = (refusal, book) {
+        remove(order, k as usize);
+        key_afresh(order, &book);
+        index::count(&order.sheet, &mut order.index);
     }
-    let book = match checked(book) {
-        Err(refusal) => return refusal,
-        Ok(book) => book,
-    };
+    refusal
+}
+
+/// The book that line k is taken back with, or what this is refused but for the index.
+fn book_for_withdrawal<'a>(order: &Order, book: &'a [u8], k: u64) -> Result<Checked<'a>, u64> {
+    if !is_sheet(&order.sheet) {
+        return Err(11);
+    }
+    let book = checked(book)?;
     if book.options != usize::from(order.sheet[0]) || !are_in_order(order) {
-        return 11;
+        return Err(11);
     }
     if k >= u64::from(order.count) {
-        return 13;
+        return Err(13);
     }
     if book.weight + 2 * (usize::from(order.count) - 1) > MOST {
-        return 8;
+        return Err(8);
     }
-    remove(order, k as usize);
-    key_afresh(order, &book);
-    0
+    Ok(book)
 }
 
 /// Whether there are 64 slots, a count of at most 64, and no line that names no option.

@@ -1,8 +1,9 @@
 //! Sheets in plain Rust, from documents 01 and 02: the loader, keying and taking back, the run by
-//! two searches, the report by two methods.
+//! two searches, the report by two methods, the index of mentions.
 
 pub mod bounds;
 pub mod flat;
+pub mod index;
 pub mod least;
 pub mod lines;
 pub mod load;

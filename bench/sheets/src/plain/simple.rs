@@ -1,7 +1,8 @@
 //! The run by the simplest search: every rule, place, child and inner child in turn, from the
 //! first, at each step.
 
-use super::flat::{fill_sizes, is_sheet, used, Flat, MOST};
+use super::flat::{fill_sizes, used, Flat, MOST};
+use super::index;
 use super::rules::{applies, applies_by_head, is_by_head, is_headed, LAST};
 use super::steps::apply;
 use crate::answers::{Ran, Redex};
@@ -36,8 +37,12 @@ pub fn least(flat: Flat, rule: usize, place: usize) -> Option<(usize, usize)> {
 }
 
 /// A run.
-pub fn run(sheet: &mut [u16], budget: u64) -> Ran {
-    assert!(is_sheet(sheet));
+pub fn run(sheet: &mut [u16], index: &mut [u16], budget: u64) -> Ran {
+    index::kept(sheet, index, |sheet| steps(sheet, budget))
+}
+
+/// The steps of a run.
+fn steps(sheet: &mut [u16], budget: u64) -> Ran {
     let mut sizes = [0; MOST];
     let mut count = 0;
     loop {

@@ -1,52 +1,53 @@
--- `call_keying::key` meets its contract: no sheet; lines not in order; and else what is tested after them.
-use mathlib.Core.Bool.{true}
-use mathlib.Core.Path.{_≡_, sym, _∙_}
+-- `call_keying::key` meets its contract: it is refused before anything is written; or the mark is appended, for which there is room.
+use mathlib.Core.Option.{none}
+use mathlib.Core.Path.{_≡_, sym, ap, _∙_}
 use native.Mathlib.Omega.{arith}
 use borrow.Author.Needs.{needs}
-use borrow.Author.Tests.{not-true, not-false}
-use Rattle.model.specs.Sheet.{is-sheet}
-use Rattle.calls.specs.Conditions.{has-lines-in-order}
+use Rattle.calls.specs.Chains.{key-refusal}
+use Rattle.theory_forms.specs.Sheets.{sheet-formed, sheet-options}
+use Rattle.call_laws.specs.Accepted.{Keyable, key-accepted}
+use Rattle.call_answers.specs.AnswerMeaning.{doneOf, dueOf}
 use Rattle.order_lines.specs.LineMeaning.{order}
-use Rattle.order_check.proofs.Counted.{in-order-by}
-use Rattle.call_keying.proofs.KeyingAnswers.{key-no-sheet, key-no-order, key-in-order, sheet-first}
+use Rattle.call_keying.proofs.KeyingAnswers.{refused-by, keyed}
 use Rattle.call_keying.proofs.key.Statement.{statement}
 use Rattle.call_keying.proofs.key.Tie as tie
 
-good : (c : tie.Else1) → is-sheet (c .before .before .before .before .args .sheet .now) ≡ true
-good c = sym (c .before .is-sheet .ensures) ∙ not-false (c .before .is-sheet .result) (c .if1 .left)
+-- Nothing is refused where the tests say so.
+none-due :
+    (c : tie.After-enum-told) →
+    let a = c .before .before .before .before .before .args in
+    key-refusal (order (a .sheet .now) (a .lines) (a .count)) (a .option) ≡ none
+none-due c = sym (c .before .before .refuse .ensures) ∙ ap dueOf (c .enum-told .given .1)
 
--- What the second test answers.
-ordered :
-    (c : tie.After-are-in-order) →
-    let a = c .before .before .before .before .before .before .args in
-    has-lines-in-order (order (a .sheet .now) (a .lines) (a .count)) ≡ c .are-in-order .result
-ordered c =
-    let first = c .before .before .before .before .before .before in
-    in-order-by (first .args .sheet .now) (first .args .lines) (first .args .count) _ (first .good .1 .0 .1 .0 .1)
-    (sheet-first _ (good (c .before .before)) .2)
-    ∙ sym (c .are-in-order .ensures)
+may :
+    (c : tie.After-enum-told) →
+    let a = c .before .before .before .before .before .args in
+    Keyable (order (a .sheet .now) (a .lines) (a .count)) (a .option)
+may c = key-accepted _ _ (none-due c)
 
 returns : tie.Need-returns
-returns c = key-no-sheet _ _ _ (sym (c .before .is-sheet .ensures) ∙ not-true (c .before .is-sheet .result) (c .if1 .taken))
+returns c =
+    let a = c .before .before .before .before .before .args in
+    let told = c .enum-told2 .given .1 in
+    rw (ap doneOf told)
+    (refused-by (order (a .sheet .now) (a .lines) (a .count)) (a .option) (a .negative) (sym (c .before .before .refuse .ensures) ∙ ap dueOf told))
 
-slice-read-are-in-order : tie.Need-slice-read-are-in-order
-slice-read-are-in-order c = let f = sheet-first _ (good (c .before)) in omega arith
+cast-append : tie.Need-cast-append
+cast-append c =
+    let w = may (c .before) in
+    record { fits = omega (arith, w .known, sheet-options _ (w .sheet)) }
+
+append-requires : tie.Need-append-requires
+append-requires c κs =
+    let w = may (c .before) in
+    (sheet-formed _ (w .sheet), (w .known, w .room))
 
 returns-2 : tie.Need-returns-2
 returns-2 c =
-    let tested = c .before in
-    key-no-order _ _ _ (good (tested .before .before)) (ordered tested ∙ not-true (tested .are-in-order .result) (c .if2 .taken))
-
-key-mark-requires : tie.Need-key-mark-requires
-key-mark-requires c κs = good (c .before .before .before .before)
-
-returns-3 : tie.Need-returns-3
-returns-3 c =
-    let passed = c .before .before .before .before in
-    let tested = passed .before in
-    c .before .before .key-mark .ensures
-    ∙ key-in-order (order _ (tested .before .before .before .before .before .before .args .lines) _) _ _ (good (tested .before .before))
-    (ordered tested ∙ not-false (tested .are-in-order .result) (passed .if2 .left))
+    let told = c .before .before .before .before in
+    let a = told .before .before .before .before .before .args in
+    rw (c .before .before .append .ensures)
+    (keyed (order (a .sheet .now) (a .lines) (a .count)) (a .option) (a .negative) (none-due told))
 
 pub key-spec : {M : Type 1} → statement M
 key-spec =
@@ -54,11 +55,10 @@ key-spec =
     (tie.spec
     (λ c κs. search needs)
     (λ c. search needs)
+    (λ c. search needs)
+    (λ c. search needs)
     returns
-    slice-read-are-in-order
-    (λ c κs. search needs)
+    cast-append
+    append-requires
     (λ c. search needs)
-    returns-2
-    key-mark-requires
-    (λ c. search needs)
-    returns-3)
+    returns-2)
