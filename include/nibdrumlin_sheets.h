@@ -229,8 +229,8 @@ uint64_t nd_withdraw(uint16_t *sheet, size_t sheet_len, const uint8_t *book, siz
 
 /*
  * Does one step of the seventeen rules: rule 1 to 17, at a place (nodes counted from the root, 0),
- * child i and inner child j, from 0.  An index that the rule has no use for must be 0: so must i
- * and j for rules 16 and 17, also where the node has no child.
+ * child i and inner child j, from 0.  An i or j that the rule has no use for must be 0: so must
+ * both for rules 16 and 17, also where the node has no child.
  *
  * Accepted, the index is that of the sheet after the step.  No step raises any option's count of
  * marks.  The value is always 0.

@@ -1,5 +1,3 @@
--- Computed cases of orders: their lines, lists of calls, the index of mentions, and which refusal comes first.
+-- Computed cases of orders: their lines, and lists of calls.
 pub mod LineCases
 pub mod ListCases
-pub mod IndexCases
-pub mod OrderCases

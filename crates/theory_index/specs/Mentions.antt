@@ -1,6 +1,6 @@
 -- No step raises the count of any option's marks, whatever its rule and place.
 use mathlib.Core.Bool.{Bool, true, false, _||_}
-use mathlib.Core.List.{List, [], _∷_, _++_}
+use mathlib.Core.List.{List, _++_}
 use mathlib.Core.Option.{some}
 use mathlib.Core.Path.{_≡_, refl, sym, ap, _∙_}
 use Prim.Native.Nat.{ℕ, _+_, _*_, _≤_}
@@ -21,6 +21,7 @@ use Rattle.theory_forms.specs.Shape.{Shaped, shaped-trees}
 use Rattle.theory_rewriting.specs.Changes.{Change, absorbed, omitted, unwrapped, spreaded, lifted, merged, factored, lowered, ended}
 use Rattle.theory_rewriting.specs.ShapeKept.{Changed, step-changed, step-shaped}
 use Rattle.theory_rewriting.specs.Steps.{Steps, done, more}
+use Rattle.theory_index.specs.Entries.{count-append}
 
 module _ (v : ℕ) where
   -- The option's marks in trees: each literal of it counts one.
@@ -39,16 +40,14 @@ module _ (v : ℕ) where
   marks-⊕ (node c k f) g = let h = marks-⊕ f g in omega arith
 
   -- They are what is counted on the trees' code.
-  count-append : (ms ns : List Node) → mark-count v (ms ++ ns) ≡ mark-count v ms + mark-count v ns
-  unfolding mark-count
-  count-append [] ns = omega arith
-  count-append (m ∷ ms) ns = let h = count-append ms ns in omega arith
-
   count-code : (f : Forest) → mark-count v (encode f) ≡ marks f
   unfolding mark-count names encode marks one pick
   count-code nil = refl
   count-code (lit l f) = let h = count-code f in omega arith
-  count-code (node c k f) = let p = count-code k in let q = count-code f in omega (arith, count-append (encode k) (encode f))
+  count-code (node c k f) = let p = count-code k in let q = count-code f in omega (arith, count-append v (encode k) (encode f))
+
+  count-after : (ms : List Node) (f : Forest) → mark-count v (ms ++ encode f) ≡ mark-count v ms + marks f
+  count-after ms f = count-append v ms (encode f) ∙ ap (λ n. mark-count v ms + n) (count-code f)
 
   -- Constants in place of literals.
   marks-assigned : (c : Conn) (l : Literal) (f : Forest) → marks (assigned c l f) ≤ marks f
@@ -118,9 +117,9 @@ module _ (v : ℕ) where
   unfolding marks
   changed-marks {ns} {ms} w =
       let old : mark-count v ns ≡ mark-count v (w .before) + (marks (w .children) + marks (w .rest)) =
-      rw (w .was) (count-append (w .before) _ ∙ ap (λ n. mark-count v (w .before) + n) (count-code (node (w .conn) (w .children) (w .rest)))) in
+      rw (w .was) (count-after (w .before) (node (w .conn) (w .children) (w .rest))) in
       let now : mark-count v ms ≡ mark-count v (w .before) + marks (w .new ⊕ w .rest) =
-      rw (w .became) (count-append (w .before) _ ∙ ap (λ n. mark-count v (w .before) + n) (count-code (w .new ⊕ w .rest))) in
+      rw (w .became) (count-after (w .before) (w .new ⊕ w .rest)) in
       omega (arith, change-marks (w .done), marks-⊕ (w .new) (w .rest))
 
   -- "No step raises any option's count."

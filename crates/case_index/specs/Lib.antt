@@ -1,0 +1,2 @@
+-- Computed cases of the index of mentions.
+pub mod IndexCases

@@ -1,0 +1,2 @@
+-- Computed cases of the order of refusals: which comes first.
+pub mod OrderCases
