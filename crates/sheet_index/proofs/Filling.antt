@@ -22,7 +22,7 @@ use Rattle.theory_forms.specs.Sheets.{Formed, sheet-formed}
 use Rattle.theory_index.specs.Entries.{entries-from, from-root, entries-length, entries-more, count-at, count-within}
 use Rattle.theory_index.specs.Entries.{head-before, leaf-before, mentioned-first, first-over, first-placed}
 use Rattle.theory_forms.specs.Placed.{placed-start, placed-rest, placed-at}
-use Rattle.sheet_index.specs.Walk.{fresh-from, four-alike}
+use Rattle.sheet_index.specs.Walk.{fresh-from, four-alike, eight-alike}
 
 -- Cleared: two numbers more after those that were written.
 two-more :
@@ -211,57 +211,80 @@ module _ (s : List ℕ) where
         × (p + marks ≤ used-in s)
         × (fresh-from s p ≡ mentioned-first v marks p (fresh-from s (p + marks)))
 
+    -- Runs of one option side by side are one.
+    runs-joined : (p m k : ℕ) {v : ℕ} → Run p m v → Run (p + m) k v → Run p (m + k) v
+    runs-joined p m k {v} one two =
+        let rest = fresh-from s (p + m + k) in
+        let within : 2 * v < length rest = omega (arith, one .0, fresh-long (p + m + k)) in
+        let both = one .2 ∙ ap (mentioned-first v m p) (two .2) ∙ first-over v rest within m p k (p + m) in
+        let sum : k + m ≡ m + k = omega arith in
+        let after : p + m + k ≡ p + (m + k) = omega arith in
+        (one .0, omega (arith, two .1), both ∙ ap₂ (λ n q. mentioned-first v n p (fresh-from s q)) sum after)
+
     -- One node.
-    module _ (p : ℕ) (here : p + 1 ≤ used-in s) where
+    module _ (p : ℕ) (here : p + 1 ≤ used-in s) {x : ℕ} (read : getD s (2 + p) 0 ≡ x) where
       next : suc p ≡ p + 1
       next = omega arith
 
-      pub one-other : is-literal (getD s (2 + p) 0) ≡ false → fresh-from s (p + 1) ≡ fresh-from s p
-      one-other e = ap (fresh-from s) (sym next) ∙ other-here p (omega arith) refl e
+      pub one-other : is-literal x ≡ false → fresh-from s (p + 1) ≡ fresh-from s p
+      one-other e = ap (fresh-from s) (sym next) ∙ other-here p (omega arith) read e
 
-      pub one-mark : is-literal (getD s (2 + p) 0) ≡ true → Run p 1 (value (getD s (2 + p) 0))
-      one-mark e =
-          (option-here p (omega arith) refl e, here, rw next at (literal-here p (omega arith) refl e))
+      pub one-mark : is-literal x ≡ true → Run p 1 (value x)
+      one-mark e = (option-here p (omega arith) read e, here, rw next at (literal-here p (omega arith) read e))
 
-    -- Four nodes that are the same.
-    module _ (p : ℕ) (here : p + 4 ≤ used-in s) (alike : four-alike s (2 + p) ≡ true) where
+    -- Four nodes of one number.
+    module _ (p : ℕ) (here : p + 4 ≤ used-in s) {x : ℕ} (read : getD s (2 + p) 0 ≡ x) (alike : four-alike s (2 + p) ≡ true) where
+      second : getD s (2 + (p + 1)) 0 ≡ x
+      second = let e : 2 + (p + 1) ≡ 2 + p + 1 = omega arith in rw e (alike-four s (2 + p) alike .0 ∙ read)
+
+      third : getD s (2 + (p + 1 + 1)) 0 ≡ x
+      third = let e : 2 + (p + 1 + 1) ≡ 2 + p + 2 = omega arith in rw e (alike-four s (2 + p) alike .1 ∙ read)
+
+      fourth : getD s (2 + (p + 1 + 1 + 1)) 0 ≡ x
+      fourth = let e : 2 + (p + 1 + 1 + 1) ≡ 2 + p + 3 = omega arith in rw e (alike-four s (2 + p) alike .2 ∙ read)
+
+      four-others : is-literal x ≡ false → fresh-from s (p + 4) ≡ fresh-from s p
+      four-others e =
+          let after : p + 4 ≡ p + 1 + 1 + 1 + 1 = omega arith in
+          ap (fresh-from s) after
+          ∙ one-other (p + 1 + 1 + 1) (omega arith) fourth e
+          ∙ one-other (p + 1 + 1) (omega arith) third e
+          ∙ one-other (p + 1) (omega arith) second e
+          ∙ one-other p (omega arith) read e
+
+      four-marks : is-literal x ≡ true → Run p 4 (value x)
+      four-marks e =
+          runs-joined p 1 3 (one-mark p (omega arith) read e)
+          (runs-joined (p + 1) 1 2 (one-mark (p + 1) (omega arith) second e)
+          (runs-joined (p + 1 + 1) 1 1
+          (one-mark (p + 1 + 1) (omega arith) third e)
+          (one-mark (p + 1 + 1 + 1) (omega arith) fourth e)))
+
+    -- Eight.
+    module _ (p : ℕ) (here : p + 8 ≤ used-in s) (alike : eight-alike s (2 + p) ≡ true) where
       abbrev x : ℕ
       x = getD s (2 + p) 0
 
-      second : getD s (2 + suc p) 0 ≡ x
-      second = let e : 2 + suc p ≡ 2 + p + 1 = omega arith in rw e (alike-four s (2 + p) alike .0)
+      halves : (four-alike s (2 + p) ≡ true) × (four-alike s (2 + (p + 4)) ≡ true) × (getD s (2 + (p + 4)) 0 ≡ x)
+      unfolding eight-alike
+      halves =
+          let e : 2 + (p + 4) ≡ 2 + p + 4 = omega arith in
+          let one = and-split (four-alike s (2 + p)) (four-alike s (2 + p + 4) && eqb x (getD s (2 + p + 4) 0)) alike in
+          let two = and-split (four-alike s (2 + p + 4)) (eqb x (getD s (2 + p + 4) 0)) (one .1) in
+          (one .0, rw e (two .0), rw e (sym (eqb-true x (getD s (2 + p + 4) 0) (two .1))))
 
-      third : getD s (2 + suc (suc p)) 0 ≡ x
-      third = let e : 2 + suc (suc p) ≡ 2 + p + 2 = omega arith in rw e (alike-four s (2 + p) alike .1)
+      pub eight-others : is-literal x ≡ false → fresh-from s (p + 8) ≡ fresh-from s p
+      eight-others e =
+          let after : p + 8 ≡ p + 4 + 4 = omega arith in
+          ap (fresh-from s) after
+          ∙ four-others (p + 4) (omega arith) (halves .2) (halves .1) e
+          ∙ four-others p (omega arith) refl (halves .0) e
 
-      fourth : getD s (2 + suc (suc (suc p))) 0 ≡ x
-      fourth = let e : 2 + suc (suc (suc p)) ≡ 2 + p + 3 = omega arith in rw e (alike-four s (2 + p) alike .2)
-
-      after : suc (suc (suc (suc p))) ≡ p + 4
-      after = omega arith
-
-      pub four-others : is-literal x ≡ false → fresh-from s (p + 4) ≡ fresh-from s p
-      four-others e =
-          ap (fresh-from s) (sym after)
-          ∙ other-here (suc (suc (suc p))) (omega arith) fourth e
-          ∙ other-here (suc (suc p)) (omega arith) third e
-          ∙ other-here (suc p) (omega arith) second e
-          ∙ other-here p (omega arith) refl e
-
-      pub four-marks : is-literal x ≡ true → Run p 4 (value x)
-      four-marks e =
-          let v = value x in
-          let option = option-here p (omega arith) refl e in
-          let rest = fresh-from s (suc (suc (suc (suc p)))) in
-          let within : 2 * v < length rest = omega (arith, option, fresh-long (suc (suc (suc (suc p))))) in
-          let three = literal-here (suc (suc (suc p))) (omega arith) fourth e in
-          let two = literal-here (suc (suc p)) (omega arith) third e ∙ ap (mentioned-first v 1 (suc (suc p))) three in
-          let one = literal-here (suc p) (omega arith) second e
-          ∙ ap (mentioned-first v 1 (suc p)) (two ∙ first-over v rest within 1 (suc (suc p)) 1 (suc (suc (suc p)))) in
-          let all = literal-here p (omega arith) refl e
-          ∙ ap (mentioned-first v 1 p) (one ∙ first-over v rest within 1 (suc p) 2 (suc (suc p)))
-          ∙ first-over v rest within 1 p 3 (suc p) in
-          (option, here, rw after at all)
+      pub eight-marks : is-literal x ≡ true → Run p 8 (value x)
+      eight-marks e =
+          runs-joined p 4 4
+          (four-marks p (omega arith) refl (halves .0) e)
+          (four-marks (p + 4) (omega arith) (halves .2) (halves .1) e)
 
     -- In an index of the nodes after a run the option's count may rise, and then it is the index of the nodes from the run on.
     module _ (p marks : ℕ) {v w : ℕ} (run : Run p marks w) (which : v ≡ w) (index : List ℕ) where

@@ -14,3 +14,7 @@ fresh-from s p = entries-from p 0 (options-in s) (drop p (nodes-in s))
 -- The number at a place is the same as each of the three after it.
 unfoldable pub four-alike : List ℕ → ℕ → Bool
 four-alike s i = eqb (getD s i 0) (getD s (i + 1) 0) && (eqb (getD s i 0) (getD s (i + 2) 0) && eqb (getD s i 0) (getD s (i + 3) 0))
+
+-- The same of the seven after it.
+unfoldable pub eight-alike : List ℕ → ℕ → Bool
+eight-alike s i = four-alike s i && (four-alike s (i + 4) && eqb (getD s i 0) (getD s (i + 4) 0))

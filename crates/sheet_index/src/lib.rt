@@ -11,7 +11,7 @@ ghost use Rattle.calls.specs.Index.{«no-place», entries, «fresh-count»};
 ghost use Rattle.calls.specs.Conditions.{«index-length», «has-short-index», «has-stale-index»};
 ghost use Rattle.theory_forms.specs.Scan.{«is-literal»};
 ghost use Rattle.theory_index.specs.Entries.{«mentioned-first», «mentioned-last»};
-ghost use Rattle.sheet_index.specs.Walk.{«four-alike», «fresh-from»};
+ghost use Rattle.sheet_index.specs.Walk.{«four-alike», «eight-alike», «fresh-from»};
 use common_limits::KIND_FACTOR;
 use common_limits::MOST_OPTIONS;
 
@@ -80,8 +80,20 @@ fn count_node(sheet: &[u16], index: &mut [u16], place: usize)
     }
 }
 
+// Four nodes, one by one.
+fn count_four(sheet: &[u16], index: &mut [u16], place: usize)
+    requires { ⌜ («is-sheet» (now sheet) ≡ true) × (place + 4 ≤ «used-in» (now sheet)) ×
+        (take («index-length» (now sheet)) (now index) ≡ «fresh-from» (now sheet) (place + 4)) ⌝ }
+    ensures { λ r. ⌜ now (index .exit) ≡ placed («fresh-from» (now (sheet .entry)) place) (now (index .entry)) ⌝ }
+{
+    count_node(sheet, index, place + 3);
+    count_node(sheet, index, place + 2);
+    count_node(sheet, index, place + 1);
+    count_node(sheet, index, place);
+}
+
 // Whether the number at a place and the three after it are the same.
-fn are_alike(sheet: &[u16], at: usize) -> bool
+fn four_alike(sheet: &[u16], at: usize) -> bool
     requires { ⌜ at + 3 < length (now sheet) ⌝ }
     ensures { λ r. ⌜ r ≡ «four-alike» (now (sheet .entry)) at ⌝ }
 {
@@ -89,23 +101,29 @@ fn are_alike(sheet: &[u16], at: usize) -> bool
     x == sheet[at + 1] && (x == sheet[at + 2] && x == sheet[at + 3])
 }
 
-// Four nodes. Where they are one and the same mark, it is counted four times at once: one by one, each count would wait until the one
+// The same of the seven after it.
+fn eight_alike(sheet: &[u16], at: usize) -> bool
+    requires { ⌜ at + 7 < length (now sheet) ⌝ }
+    ensures { λ r. ⌜ r ≡ «eight-alike» (now (sheet .entry)) at ⌝ }
+{
+    four_alike(sheet, at) && (four_alike(sheet, at + 4) && sheet[at] == sheet[at + 4])
+}
+
+// Eight nodes. Where they are one and the same mark, it is counted eight times at once: one by one, each count would wait until the one
 // before it is stored.
-fn count_four(sheet: &[u16], index: &mut [u16], place: usize)
-    requires { ⌜ («is-sheet» (now sheet) ≡ true) × (place + 4 ≤ «used-in» (now sheet)) ×
-        (take («index-length» (now sheet)) (now index) ≡ «fresh-from» (now sheet) (place + 4)) ⌝ }
+fn count_eight(sheet: &[u16], index: &mut [u16], place: usize)
+    requires { ⌜ («is-sheet» (now sheet) ≡ true) × (place + 8 ≤ «used-in» (now sheet)) ×
+        (take («index-length» (now sheet)) (now index) ≡ «fresh-from» (now sheet) (place + 8)) ⌝ }
     ensures { λ r. ⌜ now (index .exit) ≡ placed («fresh-from» (now (sheet .entry)) place) (now (index .entry)) ⌝ }
 {
-    if !are_alike(sheet, 2 + place) {
-        count_node(sheet, index, place + 3);
-        count_node(sheet, index, place + 2);
-        count_node(sheet, index, place + 1);
-        count_node(sheet, index, place);
+    if !eight_alike(sheet, 2 + place) {
+        count_four(sheet, index, place + 4);
+        count_four(sheet, index, place);
         return;
     }
     let each = common_nodes::wide16(sheet[2 + place]);
     if is_mark(each) {
-        mention_first(index, common_nodes::value_of(each), 4, place as u16);
+        mention_first(index, common_nodes::value_of(each), 8, place as u16);
     }
 }
 
@@ -130,9 +148,9 @@ pub fn fill(sheet: &[u16], index: &mut [u16])
 {
     clear(index, common_nodes::wide16(sheet[0]));
     let mut place = common_nodes::wide16(sheet[1]);
-    while 4 <= place {
-        place -= 4;
-        count_four(sheet, index, place);
+    while 8 <= place {
+        place -= 8;
+        count_eight(sheet, index, place);
     }
     count_few(sheet, index, place);
 }

@@ -1,6 +1,6 @@
 -- `sheet_index::count_node` meets its contract: a mark is a run of one.
 use mathlib.Core.List.{List}
-use mathlib.Core.Path.{_≡_, sym, ap, _∙_}
+use mathlib.Core.Path.{_≡_, refl, sym, ap, _∙_}
 use Prim.Native.Nat.{ℕ, _+_}
 use native.Mathlib.Omega.{arith}
 use borrow.Author.Needs.{needs}
@@ -38,7 +38,7 @@ module _ (k : tie.After-value-of) where
   met = k .before .before .before
 
   run : Run (sheet met) (start met .pre .0) (place met) 1 (value (getD (sheet met) (2 + place met) 0))
-  run = one-mark (sheet met) (start met .pre .0) (place met) (start met .pre .1) (kind-here met ∙ k .before .before .if1 .taken)
+  run = one-mark (sheet met) (start met .pre .0) (place met) (start met .pre .1) refl (kind-here met ∙ k .before .before .if1 .taken)
 
   which : k .value-of .result ≡ value (getD (sheet met) (2 + place met) 0)
   which = k .value-of .ensures ∙ ap value (number met)
@@ -80,7 +80,7 @@ returns-2 c =
     let j = c .before in
     let s = sheet j in
     unchanged s (place j + 1) (old j) (start j .pre .2) (place j)
-    (one-other s (start j .pre .0) (place j) (start j .pre .1) (kind-here j ∙ c .if1 .left))
+    (one-other s (start j .pre .0) (place j) (start j .pre .1) refl (kind-here j ∙ c .if1 .left))
 
 pub count-node-spec : {M : Type 1} → statement M
 count-node-spec =

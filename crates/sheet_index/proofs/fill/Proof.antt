@@ -66,12 +66,12 @@ loop-holds c =
     let last = c .wide162 .ensures .0 in
     (omega (arith, last), refl, rw last filled)
 
-count-four-requires : tie.Need-count-four-requires Inv-loop μ-loop
-count-four-requires c κs =
+count-eight-requires : tie.Need-count-eight-requires Inv-loop μ-loop
+count-eight-requires c κs =
     let l = c .before .before .loop in
     let k = c .before .before .before .before in
     let s = sheet k in
-    let next : l .place ≡ l .place - 4 + 4 = omega (arith, c .before .loop-test .taken) in (
+    let next : l .place ≡ l .place - 8 + 8 = omega (arith, c .before .loop-test .taken) in (
       good k,
       omega (arith, c .before .loop-test .taken, l .inv .0),
       filled-start s (l .place) (clean k) (l .inv .2) ∙ ap (fresh-from s) next,
@@ -83,8 +83,8 @@ loop-again c =
     let l = call .before .before .before .loop in
     let k = call .before .before .before .before .before in (
       omega (arith, l .inv .0),
-      call .count-four .kept .1 .0 ∙ l .inv .1,
-      filled-further (sheet k) (l .place - 4) (l .place) (clean k) (l .inv .2) (call .count-four .ensures),
+      call .count-eight .kept .1 .0 ∙ l .inv .1,
+      filled-further (sheet k) (l .place - 8) (l .place) (clean k) (l .inv .2) (call .count-eight .ensures),
     )
 
 count-few-requires : tie.Need-count-few-requires Inv-loop μ-loop
@@ -114,7 +114,7 @@ fill-spec =
     shared-slice-read-wide16-2
     (λ c κs. search needs)
     loop-holds
-    count-four-requires
+    count-eight-requires
     (λ c. search needs)
     loop-again
     count-few-requires

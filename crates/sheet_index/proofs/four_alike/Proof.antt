@@ -1,11 +1,11 @@
--- `sheet_index::are_alike` meets its contract, by the definition.
+-- `sheet_index::four_alike` meets its contract, by the definition.
 use Prim.Native.Nat.{_+_}
 use borrow.Author.Needs.{needs}
 use borrow.Author.Tests.{eq-eqb, ne-eqb}
 use lib.ListN.{getD}
 use Rattle.sheet_index.specs.Walk.{four-alike}
-use Rattle.sheet_index.proofs.are_alike.Statement.{statement}
-use Rattle.sheet_index.proofs.are_alike.Tie as tie
+use Rattle.sheet_index.proofs.four_alike.Statement.{statement}
+use Rattle.sheet_index.proofs.four_alike.Tie as tie
 
 returns : tie.Need-returns
 unfolding four-alike
@@ -33,8 +33,8 @@ returns-3 c =
     let s = a .sheet .now in
     rw (ne-eqb (getD s (a .at) 0) (getD s (a .at + 1) 0) (c .if1 .left))
 
-pub are-alike-spec : {M : Type 1} → statement M
-are-alike-spec =
+pub four-alike-spec : {M : Type 1} → statement M
+four-alike-spec =
     tie.close
     (tie.spec
     (λ c. search needs)
