@@ -79,8 +79,8 @@
  * aligned as uint16_t is.  A count is one number and has no length: its pointer is never null.
  *
  * Stack: the ND_STACK_ numbers, here and in nibdrumlin.h, are bytes that suffice for one call,
- * with a margin of at least 4,096 over what was measured: 3,864 for nd_withdraw, 10,668 for nd_step,
- * 33,276 for nd_run, 56,760 for nd_report.  tests/library/stack.c measures it again.  It counts
+ * with a margin of at least 4,096 over what was measured: 3,880 for nd_withdraw, 10,684 for nd_step,
+ * 33,292 for nd_run, 56,760 for nd_report.  tests/library/stack.c measures it again.  It counts
  * what the calls and their memset, memcpy and memmove use.  A program that binds these three
  * only when they are first called needs, that once, the dynamic linker's stack besides.
  */
