@@ -188,3 +188,53 @@ pub taken-come-to :
     }
 unfolding definitions samples P-or-Q unkeyed taking-back other-book taken
 taken-come-to = refl
+
+-- Document 02, U5: a choice, a withdrawal, a step that applies and a run, each alone after the first choice, with this index. Nothing but
+-- the index can stand against them.
+unfoldable pub each-with : List ℕ → List Call
+each-with index = key index 0 false ∷ withdraw P-or-Q index 0 ∷ step index 10 0 1 0 ∷ run index 20 ∷ []
+
+pub record Tried : Type 0 where
+  pub sheets : List (List ℕ)
+  pub counts : List ℕ
+  pub steps : List ℕ
+  pub ends : List Bool
+
+unfoldable pub tried : List ℕ → Tried
+tried index =
+    record {
+      sheets = map (λ c. after-calls (c ∷ []) after-first-choice .sheet) (each-with index);
+      counts = map (λ c. after-calls (c ∷ []) after-first-choice .count) (each-with index);
+      steps = map (λ c. steps-of (c ∷ []) after-first-choice) (each-with index);
+      ends = map (λ c. ends-settled (c ∷ []) after-first-choice) (each-with index);
+    }
+
+-- Refused for its index, each leaves the sheet and the count of lines, does no step and says nothing of settled.
+abbrev unmoved : Tried
+unmoved =
+    record {
+      sheets = map (λ c. after-first-choice .sheet) (each-with []);
+      counts = 1 ∷ 1 ∷ 1 ∷ 1 ∷ [];
+      steps = 0 ∷ 0 ∷ 0 ∷ 0 ∷ [];
+      ends = false ∷ false ∷ false ∷ false ∷ [];
+    }
+
+-- The right index, one that is not the fresh count, and none.
+pub tried-come-to :
+    map tried (mentions 1 2 2 3 ∷ mentions 1 2 1 3 ∷ [] ∷ [])
+    ≡ record {
+      sheets =
+          sheet 2 (root 3 ∷ any-of 2 ∷ P ∷ Q ∷ not-Q ∷ P ∷ [])
+          ∷ sheet 2 (root 1 ∷ any-of 2 ∷ P ∷ Q ∷ [])
+          ∷ sheet 2 (root 2 ∷ any-of 2 ∷ P ∷ any-of 0 ∷ not-Q ∷ [])
+          ∷ sheet 2 (root 2 ∷ P ∷ not-Q ∷ [])
+          ∷ [];
+      counts = 2 ∷ 0 ∷ 1 ∷ 1 ∷ [];
+      steps = 0 ∷ 0 ∷ 1 ∷ 3 ∷ [];
+      ends = false ∷ false ∷ false ∷ true ∷ [];
+    }
+    ∷ unmoved
+    ∷ unmoved
+    ∷ []
+unfolding definitions samples P-or-Q after-first-choice each-with tried
+tried-come-to = refl
