@@ -61,7 +61,7 @@ extern "C" {
 #endif
 
 /*
- * Bytes of stack that suffice for one call.  3,336 were measured, by
+ * Bytes of stack that suffice for one call.  3,592 were measured, by
  * tests/library/stack.c; the rest, over 4,096, is margin.
  */
 #define ND_STACK_BOOK 8192

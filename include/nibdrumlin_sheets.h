@@ -54,10 +54,10 @@
  *            the remaining lines is
  *    9       rule not 1 to 17
  *   10       the step does not apply
- *   11       not a sheet; in writing and in a withdrawal also a book whose N is not the sheet's;
- *            in a keying and in a withdrawal also lines that are not in order; in a keying, a
- *            withdrawal, a step and a run also a stale index; in loading only a length that is
- *            not 4,098
+ *   11       not a sheet; in writing, in a withdrawal and in nd_complete also a book whose N is
+ *            not the sheet's; in a keying, a withdrawal and nd_complete also lines that are not
+ *            in order; in a keying, a withdrawal, a step and a run also a stale index; in loading
+ *            only a length that is not 4,098
  *   12       output shorter than needed: for a report, than N bytes; index shorter than 2N
  *            numbers, in every call that takes one
  *   13       no such line
@@ -76,13 +76,15 @@
  * count elements: bytes of a book or an output, 16-bit numbers of a sheet or an index, slots of
  * lines.  A pointer may be null where its length is 0; that is an empty run.  Otherwise it must
  * point to as many elements as its length says, and a sheet, an index, lines and a count must be
- * aligned as uint16_t is.  A count is one number and has no length: its pointer is never null.
+ * aligned as uint16_t is.  A count is one number and has no length: where a call changes it, it
+ * takes a pointer, which is never null; nd_complete changes nothing and takes the number.
  *
  * Stack: the ND_STACK_ numbers, here and in nibdrumlin.h, are bytes that suffice for one call,
- * with a margin of at least 4,096 over what was measured: 3,880 for nd_withdraw, 10,684 for nd_step,
- * 33,292 for nd_run, 56,760 for nd_report.  tests/library/stack.c measures it again.  It counts
- * what the calls and their memset, memcpy and memmove use.  A program that binds these three
- * only when they are first called needs, that once, the dynamic linker's stack besides.
+ * with a margin of at least 4,096 over what was measured: 3,656 for nd_write, 6,352 for
+ * nd_withdraw, 10,684 for nd_step, 33,292 for nd_run, 58,928 for nd_complete.
+ * tests/library/stack.c measures it again.  It counts what the calls and their memset, memcpy and
+ * memmove use.  A program that binds these three only when they are first called needs, that once,
+ * the dynamic linker's stack besides.
  */
 #ifndef NIBDRUMLIN_SHEETS_H
 #define NIBDRUMLIN_SHEETS_H
@@ -127,7 +129,7 @@ struct nd_line {
 #define ND_OUT 2
 #define ND_CONTRADICTORY 3
 
-/* Bytes of stack that suffice for nd_load, nd_write, nd_index, nd_key and nd_withdraw; nd_step;
+/* Bytes of stack that suffice for nd_load, nd_write, nd_index and nd_key; nd_withdraw and nd_step;
  * nd_run; nd_report and nd_complete. */
 #define ND_STACK_SHEET 8192
 #define ND_STACK_STEP 16384
@@ -181,13 +183,21 @@ uint64_t nd_write(const uint16_t *sheet, size_t sheet_len, const uint8_t *book, 
 uint64_t nd_report(const uint16_t *sheet, size_t sheet_len, uint8_t *out, size_t out_len);
 
 /*
- * Asks whether a sheet is complete: not contradictory, and every option in or out.
+ * Asks whether a sheet is complete: not contradictory, and every option that is named is in or
+ * out.  An option is named where some rule of the book lent has a mark of it, taken or barred, in
+ * an at-least too, or where one of the first count lines has.  So an option that no rule and no
+ * line names, such as a code that engineering has reserved, may be open.  The marks on the sheet
+ * name nothing, since steps take them away: the book is the one that was loaded, or that the last
+ * withdrawal was lent, and the lines are the order's.
  *
- * The value is 1 where it is, else 0.
+ * The value is 1 where it is complete, else 0.  Where nothing is named it is 1, unless the sheet
+ * is contradictory.
  *
- * Refused 11 (not a sheet).
+ * Refused 11 (not a sheet), 1 to 6, then 11 (a book whose N is not the sheet's; lines not in
+ * order).
  */
-uint64_t nd_complete(const uint16_t *sheet, size_t sheet_len);
+uint64_t nd_complete(const uint16_t *sheet, size_t sheet_len, const uint8_t *book, size_t book_len,
+                     const struct nd_line *lines, size_t slots, uint16_t count);
 
 /*
  * Keys a choice: the option, taken or (negative) barred, becomes the root's last child and the

@@ -8,6 +8,7 @@
     order.withdraw(1)  # line 1 is taken back; counted from 0, that is BODY-C
     print(order.lines, order.run(100_000), order.report())
     print(order.mentions("BODY-C").count)  # how often the sheet names BODY-C
+    print(order.is_complete())  # whether all that is named in its book or lines is in or out
 
 A call that is refused raises Refused, which has the number of the refusal and its meaning, and
 leaves everything as it was. The library is target/library/libnibdrumlin_sheets.so of this
@@ -17,7 +18,8 @@ another file.
 Book and Order stand on the functions nd_load, nd_run and so on, which are the C functions of
 include/nibdrumlin.h and include/nibdrumlin_sheets.h on memory that the caller lends: a book or an
 output is any run of bytes, a sheet or an index any run of 16-bit numbers (array("H"), say), the
-lines of an order a ctypes array of Slot, their count one 16-bit number (ctypes.c_uint16, say).
+lines of an order a ctypes array of Slot, their count one 16-bit number (ctypes.c_uint16, say; where
+the call changes nothing, an int).
 """
 import ctypes
 import functools
@@ -59,13 +61,13 @@ MEANINGS = {
 
 LIBRARY = Path(__file__).resolve().parent.parent / "target/library/libnibdrumlin_sheets.so"
 
-# Each C function by its arguments: b a run of bytes, s a run of 16-bit numbers, L lines, C their
-# count (capitals: it may be written), 8 a number of so many bytes, ? a truth value.
+# Each C function by its arguments: b a run of bytes, s a run of 16-bit numbers, l lines, C their
+# count (capitals: it may be written), 2 or 8 a number of so many bytes, ? a truth value.
 SIGNATURES = {
     "nd_book_check": "b", "nd_code_lookup": "bb", "nd_load": "bS", "nd_write": "sbB",
-    "nd_report": "sB", "nd_complete": "s", "nd_index": "sS", "nd_key": "SLCS8?",
+    "nd_report": "sB", "nd_complete": "sbl2", "nd_index": "sS", "nd_key": "SLCS8?",
     "nd_withdraw": "SbLCS8", "nd_step": "SS8888", "nd_run": "SS8"}
-NUMBERS = {"8": ctypes.c_uint64, "?": ctypes.c_bool}
+NUMBERS = {"2": ctypes.c_uint16, "8": ctypes.c_uint64, "?": ctypes.c_bool}
 SIZES = {"b": 1, "B": 1, "s": 2, "S": 2, "C": 2}
 
 Lent = Union[bytes, bytearray, memoryview, "array[int]"]
@@ -189,8 +191,8 @@ def _lend(memory: Lent, letter: str) -> Tuple[Any, int]:
 
 def _number(value: int, size: int) -> int:
     """A number for C, of so many bytes. One that does not fit is given as the largest that does: no
-    book has so many options, no sheet so many places and no order so many lines, so the answer is
-    the one due."""
+    book has so many options, no sheet so many places and no order so many lines, as many as 16 bits
+    count neither, so the answer is the one due."""
     most = 2 ** (8 * size) - 1
     return value if 0 <= value <= most else most
 
@@ -201,7 +203,7 @@ def _plain(argument: Any, letter: str) -> Tuple[Any, ...]:
         return (bool(argument),)
     if letter in NUMBERS:
         return (_number(argument, int(letter)),)
-    lend = {"L": _lend_lines, "C": _lend_count}.get(letter)
+    lend = {"l": _lend_lines, "L": _lend_lines, "C": _lend_count}.get(letter)
     return lend(argument) if lend else _lend(argument, letter)
 
 
@@ -243,9 +245,11 @@ def nd_report(sheet: Lent, out: Lent) -> bool:
     return bool(_call("nd_report", sheet, out))
 
 
-def nd_complete(sheet: Lent) -> bool:
-    """Whether every option is in or out and nothing contradicts. Refused 11."""
-    return bool(_call("nd_complete", sheet))
+def nd_complete(sheet: Lent, book: Lent, lines: Any, count: int) -> bool:
+    """Whether every option that a rule of the book or one of the first `count` lines names is in or
+    out and nothing contradicts. What the sheet itself names plays no part. Refused 11, 1 to 6, 11
+    (another number of options, lines that are not in order)."""
+    return bool(_call("nd_complete", sheet, book, lines, count))
 
 
 def nd_index(sheet: Lent, index: Lent) -> None:
@@ -397,8 +401,9 @@ class Order:
         return Report(contradictory, dict(zip(self.book.codes, map(State, out))))
 
     def is_complete(self) -> bool:
-        """Whether every option is in or out and nothing contradicts."""
-        return nd_complete(self.numbers)
+        """Whether every option that a rule of the order's book or a line names is in or out, and
+        nothing contradicts. An option that neither names, a reserved code say, may be open."""
+        return nd_complete(self.numbers, self.book.data, self._slots, self._count.value)
 
     def write(self) -> bytes:
         """The sheet as a book, with the codes of its own book."""

@@ -3,9 +3,9 @@
 Buffers are lists of numbers and are not changed in place; `buffers after` is the tuple of those
 that the call may write, as it leaves them. Arguments are unsigned and of any size: none is narrowed
 before it is compared. The lines of an order are a buffer of (option, barred), their count a buffer
-of one number, and an index of mentions is None where none is lent. Values: lookup, the option;
-write, the length; run, 2 x count and 1 more if settled; report, 1 if contradictory; complete, 1 if
-so; the others, 0.
+of one number (to complete, which changes nothing, a number), and an index of mentions is None where
+none is lent. Values: lookup, the option; write, the length; run, 2 x count and 1 more if settled;
+report, 1 if contradictory; complete, 1 if so; the others, 0.
 """
 from . import Refused, books, keying, meaning, mentions, rules, sheets
 
@@ -76,5 +76,5 @@ def report(sheet, output):
     return answer(lambda: meaning.report(sheet, output), output)
 
 
-def complete(sheet):
-    return answer(lambda: (meaning.complete(sheet),))
+def complete(sheet, book, lines, count):
+    return answer(lambda: (meaning.complete(sheet, book, lines, count),))

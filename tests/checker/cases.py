@@ -1,6 +1,6 @@
 """Document 01's books to try and those of document 02's "at least k of these", as tables; single
-steps that show what each rule does; and orders whose lines are keyed and taken back, as document 02
-says."""
+steps that show what each rule does; orders whose lines are keyed and taken back, as document 02
+says; and sheets that are complete, as it says, and others."""
 from .trees import (FALSE, TRUE, at_least, conjunction as all_of, disjunction as any_of, negative,
                     positive)
 
@@ -203,4 +203,63 @@ ORDERS = [
      [(0, False)], [1, 0, 0]),
     (FULL, [], [("run", (MOST,), (0, 9)), ("key", (1, True), ACCEPTED),
                 ("withdraw", (0,), ACCEPTED), ("run", (MOST,), (0, 9))], [], [0, 0, 0]),
+]
+
+# Document 02's "complete", for the options P, Q and R: the rules and choices on a sheet; the budget
+# of a run on it; the rules of the book lent; the lines lent; whether the sheet is complete.
+EITHER = [any_of(P, Q), any_of(NOT_P, NOT_Q)]  # of R, a reserved code, no rule says a word
+COMPLETE = [
+    # "Orders hang as incomplete because of codes that engineering reserved and no rule mentions":
+    # P is in, Q is out, R is open, and nothing asks for R
+    (EITHER + [P], 0, EITHER, [(0, False)], True),
+    (EITHER + [P], MOST, EITHER, [(0, False)], True),
+    (EITHER, 0, EITHER, [], False),
+    (EITHER + [R], 0, EITHER, [(2, False)], False),
+    # "or some choice names": also where the line was never keyed, and is on no sheet
+    (EITHER + [P, NOT_R], 0, EITHER, [(0, False), (2, True)], True),
+    (EITHER + [P], 0, EITHER, [(0, False), (2, True)], False),
+    (EITHER + [P], MOST, EITHER, [(0, False), (2, False)], False),
+    (EITHER + [P], 0, EITHER, [(2, False)] + [(0, False)] * 63, False),
+    (EITHER + [P], 0, EITHER, [(0, False)] * 63 + [(2, False)], False),
+    (EITHER + [P], 0, EITHER, [(0, False)] * 63 + [(1, False)], True),
+    # "since a step can remove the last mark of an option": of this one a run leaves P alone
+    (FIVE_STEPS, 0, FIVE_STEPS, [], False),
+    (FIVE_STEPS, MOST, FIVE_STEPS, [], False),
+    (FIVE_STEPS, MOST, FIVE_STEPS, [(2, True)], False),
+    (FIVE_STEPS, MOST, FIVE_STEPS, [(1, True)], False),
+    (FIVE_STEPS + [NOT_Q], MOST, FIVE_STEPS, [(1, True)], True),
+    ([P, any_of(TRUE, R)], MOST, [P, any_of(TRUE, R)], [], False),
+    # "judged on the book and the choices", and so never on the sheet: what it alone names may be
+    # open, with a mark of it or without
+    (FIVE_STEPS, 0, [P], [], True),
+    (FIVE_STEPS, MOST, [P], [(0, True)], True),
+    ([P, any_of(Q, R)], 0, [P], [], True),
+    ([P, any_of(Q, R)], 0, [P], [(1, True)], False),
+    ([P, any_of(Q, R)], 0, [], [(2, False)], False),
+    # a mark of the book, plain or barred, at any depth and whatever its rule says; members too
+    ([P], 0, [Q], [], False),
+    ([P], 0, [P, NOT_Q], [], False),
+    ([P], 0, [NOT_P], [], True),
+    ([P], 0, [P, TRUE, any_of(P, all_of(P, all_of(NOT_R)))], [], False),
+    ([P, R], 0, [P, TRUE, any_of(P, all_of(P, all_of(NOT_R)))], [], True),
+    ([P], 0, [any_of(TRUE, Q)], [], False),
+    ([P], 0, [at_least(0, P, Q)], [], False),
+    ([P], 0, [at_least(2, TRUE, P, NOT_R)], [], False),
+    ([P], 0, [at_least(3, TRUE, NOT_P)], [], True),
+    ([P], 0, [at_least(1, TRUE), at_least(2), all_of(TRUE, FALSE)], [], True),
+    # nothing named
+    ([], 0, [], [], True),
+    ([any_of(P, Q)], 0, [], [], True),
+    ([any_of(P, Q)], MOST, [TRUE, FALSE], [], True),
+    # contradictory, whatever is named, and whatever the book lent means
+    ([FALSE], 0, [], [], False),
+    ([P, NOT_P], 0, [], [], False),
+    ([P, NOT_P], MOST, [P], [(0, False)], False),
+    ([P, Q, R, FALSE], 0, [P, Q, R], [], False),
+    (EITHER + [P, Q], 0, EITHER, [(0, False), (1, False)], False),
+    (EITHER + [P, Q], MOST, EITHER, [(0, False), (1, False)], False),
+    ([P, Q], 0, [P, NOT_P, FALSE], [], True),
+    # all are marked, as document 01 had it: complete, whatever is named
+    ([P, NOT_Q, R], 0, [], [], True),
+    ([P, NOT_Q, R], 0, [any_of(P, Q), NOT_R], [(0, True), (1, False)], True),
 ]

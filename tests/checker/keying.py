@@ -29,6 +29,17 @@ def check_lines(lines, count, options):
         raise Refused(11)
 
 
+def read_order(sheet, data, lines, count):
+    """(N, root, book) of a sheet that a book and lines are lent beside. "Every 11 but the sheet's
+    own is tested after 6, with that for N." """
+    options, root = read(sheet)
+    book = books.parse(data)
+    if len(book.codes) != options:  # "a book whose N is not the sheet's"
+        raise Refused(11)
+    check_lines(lines, count, options)
+    return options, root, book
+
+
 def with_marks(root, lines):
     """Document 01: "A choice appends one mark, plain or barred, as the root's last child." """
     return Tree(ROOT, root.children + tuple(Line(*line).mark() for line in lines))
@@ -55,14 +66,9 @@ def key(sheet, lines, count, option, barred, index=None):
 
 def withdraw(sheet, data, lines, count, k, index=None):
     """(sheet, lines, count) after. "Taking line k back (counted from 0) removes it, moves later
-    lines up, loads the sheet afresh and keys the remaining lines in order." "Every 11 but the
-    sheet's own is tested after 6, with that for N." "13 no such line", "after 11 and before 7";
-    last 12."""
-    options, now = read(sheet)
-    book = books.parse(data)
-    if len(book.codes) != options:  # "a book whose N is not the sheet's"
-        raise Refused(11)
-    check_lines(lines, count, options)
+    lines up, loads the sheet afresh and keys the remaining lines in order." "13 no such line",
+    "after 11 and before 7"; last 12."""
+    options, now, book = read_order(sheet, data, lines, count)
     mentions.check(options, now, index)
     if k >= count:
         raise Refused(13)

@@ -4,8 +4,9 @@ from itertools import combinations
 from math import comb
 
 from . import Refused, counting
+from .keying import read_order
 from .sheets import read
-from .trees import AT_LEAST, DISJUNCTION, Literal, fold
+from .trees import AT_LEAST, DISJUNCTION, Literal, fold, preorder
 
 LIMIT = 50_000  # most unions that one more child may make, and most members in all choices of them
 
@@ -112,7 +113,19 @@ def report(sheet, output):
     return found is None, filled + list(output[options:])
 
 
-def complete(sheet):
-    """ "A sheet is complete if it is not contradictory and every option is 1 or 2." """
-    found = marks(*read(sheet))
-    return found is not None and all(mark in (1, 2) for mark in found)
+def named(rules, lines):
+    """ "every option that some rule of the loaded book or some choice names": by a mark, plain or
+    barred; a member of an at-least is one too"""
+    return {node.literal.option for rule in rules for node in preorder(rule) if node.literal} | {
+        option for option, _ in lines}
+
+
+def complete(sheet, data, lines, count):
+    """Document 02, U6: "A sheet is complete from now on if it is not contradictory and every option
+    that some rule of the loaded book or some choice names is marked 1 or 2. The mention is judged
+    on the book and the choices, since a step can remove the last mark of an option; both are lent
+    with the sheet, and checked by 1 to 6 and 11 as for a withdrawal, by no others." """
+    options, root, book = read_order(sheet, data, lines, count)
+    found = marks(options, root)
+    return found is not None and all(found[option] in (1, 2)
+                                     for option in named(book.rules, lines[:count]))

@@ -8,8 +8,8 @@ from pathlib import Path
 
 if not __package__:
     sys.path.insert(0, str(Path(__file__).resolve().parent.parent))
-from checker import (calls, desk, keying, meaning, rules, selftest_at_least, selftest_every,
-                     selftest_keying, selftest_lists, selftest_mentions, sheets)
+from checker import (calls, desk, keying, meaning, rules, selftest_at_least, selftest_complete,
+                     selftest_every, selftest_keying, selftest_lists, selftest_mentions, sheets)
 from checker.books import build
 from checker.cases import BAD, CASES, CODES, ORDERS, P, Q, STEPS
 from checker.expecting import BLANK, MOST, counted, done, expect, loaded
@@ -52,7 +52,8 @@ def limits_to_try():
     # "Eight zero bytes: a book; the sheet is 0, 1, 20480, zeros."
     empty = done(calls.load(BLANK, bytes(8)))[1]
     expect(empty == [0, 1, 20480] + [0] * 4095, "eight zero bytes")
-    expect(calls.complete(empty) == (0, 1, ()), "a sheet without options is complete")
+    expect(calls.complete(empty, bytes(8), NO_LINES, 0) == (0, 1, ()),
+           "a sheet without options is complete")
     # "One any-of with 2,047 marks is accepted and a choice is then refused 8; with 2,048, refused
     # 6." "An all-of with 4,094 trues is accepted." "Option 512 is refused 5."
     codes = [b"C%d" % number for number in range(512)]
@@ -157,7 +158,8 @@ def refusals_of_sheets():
                 (calls.withdraw(bad, b"", NO_LINES, [0], [], 99), (bad, NO_LINES, [0], [])),
                 (calls.run(bad, [], 0), (bad, [])), (calls.index(bad, []), ([],)),
                 (calls.report(bad, []), ([],)),
-                (calls.complete(bad), ()), (calls.write(bad, b"", []), ([],))):
+                (calls.complete(bad, b"", NO_LINES, 65), ()),
+                (calls.write(bad, b"", []), ([],))):
             expect(given == (11, 0, left), bad[:9])
     expect(keyed(sheet, 2, True) == (7, sheet), "no such option")
     expect(calls.report(sheet, [0]) == (12, 0, ([0],)), "a report a byte short")
@@ -183,6 +185,7 @@ def main(books=3000, seed=1):
     selftest_keying.all_of_them()
     mentions = selftest_mentions.all_of_them()
     selftest_at_least.all_of_them(rng)
+    asked = selftest_complete.all_of_them(rng, selftest_lists.random_tree)
     every = selftest_every.all_of_them(rng)
     for number in range(books):
         sheet = selftest_lists.check_book(rng, met)
@@ -192,10 +195,11 @@ def main(books=3000, seed=1):
     steps = [met[rule] for rule in rules.TABLE]
     print("selftest: %d books and %d orders to try, %d steps, the refusals, %d faults of an index "
           "beside them and %d calls with one and without, %d small sheets with every step from "
-          "them (%d), and %d random books with %d steps (each rule %d times or more), %d keyings "
-          "and %d withdrawals all held, %.0f s" % (
-              len(CASES) + 5, len(ORDERS), len(STEPS), *mentions, *every, books, sum(steps),
-              min(steps), met["key", 0], met["withdraw", 0], time.time() - start))
+          "them (%d), %d sheets complete or not, and %d random books with %d steps (each rule %d "
+          "times or more), %d keyings, %d withdrawals and %d questions all held, %.0f s" % (
+              len(CASES) + 5, len(ORDERS), len(STEPS), *mentions, *every, asked, books, sum(steps),
+              min(steps), met["key", 0], met["withdraw", 0], met["complete", 0],
+              time.time() - start))
 
 
 if __name__ == "__main__":

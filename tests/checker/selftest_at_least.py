@@ -118,7 +118,7 @@ def members_refused():
         expect(calls.check(data) == (0 if good else 5, 0, ()), ("a body", body))
         nodes = [5 * 4096 + 1] + body
         sheet = [2, len(nodes)] + nodes + [0] * (sheets.LENGTH - 2 - len(nodes))
-        expect(calls.complete(sheet)[0] == (0 if good else 11), ("a sheet", body))
+        expect(calls.index(sheet, [7] * 4)[0] == (0 if good else 11), ("a sheet", body))
         if good:
             expect(done(calls.load(BLANK, data))[1] == sheet, ("a body loaded", body))
 

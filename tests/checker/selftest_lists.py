@@ -1,6 +1,7 @@
 """The checker on small random books: demand 2's round trips, what each step keeps, and demand 3 on
-random lists of keyings, withdrawals, single steps and runs, with an index lent on through each."""
-from . import calls, meaning, rules, sheets
+random lists of keyings, withdrawals, single steps and runs, with an index lent on through each and
+"complete" asked on the way."""
+from . import calls, meaning, naming, rules, sheets
 from .books import build
 from .cases import CODES
 from .demands import Account, cube, is_settled
@@ -9,13 +10,14 @@ from .random_trees import random_at_least, random_mark
 from .trees import CONJUNCTION, DISJUNCTION, ROOT, Tree, weight
 
 # What the random lists must have met: each rule, each answer of a keying and of a withdrawal (8
-# needs a sheet that is nearly full: selftest_keying), and each fault of an index beside each answer
-# that is due without one.
+# needs a sheet that is nearly full: selftest_keying), each fault of an index beside each answer
+# that is due without one, and each kind of answer to "complete".
 ANSWERS = [*(("key", due) for due in (0, 7, 11, 14)), *(("withdraw", due) for due in (0, 11, 13)),
            ("step", 0), ("run", 0)]
 STALE, SHORT = 11, 12  # the faults of an index, by their refusals
 TO_MEET = [*rules.TABLE, *ANSWERS, *((*answer, fault) for answer in ANSWERS
-                                     for fault in (STALE, SHORT))]
+                                     for fault in (STALE, SHORT)),
+           ("complete", 0), ("complete", 11), *naming.KINDS]
 PAST = [4097, 65_535, 0]  # numbers of an index past twice N
 
 
@@ -151,6 +153,30 @@ class List:
             self.met[step[0]] += 1
             self.count_steps(1)
 
+    def complete(self):
+        """With the loaded book, and now and then with another."""
+        self.ask_complete(self.account.rules)
+        if self.rng.random() < 0.2:
+            self.ask_complete([random_tree(self.rng, self.sheet[0], 1)
+                               for _ in range(self.rng.randint(0, 2))])
+
+    def ask_complete(self, trees):
+        """Document 02, U6: "not contradictory and every option that some rule of the loaded book or
+        some choice names is marked 1 or 2": marks and choices as the account has them."""
+        options, (count,) = self.sheet[0], self.count
+        book = build(CODES[:options], trees)
+        refusal, value, _ = calls.complete(self.sheet, book, self.lines, count)
+        self.met["complete", refusal] += 1
+        if refusal == 0:
+            names = naming.Names(
+                set(range(options)),
+                None if self.due is None else {literal.option for literal in self.due},
+                set().union(*(tree.options for tree in trees)),
+                {option for option, _ in self.account.standing},
+                {option for option in range(options) if counted(self.sheet)[2 * option]})
+            expect(value == names.is_complete(), "complete: not as the account says")
+            self.met.update(names.kinds())
+
     def count_steps(self, count):
         self.room -= count
         expect(self.room >= 0, "more steps than the cube")
@@ -162,6 +188,7 @@ def check_list(rng, sheet, trees, met):
     for _ in range(rng.randint(1, 12)):
         rng.choice((made.key, made.withdraw, made.step, made.step, made.step, made.step,
                     made.run))()
+        made.complete()
     expect(meaning.meaning(sheets.root_of(made.sheet)) == made.due, "a list changed the meaning")
     return made.sheet
 

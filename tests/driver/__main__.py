@@ -9,17 +9,20 @@ import time
 from collections import Counter
 from pathlib import Path
 
-from . import (Difference, at_least, cases, desks, indexes, lists, mentions, orders, refusals,
-               refused_orders, theories, wide)
+from checker import naming
+
+from . import (Difference, at_least, cases, completes, desks, indexes, lists, mentions, orders,
+               refusals, refused_orders, theories, wide)
 from .comparing import CAN_REFUSE, FAULTS, NULL, SAYS, Comparing
 from .library import Library
 
 TOP = Path(__file__).resolve().parent.parent.parent
 DESK = TOP / "target/bin/desk"
 LISTS, ORDERS, THEORIES, DESKS = 20_000, 300, 150, 2_000
-ALL = (*cases.ALL, *refusals.ALL, *refused_orders.ALL, *mentions.ALL, *at_least.ALL, *wide.ALL)
-RANDOM = (*refusals.RANDOM, *refused_orders.RANDOM, *mentions.RANDOM, *at_least.RANDOM,
-          *wide.RANDOM)
+ALL = (*cases.ALL, *refusals.ALL, *refused_orders.ALL, *completes.ALL, *mentions.ALL, *at_least.ALL,
+       *wide.ALL)
+RANDOM = (*refusals.RANDOM, *refused_orders.RANDOM, *completes.RANDOM, *mentions.RANDOM,
+          *at_least.RANDOM, *wide.RANDOM)
 
 
 def numbered(seed, what, count, work, share=(0, 1)):
@@ -106,7 +109,7 @@ def soak(comparing, desk, seconds):
 def due_counts(desk):
     """What must have been seen, and how often at least."""
     least = {"lists": LISTS, "orders": ORDERS, "theories": THEORIES,
-             "theories whose clauses fit": THEORIES // 2, "complete sheets with options": 1}
+             "theories whose clauses fit": THEORIES // 2}
     least.update({"roomier reports, " + said: LISTS // 10 for said in SAYS["report"]})
     least.update({"rule %d" % rule: 1 for rule in range(1, 18)})
     least.update({lists.SETTLED_AT_LEASTS: LISTS // 400, wide.TOO_MANY: 1})
@@ -116,6 +119,9 @@ def due_counts(desk):
     least.update({fault: 1 for fault in FAULTS})
     least.update({kind: LISTS // 10 for kind in lists.INDEXES})
     least[NULL] = LISTS // 1000
+    # Each kind of answer to "complete", by what names which option, and each way of asking it.
+    least.update({kind: LISTS // 400 for kind in naming.KINDS})
+    least.update({kind: LISTS // 100 for kind in lists.QUESTIONS})
     # Every answer of every call. (A code that is found is a lookup accepted, one that is not is 7.)
     least.update({(call, number): 1 for call in CAN_REFUSE for number in [0] + CAN_REFUSE[call]})
     least.update({(call, said): 1 for call in SAYS for said in SAYS[call]})

@@ -13,6 +13,7 @@ from checker.trees import (FALSE, TRUE, are_members, at_least, conjunction as al
 from . import expect
 from .indexes import beside, fresh_count, lent_index
 from .library import Lent, Numbers, sheet as lent_sheet
+from .lines import asked_lines
 
 CODES = [b"P", b"Q", b"R"]
 MOST = 2 ** 64 - 1
@@ -62,10 +63,13 @@ def sheet_of(body):
 def answers(comparing, body):
     """The refusals of a rule of these nodes, in a book and on a sheet."""
     book, sheet = Lent(book_of(body)), lent_sheet(sheet_of(body))
+    lines = asked_lines([(2, True)])
     of_book = [comparing.call("check", book)[0],
-               comparing.call("load", book, lent_sheet([7] * LENGTH))[0]]
-    others = (("complete", ()), ("index", (lent_index(sheet),)), ("run", (lent_index(sheet), 1)),
-              ("report", (Lent([9] * len(CODES)),)), ("key", (*beside(sheet), 2, True)))
+               comparing.call("load", book, lent_sheet([7] * LENGTH))[0],
+               comparing.call("complete", lent_sheet(sheet_of(GOOD[:1])), book, *lines)[0]]
+    others = (("complete", (book, *lines)), ("index", (lent_index(sheet),)),
+              ("run", (lent_index(sheet), 1)), ("report", (Lent([9] * len(CODES)),)),
+              ("key", (*beside(sheet), 2, True)))
     of_sheet = [comparing.call(name, lent_sheet(sheet_of(body)), *arguments)[0]
                 for name, arguments in others]
     return set(of_book), set(of_sheet)

@@ -1,7 +1,7 @@
 """One call on the library and on the checker: the answers and every lent byte must be equal."""
 from collections import Counter
 
-from checker import calls
+from checker import books, calls, meaning, naming, sheets
 
 from . import Difference, expect
 from .indexes import SHORT, STALE, fault_of
@@ -10,7 +10,7 @@ from .library import CALLS, Lent, NoNumbers
 # Documents 01 and 02, who can cause which refusal and their order, for each call.
 CAN_REFUSE = {
     "check": [1, 2, 3, 4, 5, 6], "lookup": [1, 2, 3, 4, 5, 6, 7], "load": [11, 1, 2, 3, 4, 5, 6],
-    "write": [11, 1, 2, 3, 4, 5, 6, 12], "report": [11, 12], "complete": [11],
+    "write": [11, 1, 2, 3, 4, 5, 6, 12], "report": [11, 12], "complete": [11, 1, 2, 3, 4, 5, 6],
     "key": [11, 14, 7, 8, 12], "withdraw": [11, 1, 2, 3, 4, 5, 6, 13, 8, 12],
     "step": [11, 9, 10, 12], "run": [11, 12], "index": [11, 12]}
 
@@ -25,6 +25,16 @@ NULL = "calls with a null index"
 # What the value of an accepted call says, where it says one of two things: by its lowest bit.
 SAYS = {"run": ("stopped", "settled"), "report": ("consistent", "contradictory"),
         "complete": ("incomplete", "complete")}
+
+
+def names_of(sheet, data, lines, count):
+    """What names which options, where nothing is refused."""
+    options, root = sheets.read(sheet)
+    marks = meaning.marks(options, root)
+    return naming.Names(
+        set(range(options)),
+        None if marks is None else {option for option in range(options) if marks[option] != 0},
+        meaning.named(books.parse(data).rules, []), meaning.named([], lines[:count]), root.options)
 
 
 class Comparing:
@@ -43,13 +53,15 @@ class Comparing:
         if name == "load":  # the checker takes the target first
             values.reverse()
         refusal, value, after = getattr(calls, name)(*values)
+        before = [bytes(argument.memory) if isinstance(argument, Lent) else None
+                  for argument in arguments]
         given = self.library.call(name, arguments)
         if given != (refusal, value):
             raise Difference("%s: (refusal, value) is %s, due %s" % (name, given, (refusal, value)))
-        self.compare_memory(name, refusal, arguments, after)
+        self.compare_memory(name, refusal, zip(CALLS[name][1], arguments, before), after)
         self.seen[name, refusal] += 1
         if refusal == 0 and name in SAYS:
-            self.tally(name, SAYS[name][value % 2], arguments)
+            self.tally(name, SAYS[name][value % 2], values)
         if name in BESIDE_AN_INDEX:
             self.tally_index(name, values)
             self.seen[NULL] += any(isinstance(argument, NoNumbers) for argument in arguments)
@@ -57,21 +69,25 @@ class Comparing:
 
     @staticmethod
     def compare_memory(name, refusal, arguments, after):
-        """What the call may write holds what the checker leaves; all else what it held."""
+        """What the call may write holds what the checker leaves; all else every byte that it held
+        before, those too of which no promise speaks. `arguments` are (letter, lent, before)."""
         written = iter(after)
-        for letter, argument in zip(CALLS[name][1], arguments):
+        for letter, argument, before in arguments:
             if isinstance(argument, Lent):
                 try:
-                    argument.must_hold(next(written) if letter.isupper() else argument.values)
+                    if letter.isupper():
+                        argument.must_hold(next(written))
+                    else:
+                        expect(argument.memory == before, "lent to be read, and written")
                 except Difference as difference:
                     raise Difference("%s, refusal %d, argument %s: %s" % (
                         name, refusal, letter, difference))
 
-    def tally(self, name, said, arguments):
+    def tally(self, name, said, values):
         self.seen[name, said] += 1
-        if said == "complete" and arguments[0].values[0] > 0:  # not for want of options
-            self.seen["complete sheets with options"] += 1
-        if name == "report" and len(arguments[1].values) > arguments[0].values[0]:
+        if name == "complete":
+            self.seen.update(names_of(*values).kinds())
+        if name == "report" and len(values[1]) > values[0][0]:
             self.seen["roomier reports, " + said] += 1
 
     def tally_index(self, name, values):

@@ -9,17 +9,18 @@ LIBRARY = Path(__file__).resolve().parent.parent.parent / "target/library/libnib
 from . import expect
 
 # Each call by its arguments: a lent run of bytes, of 16-bit numbers (a sheet, or an index) or of
-# lines; a lent count of lines, which has no length; or a number of some width. A capital letter
+# lines; a lent count of lines, which has no length; or a number of so many bytes. A capital letter
 # marks what the call may write.
 CALLS = {
     "check": ("nd_book_check", "b"), "lookup": ("nd_code_lookup", "bb"),
     "load": ("nd_load", "bS"), "write": ("nd_write", "sbB"),
-    "report": ("nd_report", "sB"), "complete": ("nd_complete", "s"),
+    "report": ("nd_report", "sB"), "complete": ("nd_complete", "sbl2"),
     "key": ("nd_key", "SLCI8?"), "withdraw": ("nd_withdraw", "SbLCI8"),
     "step": ("nd_step", "SI8888"), "run": ("nd_run", "SI8"), "index": ("nd_index", "sI")}
 RUN = (ctypes.c_void_p, ctypes.c_size_t)
-ARGUMENTS = {"b": RUN, "B": RUN, "s": RUN, "S": RUN, "L": RUN, "I": RUN, "C": (ctypes.c_void_p,),
-             "8": (ctypes.c_uint64,), "?": (ctypes.c_bool,)}
+ARGUMENTS = {"b": RUN, "B": RUN, "s": RUN, "S": RUN, "l": RUN, "L": RUN, "I": RUN,
+             "C": (ctypes.c_void_p,), "2": (ctypes.c_uint16,), "8": (ctypes.c_uint64,),
+             "?": (ctypes.c_bool,)}
 GUARD = 16  # elements before and after lent memory, which no call may write
 
 

@@ -15,6 +15,12 @@ def lent_lines(lines=()):
     return Lines(lines + SPARE[len(lines):]), Count(len(lines))
 
 
+def asked_lines(lines=()):
+    """The same for a call that changes nothing: the count is a plain number."""
+    lent, count = lent_lines(lines)
+    return lent, count.values[0]
+
+
 def random_line(rng, options):
     return rng.randrange(options), rng.random() < 0.5
 

@@ -1,16 +1,18 @@
 """Random lists of keyings, withdrawals, single steps and runs, from a loaded sheet and any lent
-lines, a report after each call, and the three parts of demand 3 on each list. An index, filled from
-the loaded sheet, is lent on through the list; now and then a call is lent another one."""
-from checker import books, rules
+lines, a report after each call, whether the sheet is complete after some, and the three parts of
+demand 3 on each list. An index, filled from the loaded sheet, is lent on through the list; now and
+then a call is lent another one."""
+from checker import books, calls, rules
 from checker.books import build
 from checker.demands import Account, cube, is_settled
+from checker.keying import SLOTS
 from checker.sheets import LENGTH, root_of
-from checker.trees import AT_LEAST, Literal, preorder
+from checker.trees import AT_LEAST, Literal, numbers, preorder
 
 from . import Difference, expect
 from .indexes import PAST, fault_of, random_index
-from .library import Lent, Numbers, sheet as lent_sheet
-from .lines import random_line, random_lines
+from .library import Lent, Lines, Numbers, sheet as lent_sheet
+from .lines import any_slots, random_line, random_lines
 from .making import CODES, random_book, random_rules
 
 WIDE = (65536, 2 ** 32, 2 ** 63)  # what a call that narrowed its arguments would not see
@@ -32,6 +34,14 @@ SETTLED_AT_LEASTS = "settled sheets with at-leasts"
 LENT_ON, LENT_ON_REFUSED = "calls with an index lent on", "refused calls with an index lent on"
 RIGHT_TOO = "calls with another right index"
 INDEXES = (LENT_ON, LENT_ON_REFUSED, RIGHT_TOO)
+
+# Questions that must have been seen: whether a sheet is complete, by the order's own book and
+# lines, and by others.
+OWN = "complete asked by the order's own"
+OTHER_BOOK, REFUSED_BOOK = "complete asked by another book", "complete asked, and the book refused"
+OTHER_SLOTS = "complete asked with other slots past the count"
+OTHER_LINES, NO_LIST = "complete asked by other lines", "complete asked, and the lines refused"
+QUESTIONS = (OWN, OTHER_BOOK, REFUSED_BOOK, OTHER_SLOTS, OTHER_LINES, NO_LIST)
 
 
 def random_step(rng, sheet):
@@ -161,6 +171,33 @@ class Order:
         expect(output.held() == due + [9] * (len(output.values) - self.options),
                "the report differs from what the rules mean")
 
+    def ask(self, data=None, slots=None, count=None):
+        """Whether the sheet is complete: by the order's own book and lines, or by others. Document
+        02: "if it is not contradictory and every option that some rule of the loaded book or some
+        choice names is marked 1 or 2"; what is marked is known from the account, whatever is lent.
+        (refusal, value)"""
+        book = self.book if data is None else Lent(data)
+        lines = self.lines if slots is None else Lines(slots)
+        count = self.count.values[0] if count is None else count
+        self.made.append(("complete", bytes(book.values).hex(" "), lines.values[:5], count))
+        refusal, value = self.comparing.call("complete", self.sheet, book, lines, count)
+        if refusal == 0:
+            named = set().union(*(rule.options for rule in books.parse(book.values).rules))
+            named.update(option for option, _ in lines.values[:count])
+            marked = {literal.option for literal in self.due or ()}
+            expect(value == (self.due is not None and named <= marked),
+                   "complete, or not, unlike the account")
+        return refusal, value
+
+    def ask_own(self):
+        """ "the loaded book" and the choices are the account's."""
+        if self.ask()[0] == 0:
+            count, = self.count.held()
+            expect(self.lines.held()[:count] == self.account.standing, "asked by other lines")
+            expect([numbers(rule) for rule in books.parse(self.book.values).rules]
+                   == [numbers(rule) for rule in self.account.rules], "asked by another book")
+            self.comparing.seen[OWN] += 1
+
     def round_trip(self, data=None):
         """ "a sheet written and loaded is the same sheet"; with `data`, "A book loaded and written
         is the same bytes"."""
@@ -188,10 +225,10 @@ def random_k(rng, order):
     return k if rng.random() < 0.8 else rng.choice((count, count + 1, 64, MOST, narrowed, narrowed))
 
 
-def random_withdrawal(rng, order):
-    """With the book that is loaded; with other rules for the same options; with a book that has
-    more options or fewer; or with one that is damaged."""
-    data, way, options = bytes(order.book.values), rng.random(), order.options
+def random_data(rng, order, way):
+    """The book that is loaded; other rules for the same options; a book that has more options or
+    fewer; or one that is damaged."""
+    data, options = bytes(order.book.values), order.options
     if 0.6 < way < 0.85:
         data = build(CODES[:options], random_rules(rng, options))
     elif 0.85 < way < 0.92:
@@ -200,7 +237,40 @@ def random_withdrawal(rng, order):
     elif way > 0.92:
         at = rng.randrange(len(data))
         data = rng.choice((data[:at], data[:at] + bytes([rng.randrange(256)]) + data[at + 1:]))
-    order.withdraw(data, random_k(rng, order))
+    return data
+
+
+def random_withdrawal(rng, order):
+    order.withdraw(random_data(rng, order, rng.random()), random_k(rng, order))
+
+
+def random_slots(rng, order):
+    """(kind, slots, count): the order's own lines and any slots past them; a few other lines; or
+    any slots and a count, mostly out of order."""
+    options, count = order.options, order.count.values[0]
+    way = rng.random()
+    if way < 0.4:
+        own = list(order.lines.values[:count])
+        return OTHER_SLOTS, own + any_slots(rng, options, SLOTS - len(own)), count
+    if way < 0.8:
+        lines = [random_line(rng, options) for _ in range(rng.randint(0, 2)) if options]
+        return OTHER_LINES, lines + any_slots(rng, options, SLOTS - len(lines)), len(lines)
+    slots = any_slots(rng, options, rng.choice((0, 1, 63, 64, 64, 65, 128)))
+    counts = 0, 1, 64, 65, 66, 256, 257, 32_768, 65_535
+    return NO_LIST, slots, rng.choice(counts)
+
+
+def random_question(rng, order):
+    """Whether the sheet is complete: by the order's own book and lines, by another book, good or
+    not, and by other lines."""
+    order.ask_own()
+    seen, data = order.comparing.seen, random_data(rng, order, rng.uniform(0.6, 1))
+    book_refused = bool(calls.check(data)[0])
+    order.ask(data)
+    seen[REFUSED_BOOK if book_refused else OTHER_BOOK] += 1
+    kind, slots, count = random_slots(rng, order)
+    refusal, _ = order.ask(None, slots, count)
+    seen[kind] += (refusal == 11) == (kind == NO_LIST)
 
 
 def random_call(rng, order):
@@ -245,9 +315,10 @@ def one_list(comparing, rng):
         for _ in range(rng.choice((1, 2, 3, 4, 5, 6, 12))):
             random_call(rng, order)
             order.report(rng.choice(ROOMS))
+            if rng.random() < 0.2:
+                random_question(rng, order)
         if rng.random() < 0.2:
             order.round_trip()
-            comparing.done("complete", order.sheet)
         if options and rng.random() < 0.2:
             changed_mind(rng, order)
     except Difference as difference:

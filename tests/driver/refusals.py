@@ -10,7 +10,7 @@ from checker.trees import TRUE, at_least, conjunction as all_of, disjunction as 
 
 from .indexes import PAST, beside, fresh_count
 from .library import Lent, NoNumbers, Numbers, sheet as lent_sheet
-from .lines import lent_lines
+from .lines import asked_lines, lent_lines
 
 BOOK = build([b"P", b"Q-7"], [P, any_of(P, all_of(NOT_P, Q)), at_least(2, NOT_Q, TRUE, P),
                               all_of(Q, TRUE)])
@@ -31,6 +31,8 @@ def on_book(comparing, data):
     for lines, k in ((LINES, 1), (LINES, 2), ([(2, True)], 0)):  # in order; no such line; no option
         sheet = lent_sheet(SHEET)
         comparing.call("withdraw", sheet, book, *beside(sheet, lines), k)
+    for lines in (LINES, [(2, True)]):  # in order; no option
+        comparing.call("complete", lent_sheet(SHEET), book, *asked_lines(lines))
     for index in (NoNumbers(), Numbers(PAST[:4])):  # short; stale
         comparing.call("withdraw", lent_sheet(SHEET), book, *lent_lines(LINES), index, 0)
 
@@ -51,8 +53,8 @@ def on_sheet(comparing, values):
         comparing.call("run", lent_sheet(values), Numbers(right), budget)
     for length in {max(0, options - 1), options, options + 1, 512, 600}:
         comparing.call("report", lent_sheet(values), Lent([9] * length))
-    comparing.call("complete", lent_sheet(values))
     for book in (BOOK, OTHER_BOOK, BOOK[:-1]):
+        comparing.call("complete", lent_sheet(values), Lent(book), *asked_lines(LINES))
         comparing.call("write", lent_sheet(values), Lent(book), Lent([9] * len(BOOK)))
         comparing.call("withdraw", lent_sheet(values), Lent(book), *lent_lines(LINES),
                        Numbers(right), 0)

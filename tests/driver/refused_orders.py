@@ -1,7 +1,8 @@
-"""Every refusal of keyings and withdrawals: faults of the sheet, the book, the lines, the line that
-is taken back, the option and the room, each alone and all that can stand together, which must be
-answered in the order that documents 01 and 02 give. What is due is the checker's answer; that
-nothing lent was written is compared with every call. (Faults of an index: mentions.)"""
+"""Every refusal of keyings, withdrawals and the "complete" question: faults of the sheet, the book,
+the lines, the line that is taken back, the option and the room, each alone and all that can stand
+together, which must be answered in the order that documents 01 and 02 give. What is due is the
+checker's answer; that nothing lent was written is compared with every call. (Faults of an index:
+mentions.)"""
 from checker.books import build
 from checker.calls import load
 from checker.cases import NOT_P, P, Q
@@ -59,12 +60,14 @@ def keyings(comparing):
 
 
 def withdrawals(comparing):
-    """Each sheet with each book, but those that are slow to read once."""
+    """Each sheet with each book, but those that are slow to read once; and whether the sheet is
+    complete, which is checked "as for a withdrawal"."""
     several = [(sheet, book) for sheet in (SHEET, NO_SHEET, SHEET[:-1])
                for book in (BOOK, OTHER_BOOK)]
     for sheet, book in several + [(SHEET, FULL_BOOK), (FULL_SHEET, BOOK)]:
         index = fresh_count(sheet)
         for slots, count in lists():
+            comparing.call("complete", lent_sheet(sheet), Lent(book), Lines(slots), count)
             for k in {0, max(0, count - 1), count, 64, 65_536, 2 ** 32, 2 ** 63, MOST}:
                 comparing.call("withdraw", lent_sheet(sheet), Lent(book), Lines(slots),
                                Count(count), Numbers(index), k)
@@ -74,12 +77,14 @@ def withdrawals_with_bad_books(comparing):
     for sheet in (SHEET, NO_SHEET):
         for book in BAD_BOOKS:
             for slots, count in lists()[::3]:
+                comparing.call("complete", lent_sheet(sheet), Lent(book), Lines(slots), count)
                 for k in (0, 64):
                     comparing.call("withdraw", lent_sheet(sheet), Lent(book), Lines(slots),
                                    Count(count), Numbers(fresh_count(SHEET)), k)
 
 
 def on_lines(comparing, slots, count, k=0):
+    comparing.call("complete", lent_sheet(SHEET), Lent(BOOK), Lines(slots), count)
     for name, books, arguments in (("key", (), (1, True)), ("withdraw", (Lent(BOOK),), (k,))):
         sheet = lent_sheet(SHEET)
         comparing.call(name, sheet, *books, Lines(slots), Count(count), lent_index(sheet),

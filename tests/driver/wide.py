@@ -27,7 +27,8 @@ class Order:
 
     def __init__(self, comparing, trees):
         self.comparing, self.sheet = comparing, lent_sheet([7] * LENGTH)
-        comparing.done("load", Lent(build(CODES, trees)), self.sheet)
+        self.book = Lent(build(CODES, trees))
+        comparing.done("load", self.book, self.sheet)
         *self.lines, self.index = beside(self.sheet)
 
     def key(self, option, barred):
@@ -40,11 +41,16 @@ class Order:
         return output.held()
 
     def settle(self, budgets):
-        """Runs, the last to the end; the report must stay."""
-        before = self.report()
+        """Runs, the last to the end; the report must stay, and whether it is complete."""
+        before = self.report(), self.is_complete()
         for budget in (*budgets, MOST):
             self.comparing.done("run", self.sheet, self.index, budget)
-        expect(self.report() == before, "a run changed the report of a wide at-least")
+        expect((self.report(), self.is_complete()) == before,
+               "a run changed the report of a wide at-least, or whether it is complete")
+
+    def is_complete(self):
+        lines, count = self.lines
+        return self.comparing.done("complete", self.sheet, self.book, lines, count.values[0])
 
 
 def as_many_as_can_be(comparing):

@@ -1,5 +1,6 @@
 """The examples in C that take a book and words: what each prints, as C and as C++, beside what is
-due; and a choice as both of them key it."""
+due; what examples/README.md shows of it; and a choice as all of them key it."""
+import re
 import subprocess
 import tempfile
 from pathlib import Path
@@ -46,3 +47,15 @@ def compare(name, cases):
                         language, " ".join(words)[:99], given, due))
             count += 1
     return count
+
+
+def check_shown(command, due):
+    """What examples/README.md shows below a command, where ... stands for lines left out."""
+    text = (EXAMPLES / "README.md").read_text(encoding="utf-8")
+    shown = re.search(r"(?:^    .*\n)+", text.partition("    %s\n" % command)[2], re.M)
+    if shown is None:
+        raise Difference("examples/README.md does not show what this prints: %s" % command)
+    lines = [line.strip() for line in shown[0].splitlines()]
+    form = "".join(r"(?:.+\n)+" if line == "..." else re.escape(line) + r"\n" for line in lines)
+    if re.fullmatch(form, due.decode()) is None:
+        raise Difference("examples/README.md shows %s, printed is %s" % (shown[0], due.decode()))

@@ -81,3 +81,9 @@ def slots(lines=()):
     """An order's lines and their count, for lending."""
     lines = list(lines)
     return Lines(lines + SPARE[len(lines):]), Count(len(lines))
+
+
+def asked(lines=()):
+    """The same for a call that changes nothing: the count is a plain number."""
+    lent, count = slots(lines)
+    return lent, int(count)

@@ -3,7 +3,6 @@ prints of the sheet as keyed, of its run and of the sheet that the run leaves, e
 count; and examples/README.md, which shows some of it. From the folder above:
 python3 -m library.mentions"""
 import random
-import re
 import sys
 from array import array
 
@@ -14,7 +13,7 @@ from desk.cases import EXAMPLES, TOP
 from driver.comparing import Difference
 from driver.desks import comb
 from driver.making import CODES, random_book
-from library.examples import BUDGET, LANGUAGES, SAMPLE, compare, keyed
+from library.examples import BUDGET, LANGUAGES, SAMPLE, check_shown, compare, keyed
 
 sys.path.insert(0, str(TOP / "python"))
 from nibdrumlin import nd_run  # noqa: E402
@@ -94,24 +93,10 @@ def due_cases():
     yield comb(2200), (), long
 
 
-def check_shown():
-    """What examples/README.md shows, where ... stands for lines left out."""
-    text = (EXAMPLES / "README.md").read_text(encoding="utf-8")
-    command = "    ../target/mentions book.bin %s\n" % " ".join(SHOWN)
-    shown = re.search(r"(?:^    .*\n)+", text.partition(command)[2], re.M)
-    if shown is None:
-        raise Difference("examples/README.md does not show what this prints: %s" % command.strip())
-    lines = [line.strip() for line in shown[0].splitlines()]
-    form = "".join(r"(?:.+\n)+" if line == "..." else re.escape(line) + r"\n" for line in lines)
-    given = due(SAMPLE, SHOWN).decode()
-    if re.fullmatch(form, given) is None:
-        raise Difference("examples/README.md shows %s, printed is %s" % (shown[0], given))
-
-
 def main():
     try:
         count = compare("mentions", due_cases())
-        check_shown()
+        check_shown("../target/mentions book.bin %s" % " ".join(SHOWN), due(SAMPLE, SHOWN))
     except Difference as difference:
         raise SystemExit("mentions: %s" % difference)
     print("mentions: %d books with choices, %s and the checker print the same, and so does "

@@ -10,7 +10,7 @@ from pathlib import Path
 
 from checker import calls
 from checker.books import build
-from checker.cases import CASES, CODES, ORDERS, P
+from checker.cases import CASES, CODES, COMPLETE, ORDERS, P, Q, R
 from checker.keying import SLOTS
 from checker.mentions import NO_PLACE
 from checker.sheets import LENGTH
@@ -18,7 +18,7 @@ from checker.trees import disjunction as any_of
 from driver.comparing import CAN_REFUSE
 from driver.indexes import PAST, fresh_count
 from driver.making import random_book
-from library.lending import SPARE, Lent, lend, slots
+from library.lending import SPARE, Lent, asked, lend, slots
 from library.refusing import (AT, BAD_BOOKS, BLANK, BOOK, FULL_BOOK, INDEX, LINES, NO_SHEETS,
                               OTHER_BOOK, SHEET, all_refusals)
 
@@ -199,6 +199,27 @@ def check_orders():
     return len(ORDERS)
 
 
+def check_complete():
+    """Document 02's sheets, complete or not as written beside them, by an order and by the call,
+    which writes to nothing; and an order that is moved to another book: that one is asked then."""
+    for on_sheet, budget, rules, lines, due in COMPLETE:
+        made, book = Order(Book(build(CODES[:3], on_sheet))), Book(build(CODES[:3], rules))
+        made.run(budget)
+        order = Order.from_numbers(book, made.numbers, lines)
+        expect(order.is_complete() is due, "complete: %s is due" % due)
+        slots_lent, count = asked(lines)
+        given = [lend(value) for value in (made.numbers.tolist(), book.data, slots_lent)]
+        expect(nibdrumlin.nd_complete(*(lent.part for lent in given), count) is due,
+               "nd_complete: %s is due" % due)
+        expect(all(lent.is_unchanged() for lent in given), "nd_complete: memory was written")
+    order = Order(Book(build(CODES[:3], [P, any_of(Q, R)])))
+    order.key("Q", barred=False)
+    expect(not order.is_complete(), "complete: R is open, and the book names it")
+    order.withdraw(0, Book(build(CODES[:3], [P])))
+    expect(order.is_complete(), "complete: the order's book is another now")
+    return len(COMPLETE)
+
+
 def raises(error, work, *arguments):
     try:
         work(*arguments)
@@ -212,7 +233,12 @@ def check_misuse():
     order, nd_key = Order(Book(BOOK)), nibdrumlin.nd_key
     lines, index = (Slot * SLOTS)(), array("H", INDEX)
     for name, error, work, arguments in [
-            ("a sheet of bytes", TypeError, nibdrumlin.nd_complete, (bytes(2 * LENGTH),)),
+            ("a sheet of bytes", TypeError, nibdrumlin.nd_complete,
+             (bytes(2 * LENGTH), BOOK, lines, 0)),
+            ("lines to read that are no slots", TypeError, nibdrumlin.nd_complete,
+             (order.numbers, BOOK, array("I", [0] * SLOTS), 0)),
+            ("a count that is lent, where a number is due", TypeError, nibdrumlin.nd_complete,
+             (order.numbers, BOOK, lines, ctypes.c_uint16(0))),
             ("a book of 16-bit numbers", TypeError, nibdrumlin.nd_book_check, (array("H", [0] * 4),)),
             ("an output that is read-only", TypeError, nibdrumlin.nd_report,
              (order.numbers, bytes(2))),
@@ -265,7 +291,9 @@ def compare_sheets(order, due, options, budget):
         expect(list(given.states) == list(order.book.codes), "the report's codes differ")
         expect([int(state) for state in given.states.values()] == states, "the report differs")
         expect(all(isinstance(state, State) for state in given.states.values()), "no State")
-        expect(order.is_complete() == bool(calls.complete(due)[1]), "complete differs")
+        expect(order.is_complete()
+               == bool(calls.complete(due, order.book.data, *asked(order.lines))[1]),
+               "complete differs")
         again = Order(Book(order.write()))
         expect(again.numbers == order.numbers, "written and loaded is another sheet")
         ran, (_, value, (due, _)) = order.run(budget), calls.run(due, None, budget)
@@ -295,14 +323,15 @@ def main():
         check_refused_orders()
         check_kept_orders()
         orders = check_orders()
+        completes = check_complete()
         check_misuse()
         books = check_reports(random.Random(1))
         seconds = time.monotonic() - start
         expect(seconds < SECONDS, "the test took %.1f s, %d are allowed" % (seconds, SECONDS))
     except (Failed, Refused, LibraryMissing) as error:
         raise SystemExit("module: %s" % error)
-    print("module: %d refused calls, %d orders, %d books beside the checker, %.1f s" % (
-        refusals, orders, books, seconds))
+    print("module: %d refused calls, %d orders, %d sheets complete or not, %d books beside the "
+          "checker, %.1f s" % (refusals, orders, completes, books, seconds))
 
 
 if __name__ == "__main__":

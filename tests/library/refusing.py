@@ -8,7 +8,7 @@ from checker.sheets import LENGTH
 from checker.trees import TRUE, at_least, conjunction as all_of, disjunction as any_of
 from driver.indexes import (PAST, SHORT, STALE, due_with, fresh_count, short_indexes,
                             stale_indexes)
-from library.lending import SPARE, Count, Lines, slots
+from library.lending import SPARE, Count, Lines, asked, slots
 
 MOST = 2 ** 64 - 1
 
@@ -59,7 +59,10 @@ def book_refusals():
         yield "write", number, (SHEET, data, b"")  # and before 12
         for index in (INDEX, PAST, []):  # and before 11 for the lines and for the index
             yield "withdraw", number, (SHEET, data, *BAD_LINES[0], index, 9)
-        yield "load", 11, (data, BLANK[:-1])  # and after 11 for the sheet
+        for lines, count in (asked(LINES), (BAD_LINES[0][0], 65), asked([(2, True)])):
+            yield "complete", number, (SHEET, data, lines, count)
+            yield "complete", 11, (NO_SHEETS[0], data, lines, count)  # and after 11 for the sheet
+        yield "load", 11, (data, BLANK[:-1])
     for code in (b"", b"Q", b"Q-7\0", b"p", b"P" * 14):
         yield "lookup", 7, (BOOK, code)
 
@@ -69,7 +72,7 @@ def sheet_refusals():
     for sheet in NO_SHEETS:
         yield "write", 11, (sheet, b"", b"")
         yield "report", 11, (sheet, b"")
-        yield "complete", 11, (sheet,)
+        yield "complete", 11, (sheet, BOOK, *asked(LINES))
         for index in (INDEX, []):
             yield "key", 11, (sheet, *slots([(0, True)] * 64), index, 9, True)
             yield "withdraw", 11, (sheet, b"", *slots(), index, 9)
@@ -92,11 +95,15 @@ def sheet_refusals():
 
 
 def order_refusals():
-    """The same for every fault of a keying or of a withdrawal."""
+    """The same for every fault of a keying, of a withdrawal or of the lines beside a question."""
     for lines, count in BAD_LINES:
+        yield "complete", 11, (SHEET, BOOK, lines, int(count))
         for index in (INDEX, []):
             yield "key", 11, (SHEET, lines, count, index, 9, True)
             yield "withdraw", 11, (SHEET, BOOK, lines, count, index, 99)
+    for count in (65, 65_535, 65_536, 65_538, 2 ** 64, -1):  # not narrowed: 65,538 is not 2
+        yield "complete", 11, (SHEET, BOOK, slots(LINES)[0], count)
+    yield "complete", 11, (SHEET, OTHER_BOOK, *asked([(0, True)]))
     yield "withdraw", 11, (SHEET, OTHER_BOOK, *slots(LINES), INDEX, 99)
     full = [(0, False)] * SLOTS
     for sheet, index, option in ((SHEET, INDEX, 0), (SHEET, INDEX, 2), (FULL_SHEET, FULL_INDEX, 0),

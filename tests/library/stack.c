@@ -41,7 +41,7 @@ static const struct {
     {"nd_write", ND_STACK_SHEET},
     {"nd_index", ND_STACK_SHEET},
     {"nd_key", ND_STACK_SHEET},
-    {"nd_withdraw", ND_STACK_SHEET},
+    {"nd_withdraw", ND_STACK_STEP},
     {"nd_step", ND_STACK_STEP},
     {"nd_run", ND_STACK_RUN},
     {"nd_report", ND_STACK_REPORT},
@@ -98,7 +98,9 @@ static void make_call(void)
         break;
     case RUN: answer = nd_run(sheet, ND_SHEET_LENGTH, MENTIONS, 20000); break;
     case REPORT: answer = nd_report(sheet, ND_SHEET_LENGTH, states, sizeof states); break;
-    case COMPLETE: answer = nd_complete(sheet, ND_SHEET_LENGTH); break;
+    case COMPLETE:
+        answer = nd_complete(sheet, ND_SHEET_LENGTH, book, book_len, lines, ND_LINES_MOST, count);
+        break;
     default: answer = 0; break;
     }
 }
@@ -372,6 +374,7 @@ static void measure_shape(size_t shape)
     measure(LOAD, 0);
     measure(WRITE, 0);
     measure(REPORT, 0);
+    set_lines(64);
     measure(COMPLETE, 0);
     for (size_t at = 0; at < 5 && shapes[shape].steps[at][0] != 0; at++)
         measure_step(shapes[shape].steps[at]);

@@ -1,38 +1,46 @@
 //! The bars that the times have to pass, and the worst case of each.
 
+use crate::completes::Asked;
 use crate::figures::time;
+use crate::measure::mean;
 use crate::rows::Row;
 
 /// The most that a sheet may weigh.
 pub const FULL: usize = 4096;
 
-/// What is bounded: a ratio or a time, of the rows that have it.
+/// What is bounded: each ratio, each time, or the mean of the ratios.
+enum Kind {
+    Ratio,
+    Time,
+    Mean,
+}
+
+/// A bar, and the value of the rows that have one.
 struct Bar {
     said: &'static str,
     limit: f64,
-    is_time: bool,
+    kind: Kind,
     of: fn(&Row) -> Option<f64>,
 }
 
-const fn ratio(said: &'static str, limit: f64, of: fn(&Row) -> Option<f64>) -> Bar {
+const fn bar(kind: Kind, said: &'static str, limit: f64, of: fn(&Row) -> Option<f64>) -> Bar {
     Bar {
         said,
         limit,
-        is_time: false,
+        kind,
         of,
     }
+}
+
+const fn ratio(said: &'static str, limit: f64, of: fn(&Row) -> Option<f64>) -> Bar {
+    bar(Kind::Ratio, said, limit, of)
 }
 
 const fn seconds(said: &'static str, limit: f64, of: fn(&Row) -> Option<f64>) -> Bar {
-    Bar {
-        said,
-        limit,
-        is_time: true,
-        of,
-    }
+    bar(Kind::Time, said, limit, of)
 }
 
-const BARS: [Bar; 14] = [
+const BARS: [Bar; 16] = [
     ratio("run, times plain Rust by bounds: at most 3", 3.0, |row| {
         is_full(row).then_some(row.run[0] / row.run[1])
     }),
@@ -94,6 +102,17 @@ const BARS: [Bar; 14] = [
             Some(ours / again)
         },
     ),
+    bar(
+        Kind::Mean,
+        "complete, times a report of the same fresh sheet, in the mean over the families: at most \
+         1.5",
+        1.5,
+        |row| row.complete_over_report().map(|[ours, _]| ours),
+    ),
+    ratio("complete, times plain Rust: at most 3", 3.0, |row| {
+        let ratios = row.complete?.each().map(over_plain);
+        ratios.into_iter().reduce(f64::max)
+    }),
 ];
 
 fn is_full(row: &Row) -> bool {
@@ -111,32 +130,58 @@ fn report_ratio(row: &Row) -> f64 {
     ratio(row.before).max(ratio(row.after))
 }
 
+/// The time of the "complete" question over plain Rust's.
+fn over_plain([ours, plain, _]: Asked) -> f64 {
+    ours / plain
+}
+
 /// The slower of the reports before and after the run.
 fn worse_report(row: &Row) -> f64 {
     row.before[0].max(row.after[0])
 }
 
-fn line(rows: &[Row], bar: &Bar) -> String {
-    let mut values: Vec<(f64, &str)> = rows
-        .iter()
-        .filter_map(|row| Some(((bar.of)(row)?, row.name.as_str())))
-        .collect();
-    values.sort_by(|one, other| other.0.total_cmp(&one.0));
-    let missed = values.iter().filter(|value| value.0 > bar.limit).count();
-    let verdict = match missed {
-        0 => "met".to_string(),
-        _ => format!("missed by {missed} of {}", values.len()),
-    };
-    match values.first() {
-        None => format!("| {} | | | not measured |\n", bar.said),
-        Some(&(worst, name)) => {
-            let worst = match bar.is_time {
-                true => time(worst),
-                false => format!("{worst:.1}"),
-            };
-            format!("| {} | {worst} | {name} | {verdict} |\n", bar.said)
-        }
+/// A value as the table shows it.
+fn shown(bar: &Bar, value: f64) -> String {
+    match bar.kind {
+        Kind::Time => time(value),
+        // What is near a low bar is told apart by its second digit.
+        _ if bar.limit < 2.0 => format!("{value:.2}"),
+        _ => format!("{value:.1}"),
     }
+}
+
+/// The values that a bar is for, with their families, the worst first.
+fn values<'a>(rows: &'a [Row], bar: &Bar) -> Vec<(f64, &'a str)> {
+    let of_row = |row: &'a Row| Some(((bar.of)(row)?, row.name.as_str()));
+    let mut values: Vec<(f64, &str)> = rows.iter().filter_map(of_row).collect();
+    values.sort_by(|one, other| other.0.total_cmp(&one.0));
+    values
+}
+
+/// How many of the values that are held to a bar are over it, in words.
+fn verdict(bar: &Bar, held: &[f64]) -> String {
+    match held.iter().filter(|&&value| value > bar.limit).count() {
+        0 => "met".to_string(),
+        _ if held.len() == 1 => "missed".to_string(),
+        missed => format!("missed by {missed} of {}", held.len()),
+    }
+}
+
+fn line(rows: &[Row], bar: &Bar) -> String {
+    let values = values(rows, bar);
+    let Some(&(worst, name)) = values.first() else {
+        return format!("| {} | | | not measured |\n", bar.said);
+    };
+    let values: Vec<f64> = values.iter().map(|value| value.0).collect();
+    let (held, family) = match bar.kind {
+        Kind::Mean => {
+            let family = format!("{} at worst: {name}", shown(bar, worst));
+            (vec![mean(&values)], family)
+        }
+        _ => (values, name.to_string()),
+    };
+    let (value, verdict) = (shown(bar, held[0]), verdict(bar, &held));
+    format!("| {} | {value} | {family} | {verdict} |\n", bar.said)
 }
 
 /// The table of bars.

@@ -4,7 +4,7 @@ use crate::answers::{Ran, Run};
 use crate::clauses;
 use crate::ffi;
 use crate::nodes::{kind, LEAST, LENGTH};
-use crate::plain::flat::used;
+use crate::plain::flat::{is_sheet, used};
 use crate::plain::{bounds, index, load, parts, simple, sweep};
 use crate::random::Random;
 use crate::random_books::{self, book_with_leasts};
@@ -17,10 +17,9 @@ pub type Fill = fn(&[u16], &mut [u16]) -> u64;
 
 /// Stops with the case that differs.
 pub fn stop(what: &str, sheet: &[u16], details: &str) -> ! {
-    let nodes: Vec<String> = used(sheet)
-        .iter()
-        .map(|node| format!("{node:04x}"))
-        .collect();
+    // What is no sheet need not have the nodes that it says.
+    let nodes = if is_sheet(sheet) { used(sheet) } else { sheet };
+    let nodes: Vec<String> = nodes.iter().map(|node| format!("{node:04x}")).collect();
     panic!(
         "{what}\nN = {}, nodes {}\n{details}",
         sheet[0],

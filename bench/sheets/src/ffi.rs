@@ -16,6 +16,15 @@ extern "C" {
         budget: u64,
     ) -> u64;
     fn nd_report(sheet: *const u16, sheet_len: usize, out: *mut u8, out_len: usize) -> u64;
+    fn nd_complete(
+        sheet: *const u16,
+        sheet_len: usize,
+        book: *const u8,
+        book_len: usize,
+        lines: *const Line,
+        slots: usize,
+        count: u16,
+    ) -> u64;
     fn nd_key(
         sheet: *mut u16,
         sheet_len: usize,
@@ -85,6 +94,23 @@ pub fn report(sheet: &[u16], out: &mut [u8]) -> bool {
     let answer = unsafe { nd_report(sheet.as_ptr(), sheet.len(), out.as_mut_ptr(), out.len()) };
     assert_eq!(answer % 256, 0, "a report is refused");
     answer >> 8 == 1
+}
+
+/// Whether a sheet is complete, by a book and lines: 256 where it is, 0 where it is not, else the
+/// refusal.
+pub fn complete(sheet: &[u16], book: &[u8], lines: &[Line], count: u16) -> u64 {
+    // SAFETY: as above; every line's truth value is one.
+    unsafe {
+        nd_complete(
+            sheet.as_ptr(),
+            sheet.len(),
+            book.as_ptr(),
+            book.len(),
+            lines.as_ptr(),
+            lines.len(),
+            count,
+        )
+    }
 }
 
 /// Keys an option: the refusal, 0 where it is accepted.

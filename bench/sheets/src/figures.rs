@@ -29,13 +29,18 @@ pub fn count(number: u64) -> String {
 
 /// How often each answer was given; each of those due must have been.
 pub fn by_answer(seen: &BTreeMap<u64, u64>, due: &[u64]) -> String {
-    let said = due.iter().map(|answer| {
-        let given = seen.get(answer);
+    by_name(seen, due, |answer| match answer {
+        0 => "accepted".to_string(),
+        _ => format!("refused {answer}"),
+    })
+}
+
+/// The same, where each answer has a name.
+pub fn by_name(seen: &BTreeMap<u64, u64>, due: &[u64], name: fn(u64) -> String) -> String {
+    let said = due.iter().map(|&answer| {
+        let given = seen.get(&answer);
         let count = count(*given.unwrap_or_else(|| panic!("no call was answered {answer}")));
-        match answer {
-            0 => format!("accepted {count}"),
-            _ => format!("refused {answer} {count}"),
-        }
+        format!("{} {count}", name(answer))
     });
     said.collect::<Vec<String>>().join(", ")
 }

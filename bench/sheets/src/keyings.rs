@@ -72,7 +72,7 @@ fn wide(random: &mut Random, number: u64) -> u64 {
 }
 
 /// An order of a sheet: its lines are in order or not, and nobody need have keyed them.
-fn random_order(random: &mut Random, sheet: [u16; LENGTH]) -> Order {
+pub fn random_order(random: &mut Random, sheet: [u16; LENGTH]) -> Order {
     let options = usize::from(sheet[0]);
     let other = random.pick(&[0, SLOTS - 1, SLOTS + 1]);
     let slots = if random.one_in(12) { other } else { SLOTS };
@@ -106,6 +106,16 @@ fn random_index(random: &mut Random, sheet: &[u16]) -> Vec<u16> {
     index
 }
 
+/// One of two books, at times with a bit changed.
+pub fn lent_book(random: &mut Random, books: &[Vec<u8>; 2]) -> Vec<u8> {
+    let mut book = books[random.below(2)].clone();
+    if random.one_in(10) {
+        let at = random.below(book.len());
+        book[at] ^= 1 << random.below(8);
+    }
+    book
+}
+
 /// One call on an order, with its own book or another.
 fn random_call(random: &mut Random, order: &mut Order, books: &[Vec<u8>; 2], seen: &mut Seen) {
     order.index = random_index(random, &order.sheet);
@@ -114,11 +124,7 @@ fn random_call(random: &mut Random, order: &mut Order, books: &[Vec<u8>; 2], see
         let answer = key(order, wide(random, option), random.one_in(2));
         *seen.keyings.entry(answer).or_default() += 1;
     } else {
-        let mut book = books[random.below(2)].clone();
-        if random.one_in(10) {
-            let at = random.below(book.len());
-            book[at] ^= 1 << random.below(8);
-        }
+        let book = lent_book(random, books);
         let k = random.below(usize::from(order.count).min(SLOTS) + 1) as u64;
         let answer = withdraw(order, &book, wide(random, k));
         *seen.withdrawals.entry(answer).or_default() += 1;
@@ -140,16 +146,21 @@ pub fn random_orders(random: &mut Random, count: usize, weight: usize, seen: &mu
     }
 }
 
-/// The same on orders that are nearly full: one wide clause, which in the other book may have a
-/// mark too many.
+/// Two books whose orders are nearly full: one wide clause, which in the second may have a mark
+/// too many.
+pub fn full_books(random: &mut Random) -> [Vec<u8>; 2] {
+    [2047, 2048].map(|most| {
+        let width = most - random.below(4);
+        let mut clause = vec![node(ANY, width)];
+        clause.extend((0..width).map(|at| literal(at % 3, false)));
+        book(3, &[clause])
+    })
+}
+
+/// The same on orders that are nearly full.
 pub fn full_orders(random: &mut Random, count: usize, seen: &mut Seen) {
     for _ in 0..count {
-        let books = [2047, 2048].map(|most| {
-            let width = most - random.below(4);
-            let mut clause = vec![node(ANY, width)];
-            clause.extend((0..width).map(|at| literal(at % 3, false)));
-            book(3, &[clause])
-        });
+        let books = full_books(random);
         let mut order = random_order(random, loaded(&books[0]));
         for _ in 0..8 {
             random_call(random, &mut order, &books, seen);
@@ -158,7 +169,7 @@ pub fn full_orders(random: &mut Random, count: usize, seen: &mut Seen) {
 }
 
 /// The order of a book with 64 lines, all of them keyed.
-fn whole_order(bytes: &[u8]) -> Order {
+pub fn whole_order(bytes: &[u8]) -> Order {
     let sheet = loaded(bytes);
     let mut order = Order {
         sheet,

@@ -1,6 +1,7 @@
-//! The time of checks, loads, indexes, runs, reports, keyings and withdrawals on full-size books,
-//! through the library's C interface, next to plain Rust's in the same process.  Every answer is
-//! compared first; a difference stops the benchmark with the case printed.
+//! The time of checks, loads, indexes, runs, reports, keyings, withdrawals and the "complete"
+//! question on full-size books, through the library's C interface, next to plain Rust's in the
+//! same process.  Every answer is compared first; a difference stops the benchmark with the case
+//! printed.
 //!
 //!     tools/build-library                                         at the repository's top
 //!     cd bench/sheets && cargo run --release --offline --locked -- [FLAGS]
@@ -18,6 +19,7 @@ mod at_least;
 mod bars;
 mod clauses;
 mod compare;
+mod completes;
 mod document;
 mod families;
 mod ffi;
@@ -176,6 +178,20 @@ fn orders_agree(seed: u64) -> String {
     )
 }
 
+/// The "complete" question on random orders, as a sentence.
+fn completes_agree(seed: u64) -> String {
+    let random = &mut Random::new(seed);
+    let seen = &mut completes::Seen::new();
+    for (weight, count) in [(12, 3000), (40, 2000), (150, 1000), (600, 100)] {
+        completes::random_orders(random, count, weight, seen);
+    }
+    completes::full_orders(random, 300, seen);
+    format!(
+        "Whether a sheet is complete is answered alike on random orders ({}).",
+        completes::said(seen)
+    )
+}
+
 /// The families, those with at-leasts last.
 fn all_families() -> Vec<families::Family> {
     let mut families = families::families();
@@ -200,6 +216,7 @@ fn all_rows(flags: &Flags, noise: &mut measure::Noise) -> Vec<Row> {
             if weight == bars::FULL {
                 let with_room = (family.make)(weight - 2 * orders::SLOTS);
                 row.order = Some(keyings::measured(&with_room));
+                row.complete = Some(completes::measured(&rules, &with_room));
             }
             eprintln!(
                 "{name}, {weight}: {} steps, run {}",
@@ -233,6 +250,7 @@ fn main() {
         searches(flags.seed, 20_000),
         answers_agree(flags.seed),
         orders_agree(flags.seed),
+        completes_agree(flags.seed),
     ];
     let noise = &mut measure::Noise::new();
     let rows = all_rows(&flags, noise);

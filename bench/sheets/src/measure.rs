@@ -66,6 +66,11 @@ pub fn quantile(mut values: Vec<f64>, share: f64) -> f64 {
     values[((values.len() - 1) as f64 * share).round() as usize]
 }
 
+/// The mean of some values, of which there is at least one.
+pub fn mean(values: &[f64]) -> f64 {
+    values.iter().sum::<f64>() / values.len() as f64
+}
+
 /// A fixed piece of work, timed again and again between the measurements: what differs in its
 /// time is the machine's.
 pub struct Noise {

@@ -25,5 +25,9 @@ pub struct Order {
 /// Keys an option on an order: the refusal, 0 where it is accepted.
 pub type Key = fn(&mut Order, u64, bool) -> u64;
 
+/// Asks whether a sheet is complete, with a book, lines and their count: 256 where it is, 0 where
+/// it is not, else the refusal.
+pub type Complete = fn(&[u16], &[u8], &[Line], u16) -> u64;
+
 /// Takes a line of an order back, with a book: the refusal, 0 where it is accepted.
 pub type Withdraw = fn(&mut Order, &[u8], u64) -> u64;

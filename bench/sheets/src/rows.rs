@@ -2,6 +2,7 @@
 
 use crate::answers::Run;
 use crate::compare::{after, index_of, loaded, ran, reported, Fill};
+use crate::completes::{self, is_complete, NO_LINES};
 use crate::families::Rules;
 use crate::ffi;
 use crate::keyings::Times;
@@ -39,6 +40,8 @@ pub struct Row {
     pub growth: Option<Growth>,
     /// Of the family's book that has this weight with 64 lines, where that is measured.
     pub order: Option<Times>,
+    /// Of the "complete" question, where that is measured.
+    pub complete: Option<completes::Times>,
 }
 
 /// How many times longer the library takes than on the book of half the weight, the two timed
@@ -58,6 +61,13 @@ impl Row {
 
     pub fn is_whole(&self) -> bool {
         self.timed == self.steps
+    }
+
+    /// The "complete" question over a report of the same fresh sheet, where it is measured: the
+    /// library's, the two timed in turn, and plain Rust's over its report by parts, timed apart.
+    pub fn complete_over_report(&self) -> Option<[f64; 2]> {
+        let [ours, plain, report] = self.complete?.fresh;
+        Some([ours / report, plain / self.before[1]])
     }
 }
 
@@ -79,6 +89,7 @@ pub fn measured(
     let timed = affordable(ffi::run, &sheet, steps, patience);
     let simple_steps = affordable(simple::run, &sheet, steps, SIMPLE);
     let settled = compared(&sheet, budget, steps, timed, simple_steps);
+    stays_complete(&bytes, [&sheet, &settled]);
     let due = |count| if count == steps { budget } else { count };
     let [simple] = run_times([simple::run], &sheet, due(simple_steps));
     Row {
@@ -86,10 +97,7 @@ pub fn measured(
         ordinary,
         weight,
         nodes: usize::from(sheet[1]),
-        leasts: used(&sheet)
-            .iter()
-            .filter(|&&node| kind(node) == LEAST)
-            .count(),
+        leasts: leasts(&sheet),
         steps,
         timed,
         check: check_times(&bytes),
@@ -101,7 +109,14 @@ pub fn measured(
         after: report_times(&settled),
         growth: None,
         order: None,
+        complete: None,
     }
+}
+
+/// How many of a sheet's nodes are at-leasts.
+fn leasts(sheet: &Sheet) -> usize {
+    let is_least = |node: &&u16| kind(**node) == LEAST;
+    used(sheet).iter().filter(is_least).count()
 }
 
 /// The growth from one book to another.
@@ -169,6 +184,12 @@ fn compared(sheet: &Sheet, budget: u64, steps: u64, timed: u64, simple_steps: u6
         "a run changed the report"
     );
     settled
+}
+
+/// Compares whether the sheets before and after the run are complete, which must be the same.
+fn stays_complete(bytes: &[u8], sheets: [&Sheet; 2]) {
+    let [before, after] = sheets.map(|sheet| is_complete(sheet, bytes, &NO_LINES, 0));
+    assert_eq!(before, after, "a run changed whether a sheet is complete");
 }
 
 fn check_times(bytes: &[u8]) -> [f64; 2] {

@@ -1,6 +1,7 @@
 //! The measurements as Markdown.
 
 use crate::figures::{count, time};
+use crate::measure::mean;
 use crate::rows::{Growth, Row};
 use std::fmt::Write;
 
@@ -112,6 +113,43 @@ pub fn orders(rows: &[Row]) -> String {
             ours / again
         )
         .expect("a string");
+    }
+    text
+}
+
+/// The mean over the families of the "complete" question over a report, by both, as a sentence.
+pub fn completes_said(rows: &[Row]) -> String {
+    let (ours, plain): (Vec<f64>, Vec<f64>) = rows
+        .iter()
+        .filter_map(Row::complete_over_report)
+        .map(|[ours, plain]| (ours, plain))
+        .unzip();
+    if ours.is_empty() {
+        return "Not measured: no book has weight 4,096.".to_string();
+    }
+    format!(
+        "Of a fresh sheet the question takes, in the mean over the families, {:.2} times as long \
+         as a report of it; plain Rust's takes {:.2} times as long as its report by parts.",
+        mean(&ours),
+        mean(&plain)
+    )
+}
+
+/// The "complete" question.
+pub fn completes(rows: &[Row]) -> String {
+    let mut text = String::from(
+        "| family | complete | plain | ratio | over a report | after the run | plain | ratio \
+         | over a report | 64 lines | plain | ratio | over a report |\n\
+         |---|--:|--:|--:|--:|--:|--:|--:|--:|--:|--:|--:|--:|\n",
+    );
+    for row in rows {
+        let Some(times) = row.complete else {
+            continue;
+        };
+        let asked = times.each().map(|[ours, plain, report]| {
+            format!("{} | {:.2}", cells([ours, plain]), ours / report)
+        });
+        writeln!(text, "| {} | {} |", row.name, asked.join(" | ")).expect("a string");
     }
     text
 }

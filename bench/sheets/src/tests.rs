@@ -1,13 +1,17 @@
 //! Plain Rust held to documents 01 and 02 without the library: at-leasts in books and on sheets,
-//! their steps, every report beside propagation on the clauses, and the index of mentions.
+//! their steps, every report beside propagation on the clauses, the index of mentions, and the
+//! "complete" question.
 
 use crate::clauses;
 use crate::compare::{index_of, Sheet};
+use crate::completes::NO_LINES;
 use crate::nodes::{
-    at_least, book, kind, literal, node, ALL, ANY, FALSE, LEAST, LENGTH, ROOT, TRUE,
+    at_least, book, is_literal, kind, literal, node, value, ALL, ANY, FALSE, LEAST, LENGTH, ROOT,
+    TRUE,
 };
 use crate::orders::{Line, Order, SLOTS};
 use crate::plain::bounds::Bounds;
+use crate::plain::complete::complete;
 use crate::plain::flat::{is_sheet, used};
 use crate::plain::{bounds, index, lines, load, parts, simple, sweep};
 use crate::random::Random;
@@ -327,6 +331,185 @@ fn refused(order: &Order, due: u64, call: impl Fn(&mut Order) -> u64) {
             "a refused call changed something"
         );
     }
+}
+
+/// Lines that name an option each, in the first slots.
+fn lines_of(named: &[(u16, bool)]) -> [Line; SLOTS] {
+    let mut lines = NO_LINES;
+    for (slot, &(option, negative)) in lines.iter_mut().zip(named) {
+        *slot = Line { option, negative };
+    }
+    lines
+}
+
+/// The sheet of a book, with lines keyed and then a whole run.
+fn settled(bytes: &[u8], keyed: &[(u16, bool)]) -> Sheet {
+    let sheet = loaded(bytes);
+    let mut order = Order {
+        sheet,
+        lines: NO_LINES.to_vec(),
+        count: 0,
+        index: index_of(&sheet),
+    };
+    for &(option, negative) in keyed {
+        assert_eq!(lines::key(&mut order, option.into(), negative), 0);
+    }
+    bounds::run(&mut order.sheet, &mut order.index, u64::MAX);
+    order.sheet
+}
+
+/// Books of four options, whether they are complete alone, and whether with P and not R keyed.
+#[test]
+fn what_is_named_must_be_settled() {
+    let [p, q, r, s] = MARKS;
+    let [not_p, not_q, ..] = BARRED;
+    let any = |marks: &[u16]| [&[node(ANY, marks.len())], marks].concat();
+    let cases: [(Vec<Vec<u16>>, bool, bool); 11] = [
+        // Nothing is named, or by the lines alone.
+        (vec![], true, true),
+        (vec![vec![TRUE]], true, true),
+        // The other options are reserved.
+        (vec![vec![p]], true, true),
+        (vec![vec![not_q]], true, true),
+        // Named and open; with P keyed, a step removes the last mark of Q.
+        (vec![any(&[p, q])], false, false),
+        (vec![any(&[not_p, q])], false, true),
+        (vec![least(1, &[p, q, s])], false, false),
+        (vec![least(0, &[s])], false, false),
+        // Contradictory, alone or with the lines.
+        (vec![vec![FALSE]], false, false),
+        (vec![vec![p], vec![not_p]], false, false),
+        (vec![vec![r]], true, false),
+    ];
+    for (bodies, alone, keyed) in cases {
+        let bytes = book(4, &bodies);
+        let choices = [(0, false), (2, true)];
+        for sheet in [loaded(&bytes), settled(&bytes, &[])] {
+            let answer = complete(&sheet, &bytes, &NO_LINES, 0);
+            assert_eq!(answer, 256 * u64::from(alone), "{bodies:x?}");
+        }
+        let sheet = settled(&bytes, &choices);
+        let answer = complete(&sheet, &bytes, &lines_of(&choices), 2);
+        assert_eq!(answer, 256 * u64::from(keyed), "{bodies:x?} with lines");
+    }
+    let none = [vec![], vec![vec![FALSE]]].map(|bodies| book(0, &bodies));
+    let answers = none.map(|bytes| complete(&loaded(&bytes), &bytes, &NO_LINES, 0));
+    assert_eq!(answers, [256, 0]);
+}
+
+/// The book and the counted lines that are lent say what is named, and the sheet does not.
+#[test]
+fn the_sheet_names_nothing() {
+    let [p, q, ..] = MARKS;
+    let either = book(4, &[vec![node(ANY, 2), p, q]]);
+    let [only_p, only_q] = [p, q].map(|mark| book(4, &[vec![mark]]));
+    let sheet = settled(&either, &[(0, false)]);
+    assert_eq!(used(&sheet), [node(ROOT, 1), p]);
+    let lines = lines_of(&[(0, false), (3, false), (4, false)]);
+    let cases = [
+        // On the sheet P is all that is left.
+        (&either, 0, 0),
+        (&only_q, 0, 0),
+        (&only_p, 0, 256),
+        // P is in and S is open; the third line names no option.
+        (&only_p, 1, 256),
+        (&only_p, 2, 0),
+        (&only_p, 3, 11),
+    ];
+    for (book, count, due) in cases {
+        assert_eq!(complete(&sheet, book, &lines, count), due, "{count} lines");
+    }
+    // Q is open on the sheet, but neither book nor line names it.
+    let open = loaded(&either);
+    assert_eq!(complete(&open, &book(4, &[]), &NO_LINES, 0), 256);
+}
+
+#[test]
+fn the_question_is_refused_in_its_order() {
+    let good = book(4, &[vec![MARKS[0]]]);
+    let sheet = loaded(&good);
+    let short = &good[..good.len() - 1];
+    let other = book(3, &[]);
+    let heavy = book(4, &vec![vec![MARKS[0]]; 2048]);
+    // A byte changed in the head, in a code, in the contents and in the body.
+    let [head, code, contents, body] = [6, 8, 60, 65].map(|at| {
+        let mut bytes = good.clone();
+        bytes[at] ^= 64;
+        bytes
+    });
+    let past = lines_of(&[(4, false)]);
+    let longer = [NO_LINES.as_slice(), &NO_LINES[..1]].concat();
+    let cases: [(&[u16], &[u8], &[Line], u16, u64); 15] = [
+        (&sheet[1..], short, &past, 65, 11),
+        (&[], short, &[], 0, 11),
+        (&sheet, short, &past, 65, 1),
+        (&sheet, &head, &past, 65, 2),
+        (&sheet, &code, &past, 1, 3),
+        (&sheet, &contents, &[], 0, 4),
+        (&sheet, &body, &past, 1, 5),
+        (&sheet, &heavy, &past, 1, 6),
+        (&sheet, &other, &NO_LINES, 0, 11),
+        (&sheet, &good, &past, 1, 11),
+        (&sheet, &good, &past, 0, 256),
+        (&sheet, &good, &NO_LINES[1..], 0, 11),
+        (&sheet, &good, &longer, 0, 11),
+        (&sheet, &good, &NO_LINES, 65, 11),
+        (&sheet, &good, &NO_LINES, 64, 256),
+    ];
+    for (at, (sheet, book, lines, count, due)) in cases.into_iter().enumerate() {
+        assert_eq!(complete(sheet, book, lines, count), due, "case {at}");
+    }
+}
+
+/// Whether an order is complete, by the clauses of its book and its lines.
+fn complete_by_clauses(bytes: &[u8], lines: &[Line]) -> bool {
+    let fresh = loaded(bytes);
+    let marks = lines
+        .iter()
+        .map(|line| literal(usize::from(line.option), line.negative));
+    let mut all = clauses::multiplied_out(used(&fresh));
+    all.extend(marks.clone().map(|mark| vec![mark]));
+    let (contradictory, report) = reported(&fresh, |_, out| clauses::report(&all, out));
+    let in_book = used(&fresh)
+        .iter()
+        .copied()
+        .filter(|&node| is_literal(node));
+    let mut named = in_book.chain(marks).map(value);
+    !contradictory && named.all(|option| matches!(report[option], 1 | 2))
+}
+
+/// Random orders, keyed and run as far as one likes, beside their clauses.
+#[test]
+fn complete_is_what_the_clauses_say() {
+    let random = &mut Random::new(6);
+    let (mut seen, mut reserved) = ([0; 2], 0);
+    while seen.iter().sum::<usize>() < 4000 {
+        let weight = random.pick(&[6, 12, 25]);
+        let bytes = book_with_leasts(random, weight, 40);
+        let sheet = loaded(&bytes);
+        if clauses::effort(used(&sheet)) > 500 {
+            continue;
+        }
+        let mut order = Order {
+            sheet,
+            lines: NO_LINES.to_vec(),
+            count: 0,
+            index: index_of(&sheet),
+        };
+        for _ in 0..random.below(6) {
+            let option = random.below(usize::from(sheet[0]) + 1) as u64;
+            lines::key(&mut order, option, random.one_in(3));
+        }
+        let budget = random.pick(&[0, 1, 3, u64::MAX]);
+        bounds::run(&mut order.sheet, &mut order.index, budget);
+        let due = complete_by_clauses(&bytes, &order.lines[..usize::from(order.count)]);
+        let answer = complete(&order.sheet, &bytes, &order.lines, order.count);
+        assert_eq!(answer, 256 * u64::from(due), "{:x?}", used(&sheet));
+        seen[usize::from(due)] += 1;
+        let open = reported(&order.sheet, parts::report).1.contains(&0);
+        reserved += usize::from(due && open);
+    }
+    assert!(seen[0] > 500 && seen[1] > 500 && reserved > 100);
 }
 
 #[test]

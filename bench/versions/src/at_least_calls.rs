@@ -29,9 +29,9 @@ pub fn are_met(call: Call, lent: &Lent) -> bool {
     use Call::{Check, Complete, Index, Key, Load, Lookup, Report, Run, Step, Withdraw, Write};
     match call {
         Check | Lookup | Load => in_book(&lent.book),
-        Write | Withdraw { .. } => in_book(&lent.book) || in_sheet(&lent.sheet),
+        Write | Withdraw { .. } | Complete => in_book(&lent.book) || in_sheet(&lent.sheet),
         Step { rule, .. } => (15..=17).contains(&rule) || in_sheet(&lent.sheet),
-        Index | Key { .. } | Run { .. } | Report | Complete => in_sheet(&lent.sheet),
+        Index | Key { .. } | Run { .. } | Report => in_sheet(&lent.sheet),
     }
 }
 

@@ -64,7 +64,7 @@ pub const ANSWERS: [(&str, &[u64]); 11] = [
     ("step", &[0, 11, 9, 10, 12]),
     ("run", &[0, 11, 12]),
     ("report", &[0, 11, 12]),
-    ("complete", &[0, 11]),
+    ("complete", &[0, 11, 1, 2, 3, 4, 5, 6]),
 ];
 
 impl Call {

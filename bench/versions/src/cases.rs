@@ -12,9 +12,11 @@ use crate::scenes::{index_of, next_step};
 /// The most that a sheet may weigh.
 const FULL: usize = 4096;
 
-/// The report and another run of a settled sheet, as the tables name them. Such a run does no
-/// step: what it costs besides weighs most there.
+/// The report, the "complete" question and another run of a settled sheet, as the tables name
+/// them. Such a run does no step: what it costs besides weighs most there. So does the book in the
+/// question, where the sheet is all but empty.
 pub const REPORT_SETTLED: &str = "report after the run";
+pub const COMPLETE_SETTLED: &str = "complete after the run";
 pub const RUN_SETTLED: &str = "run of a settled sheet";
 
 /// A call that is timed, with what it is lent and the refusal that it gives.
@@ -95,6 +97,7 @@ pub fn of_family(library: &Library, family: &Family, with_index: bool) -> Vec<Ca
         .map(|(call, lent)| case(library, call.name(), call, lent))
         .collect();
     cases.push(case(library, REPORT_SETTLED, Report, &settled));
+    cases.push(case(library, COMPLETE_SETTLED, Complete, &settled));
     cases.push(case(library, RUN_SETTLED, whole, &settled));
     cases
 }

@@ -1,11 +1,15 @@
 //! Every call by both libraries: the answers and all that was lent must be the same.  An index
 //! must also be the one that plain Rust counts, which stands for that of a library without one.
+//! Whether an order is complete must also be what plain Rust answers; a library that is asked this
+//! of the sheet alone may say so of fewer, and of no others.
 
 use crate::at_least_calls;
 use crate::at_least_calls::RULES;
 use crate::calls::{refusal, Call, Lent, ANSWERS};
+use crate::completes;
 use crate::figures::{by_answer, count};
 use crate::library::Library;
+use crate::plain::complete::complete;
 use crate::plain::index;
 use crate::random::Random;
 use crate::scenes;
@@ -19,11 +23,15 @@ pub struct Comparing<'a> {
     pub at_leasts: bool,
     /// Whether both know the index of mentions. If not, the one that does is lent a right one.
     indexes: bool,
+    /// Which of them judge the "complete" question on the book and the lines.
+    judging: [bool; 2],
     left_out: u64,
     /// How often each call gave each answer.
     seen: BTreeMap<&'static str, BTreeMap<u64, u64>>,
     /// How often a step of each rule was accepted.
     steps: [u64; 1 + RULES],
+    /// How often neither, one and both of them, where they refused nothing, answered "complete".
+    complete: [u64; 3],
 }
 
 /// The last rule that has nothing to do with at-leasts.
@@ -36,9 +44,11 @@ impl<'a> Comparing<'a> {
             after,
             at_leasts: at_least_calls::are_known(before) && at_least_calls::are_known(after),
             indexes: before.has_index() && after.has_index(),
+            judging: [before, after].map(Library::judges_order),
             left_out: 0,
             seen: BTreeMap::new(),
             steps: [0; 1 + RULES],
+            complete: [0; 3],
         }
     }
 
@@ -54,12 +64,14 @@ impl<'a> Comparing<'a> {
         }
         let start = lent.clone();
         let mut other = start.clone();
-        let answer = made(self.before, call, lent);
-        let answer_after = made(self.after, call, &mut other);
-        if answer != answer_after {
-            let said = format!("before answers {answer}, after {answer_after}");
+        let answers = [
+            made(self.before, call, lent),
+            made(self.after, call, &mut other),
+        ];
+        let Some(answer) = self.agreed(call, answers) else {
+            let said = format!("before answers {}, after {}", answers[0], answers[1]);
             stop(&said, call, &start);
-        }
+        };
         if *lent != other {
             stop("what they leave differs", call, &start);
         }
@@ -67,6 +79,23 @@ impl<'a> Comparing<'a> {
             stop("a refused call changed something", call, &start);
         }
         self.tally(call, answer);
+    }
+
+    /// The answer of both, if they agree; of two that are asked different things whether an order
+    /// is complete, the one that judges all that is lent.
+    fn agreed(&mut self, call: Call, answers: [u64; 2]) -> Option<u64> {
+        let [before, after] = answers;
+        let is_complete = matches!(call, Call::Complete);
+        let (agree, answer) = match self.judging {
+            [false, true] if is_complete => (completes::follows(before, after), after),
+            [true, false] if is_complete => (completes::follows(after, before), before),
+            _ => (before == after, before),
+        };
+        if agree && is_complete && answers.map(refusal) == [0, 0] {
+            let sum: u64 = answers.iter().map(|answer| answer >> 8).sum();
+            self.complete[sum as usize] += 1;
+        }
+        agree.then_some(answer)
     }
 
     fn tally(&mut self, call: Call, answer: u64) {
@@ -112,20 +141,46 @@ impl<'a> Comparing<'a> {
         let total: u64 = self.seen.values().flat_map(BTreeMap::values).sum();
         format!(
             "Both give the same answers, and leave the same in all that they are lent, in {} \
-             calls: {}. Steps of rules 1 to {last} are among them.{}{}",
+             calls: {}. Steps of rules 1 to {last} are among them.{}{}{}",
             count(total),
             calls.join("; "),
             self.left_out_said(),
-            self.indexes_said()
+            self.indexes_said(),
+            self.complete_said()
         )
     }
 
-    /// The answers that both can give to a call: without an index none is too short.
+    /// The answers that a call can give: without an index none is too short, and where the book is
+    /// not judged nothing is wrong with it.
     fn possible(&self, name: &str, answers: &[u64]) -> Vec<u64> {
         let keeps_index = ["keying", "withdrawal", "step", "run"].contains(&name);
+        let of_sheet = name == "complete" && self.judging == [false, false];
         let mut answers = answers.to_vec();
         answers.retain(|&answer| self.indexes || !keeps_index || answer != 12);
+        answers.retain(|answer| !of_sheet || !(1..=6).contains(answer));
         answers
+    }
+
+    /// How many of what was lent is complete; all that can be must have been met.
+    fn complete_said(&self) -> String {
+        let [neither, one, both] = self.complete;
+        assert!(neither > 0 && both > 0, "complete: {:?}", self.complete);
+        let counts = [neither, one, both].map(count);
+        if self.judging[0] == self.judging[1] {
+            return format!(
+                " Of the sheets that were asked about and not refused {} are complete, {} are not.",
+                counts[2], counts[0]
+            );
+        }
+        assert!(one > 0, "no sheet is complete for one of them alone");
+        format!(
+            " One of them is asked with the sheet alone whether an order is complete, and may \
+             differ there: it refuses what is no sheet, as the other does, and of the sheets that \
+             both accept {} are complete for both, {} for the other alone, {} for neither. What \
+             is said of the call complete is said of the other, whose every answer is also plain \
+             Rust's.",
+            counts[2], counts[1], counts[0]
+        )
     }
 
     fn indexes_said(&self) -> &'static str {
@@ -155,8 +210,8 @@ impl<'a> Comparing<'a> {
     }
 }
 
-/// Makes a call and answers it; the index that it leaves must be right. Plain Rust stands in for
-/// the index of a library that has none.
+/// Makes a call and answers it; the index that it leaves must be right, and so must whether an
+/// order is complete. Plain Rust stands in for the index of a library that has none.
 fn made(library: &Library, call: Call, lent: &mut Lent) -> u64 {
     let start = lent.clone();
     let is_filling = matches!(call, Call::Index);
@@ -172,6 +227,12 @@ fn made(library: &Library, call: Call, lent: &mut Lent) -> u64 {
         lent.index = due;
     } else if lent.index != due {
         stop("the index that is left is not right", call, &start);
+    }
+    if matches!(call, Call::Complete) && library.judges_order() {
+        let due = complete(&start.sheet, &start.book, &start.lines, start.count);
+        if answer != due {
+            stop(&format!("it answers {answer}, due is {due}"), call, &start);
+        }
     }
     answer
 }

@@ -1,9 +1,11 @@
 //! A shared library of the eleven calls, opened while the program runs, so that several builds of
 //! it stand side by side in one process.  A build from before the index of mentions has ten: it
-//! cannot fill an index, and is lent none with a keying, a withdrawal, a step and a run.
+//! cannot fill an index, and is lent none with a keying, a withdrawal, a step and a run.  One from
+//! before the "complete" question was judged on book and lines is asked it with the sheet alone.
 
 use crate::calls::{Call, Lent};
 use crate::changes::Changes;
+use crate::completes::Complete;
 use std::ffi::{c_char, c_int, c_void, CStr, CString};
 use std::mem::{size_of, transmute_copy};
 use std::path::Path;
@@ -28,7 +30,6 @@ type Lookup = unsafe extern "C" fn(Bytes, usize, Bytes, usize) -> u64;
 type Load = unsafe extern "C" fn(Bytes, usize, Changed, usize) -> u64;
 type Write = unsafe extern "C" fn(Sheet, usize, Bytes, usize, *mut u8, usize) -> u64;
 type Report = unsafe extern "C" fn(Sheet, usize, *mut u8, usize) -> u64;
-type Complete = unsafe extern "C" fn(Sheet, usize) -> u64;
 
 /// The calls of one library, which stays open.
 pub struct Library {
@@ -47,7 +48,7 @@ impl Library {
         let name = CString::new(file.as_os_str().as_encoded_bytes()).expect("a file's name");
         // SAFETY: the name ends with a zero byte. The library has nothing that runs when it is
         // opened, and the header that it is built with declares the calls as they are here: with
-        // an index where it has the call that fills one.
+        // an index where it has the call that fills one, with book and lines where it judges them.
         unsafe {
             let library = dlopen(name.as_ptr(), RTLD_NOW | RTLD_LOCAL);
             assert!(!library.is_null(), "{}", fault());
@@ -57,7 +58,7 @@ impl Library {
                 load: symbol(library, c"nd_load"),
                 write: symbol(library, c"nd_write"),
                 report: symbol(library, c"nd_report"),
-                complete: symbol(library, c"nd_complete"),
+                complete: Complete::of(library),
                 changes: Changes::of(library),
             }
         }
@@ -66,6 +67,11 @@ impl Library {
     /// Whether it knows the index of mentions.
     pub fn has_index(&self) -> bool {
         matches!(self.changes, Changes::With(_))
+    }
+
+    /// Whether it judges the "complete" question on the book and the lines.
+    pub fn judges_order(&self) -> bool {
+        self.complete.judges_order()
     }
 
     /// Makes a call: its answer.
@@ -83,7 +89,7 @@ impl Library {
                 Call::Load => (self.load)(book, book_len, sheet, sheet_len),
                 Call::Write => (self.write)(sheet, sheet_len, book, book_len, out, out_len),
                 Call::Report => (self.report)(sheet, sheet_len, out, out_len),
-                Call::Complete => (self.complete)(sheet, sheet_len),
+                Call::Complete => self.complete.call(lent),
                 _ => self.changes.call(call, lent),
             }
         }

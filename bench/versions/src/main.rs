@@ -1,9 +1,11 @@
 //! An earlier build of the library beside the one of now, in one process: first every answer is
 //! compared, and a difference stops the benchmark with the case printed (where one of the two does
 //! not know node kind 6, calls that speak of it are left out; where one knows no index of mentions,
-//! the other one is lent a right one, and what it leaves there is held to plain Rust's count); then
-//! every call is timed, the two in turn, with a copy of the earlier one as a third, whose time tells
-//! the noise, and each at several places in memory.
+//! the other one is lent a right one, and what it leaves there is held to plain Rust's count; where
+//! one is asked with the sheet alone whether an order is complete, the other is held to plain
+//! Rust's answer, and what is complete for the one must be so for the other); then every call is
+//! timed, the two in turn, with a copy of the earlier one as a third, whose time tells the noise,
+//! and each at several places in memory.
 //!
 //!     tools/build-library                                         at the repository's top
 //!     bench/before COMMIT [FLAGS]                                 runs this with the first four
@@ -14,7 +16,9 @@
 //!     --now TEXT          what the text calls it
 //!     --doc FILE          put the text between the marks of this file too
 //!     --bar LIST          how many times slower a call may be (1.1), with commas; a call with a bar
-//!                         of its own is named as in the tables: 1.1,step=2,keying=2
+//!                         of its own is named as in the tables: 1.1,step=2,keying=2. Where the
+//!                         two are asked differently whether an order is complete, this call has
+//!                         no bar but its own
 //!     --only TEXT         time only the families whose names hold this text
 //!     --seed NUMBER       of the random books, sheets and orders (1)
 
@@ -33,6 +37,7 @@ mod calls;
 mod cases;
 mod changes;
 mod comparing;
+mod completes;
 mod damage;
 #[path = "../../sheets/src/families.rs"]
 #[allow(dead_code)]
@@ -68,6 +73,7 @@ mod text;
 mod timing;
 
 use bars::Bars;
+use calls::Call;
 use cases::Case;
 use comparing::Comparing;
 use families::{families, Family};
@@ -198,9 +204,19 @@ fn measured(sides: &Sides, flags: &Flags, noise: &mut Noise) -> Measured {
     }
 }
 
+/// Frees the "complete" question of the usual bar where the two sides are asked it differently:
+/// then it does more on one of them.
+fn free_complete(sides: &Sides, bars: &mut Bars) {
+    if sides.before[0].judges_order() != sides.after[0].judges_order() {
+        bars.free(Call::Complete.name());
+        bars.free(cases::COMPLETE_SETTLED);
+    }
+}
+
 fn main() {
-    let flags = flags();
+    let mut flags = flags();
     let sides = opened(&flags);
+    free_complete(&sides, &mut flags.bars);
     let compared = compared(&sides, flags.seed);
     eprintln!("{compared}");
     let noise = &mut Noise::new();

@@ -1,7 +1,7 @@
 //! What was compared and timed, as Markdown.
 
 use crate::bars::Bars;
-use crate::cases::{REPORT_SETTLED, RUN_SETTLED};
+use crate::cases::{COMPLETE_SETTLED, REPORT_SETTLED, RUN_SETTLED};
 use crate::figures::time;
 use crate::timing::{Pair, Times, AGAIN};
 
@@ -26,6 +26,7 @@ const TABLES: [&[&str]; 2] = [
         "report",
         REPORT_SETTLED,
         "complete",
+        COMPLETE_SETTLED,
     ],
 ];
 
@@ -121,10 +122,13 @@ fn bar_said(calls: &[&str], cells: &[&Cell], bar: f64) -> String {
         0 => "met".to_string(),
         _ => format!("not met by {over} of {}", cells.len()),
     };
+    let verdict = match bar {
+        f64::INFINITY => "**No bar**".to_string(),
+        _ => format!("**At most {bar} times before: {verdict}**"),
+    };
     let slowest = worst(cells, after);
     format!(
-        "**At most {bar} times before: {verdict}** ({}). Of {} measured the worst is {} ({:.2} \
-         times).",
+        "{verdict} ({}). Of {} measured the worst is {} ({:.2} times).",
         calls.join(", "),
         cells.len(),
         slowest.said(),

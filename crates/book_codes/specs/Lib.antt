@@ -1,1 +1,2 @@
 pub mod CodePlaces
+pub mod Characters

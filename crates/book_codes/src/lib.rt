@@ -8,6 +8,7 @@ ghost use Rattle.model.specs.Base.{all};
 ghost use Rattle.model.specs.Limits.{«code-length»};
 ghost use Rattle.model.specs.Book.{between, character, characters, «code-ok», «same-code», pieces, «option-of-code»};
 ghost use Rattle.book_codes.specs.CodePlaces.{placeOf};
+ghost use Rattle.book_codes.specs.Characters.{«character-table»};
 use common_limits::CODE_LENGTH;
 
 // Where a code stands among the codes, counted from 0.
@@ -15,6 +16,13 @@ pub enum Place {
     Index(usize),
     Nowhere,
 }
+
+// The bytes there are; and those between which the characters stand, a hyphen and a small z.
+pub const BYTES: usize = 256;
+
+const FIRST_CHARACTER: usize = 45;
+
+const LAST_CHARACTER: usize = 122;
 
 // A number from `lo` to `hi`.
 fn is_between(lo: u8, hi: u8, x: u8) -> bool
@@ -28,6 +36,27 @@ fn is_character(x: u8) -> bool
     ensures { λ r. ⌜ r ≡ character x ⌝ }
 {
     is_between(65, 90, x) || (is_between(97, 122, x) || (is_between(48, 57, x) || x == 45))
+}
+
+// A 1 for each byte that is a character. The table is made once for all codes of a book; then a byte takes one test.
+pub fn character_table() -> [u8; BYTES]
+    ensures { λ r. ⌜ r ≡ «character-table» ⌝ }
+{
+    let mut table = [0u8; BYTES];
+    let mut x = FIRST_CHARACTER;
+    while x <= LAST_CHARACTER {
+        table[x] = if is_character(x as u8) { 1 } else { 0 };
+        x += 1;
+    }
+    table
+}
+
+// A character, by the table.
+fn is_listed(x: u8, table: &[u8; BYTES]) -> bool
+    requires { ⌜ now table ≡ «character-table» ⌝ }
+    ensures { λ r. ⌜ r ≡ character x ⌝ }
+{
+    table[common_nodes::wide(x)] == 1
 }
 
 // From a place on, the first 13 bytes are zero.
@@ -46,16 +75,16 @@ fn is_zero_from(s: &[u8], from: usize) -> bool
 }
 
 // The first code has 1 to 13 characters, then zero bytes.
-pub fn is_code(s: &[u8]) -> bool
-    requires { ⌜ «code-length» ≤ length (now s) ⌝ }
+pub fn is_code(s: &[u8], table: &[u8; BYTES]) -> bool
+    requires { ⌜ («code-length» ≤ length (now s)) × (now table ≡ «character-table») ⌝ }
     ensures { λ r. ⌜ r ≡ «code-ok» (take «code-length» (now (s .entry))) ⌝ }
 {
-    if !is_character(s[0]) {
+    if !is_listed(s[0], table) {
         return false;
     }
     let mut k = 1;
     while k < CODE_LENGTH {
-        if !is_character(s[k]) {
+        if !is_listed(s[k], table) {
             return is_zero_from(s, k);
         }
         k += 1;

@@ -5,7 +5,9 @@ ghost use lib.ListN.{length, take, drop};
 ghost use Rattle.model.specs.Base.{any};
 ghost use Rattle.model.specs.Limits.{«most-options», «code-length»};
 ghost use Rattle.model.specs.Book.{«same-code», «codes-ok», pieces};
+ghost use Rattle.book_codes.specs.Characters.{«character-table»};
 ghost use Rattle.book_distinct_codes.specs.Hashes.{quad, buckets, hash, Walk, «comes-after»};
+use book_codes::BYTES;
 use common_limits::CODE_LENGTH;
 use common_limits::MOST_OPTIONS;
 
@@ -69,8 +71,8 @@ fn comes_again(s: &[u8], n: usize, i: usize, next: &[u16; MOST_OPTIONS], from: u
 
 // Each of n codes, no more than the tables hold, is well-formed and equals no other. The codes are entered from the last on:
 // `first` has for a hash the first code entered so far, `next` for a code the next one of its hash, and 65535 stands for none.
-fn are_few_codes(s: &[u8], n: usize) -> bool
-    requires { ⌜ (n ≤ «most-options») × («code-length» * n ≤ length (now s)) ⌝ }
+fn are_few_codes(s: &[u8], n: usize, characters: &[u8; BYTES]) -> bool
+    requires { ⌜ (n ≤ «most-options») × («code-length» * n ≤ length (now s)) × (now characters ≡ «character-table») ⌝ }
     ensures { λ r. ⌜ r ≡ «codes-ok» (pieces «code-length» n (now (s .entry))) ⌝ }
 {
     let mut first = [65535u16; BUCKETS];
@@ -79,7 +81,7 @@ fn are_few_codes(s: &[u8], n: usize) -> bool
     while 0 < i {
         i -= 1;
         let at = CODE_LENGTH * i;
-        if !book_codes::is_code(&s[at..]) {
+        if !book_codes::is_code(&s[at..], characters) {
             return false;
         }
         let h = hash_of(&s[at..]);
@@ -98,10 +100,11 @@ pub fn are_codes(s: &[u8], n: usize) -> bool
     requires { ⌜ «code-length» * n ≤ length (now s) ⌝ }
     ensures { λ r. ⌜ r ≡ «codes-ok» (pieces «code-length» n (now (s .entry))) ⌝ }
 {
+    let characters = book_codes::character_table();
     let mut i = 0;
     while MOST_OPTIONS < n - i {
         let at = CODE_LENGTH * i;
-        if !book_codes::is_code(&s[at..]) {
+        if !book_codes::is_code(&s[at..], &characters) {
             return false;
         }
         if is_repeated(&s[at..], n - i) {
@@ -110,5 +113,5 @@ pub fn are_codes(s: &[u8], n: usize) -> bool
         i += 1;
     }
     let rest = CODE_LENGTH * i;
-    are_few_codes(&s[rest..], n - i)
+    are_few_codes(&s[rest..], n - i, &characters)
 }

@@ -1,6 +1,8 @@
 -- An answer as one number: the refusal in the low 8 bits (0: accepted), the value in the rest.
+use mathlib.Core.Bool.{Bool}
 use mathlib.Core.Path.{_≡_}
 use Prim.Native.Nat.{ℕ, _*_, _<_}
+use Rattle.model.specs.Base.{pick}
 use Rattle.calls.specs.Refusals.{refusal-number}
 use Rattle.calls.specs.Outcomes.{Answer, refused, accepted}
 
@@ -14,6 +16,10 @@ packedDone = packed (λ x. 0)
 
 abbrev pub packedValue : Answer ℕ → ℕ
 packedValue = packed (λ v. v)
+
+-- That of a call that says yes or no: 1 where it says yes.
+abbrev pub packedBool : Answer Bool → ℕ
+packedBool = packed (λ b. pick b 1 0)
 
 -- A value that leaves room for the refusal in a number of 64 bits.
 abbrev pub Fits : Answer ℕ → Type 0

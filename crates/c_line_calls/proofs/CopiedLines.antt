@@ -2,6 +2,7 @@
 use mathlib.Core.Bool.{Bool, true, false, _&&_}
 use mathlib.Core.List.{List}
 use mathlib.Core.Logic.{_⊎_, inl, inr}
+use mathlib.Core.Option.{Option, none, some}
 use mathlib.Core.Path.{_≡_, refl, sym, ap, _∙_}
 use Prim.Native.Nat.{ℕ, _+_, _≤_}
 use native.Mathlib.Omega.{arith}
@@ -11,8 +12,14 @@ use lib.ListN.{length, take, length-map}
 use Rattle.model.specs.Base.{pick, first-of, only-if}
 use Rattle.calls.specs.Lines.{most-lines, State, counted}
 use Rattle.calls.specs.Conditions.{has-lines-in-order}
-use Rattle.calls.specs.Chains.{key-refusal, withdraw-refusal}
+use Rattle.calls.specs.Refusals.{Refusal}
+use Rattle.calls.specs.Outcomes.{answer}
+use Rattle.calls.specs.Named.{is-named, complete-among}
+use Rattle.calls.specs.Chains.{key-refusal, order-refusal, withdraw-refusal, complete-refusal}
+use Rattle.calls.specs.Calls.{completeOf}
+use Rattle.model.specs.Sheet.{options-in, report-in}
 use Rattle.theory_forms.specs.Lists.{map-take}
+use Rattle.call_laws.specs.Accepted.{order-accepted}
 use Rattle.order_lines.specs.declared.Line.{Line}
 use Rattle.order_lines.specs.LineMeaning.{lineOf, linesOf, order}
 use Rattle.order_lines.specs.LentLines.{judged, copied-lines}
@@ -75,10 +82,41 @@ module _ (s : List ℕ) (ls : List Line) (n : ℕ) where
       go (inl e) = rw (e .1, e .0)
       go (inr e) = rw (e .0, e .1)
 
-  pub withdraw-alike : (b : List ℕ) (k : ℕ) → withdraw-refusal copy b k ≡ withdraw-refusal (order s ls n) b k
-  unfolding withdraw-refusal first-of only-if
-  withdraw-alike b k = go alike
+  order-alike : (b : List ℕ) → order-refusal copy b ≡ order-refusal (order s ls n) b
+  unfolding order-refusal first-of only-if
+  order-alike b = go alike
     where
-      go : Alike → withdraw-refusal copy b k ≡ withdraw-refusal (order s ls n) b k
-      go (inl e) = rw (e .1, e .0)
+      go : Alike → order-refusal copy b ≡ order-refusal (order s ls n) b
+      go (inl e) = rw (e .1)
       go (inr e) = rw (e .0, e .1)
+
+  -- Where the lines are in order, the copy has the count too.
+  ordered : (b : List ℕ) → order-refusal (order s ls n) b ≡ none → (length ls ≡ most-lines) × (n ≤ most-lines) × (judged (length ls) n ≡ n)
+  unfolding judged pick
+  ordered b e =
+      let w = order-accepted (order s ls n) b e .lines in
+      let slots = sym (length-map ls lineOf) ∙ w .slots in
+      (slots, w .few, rw (eq-eqb (length ls) most-lines slots))
+
+  pub withdraw-alike : (b : List ℕ) (k : ℕ) → withdraw-refusal copy b k ≡ withdraw-refusal (order s ls n) b k
+  unfolding withdraw-refusal first-of
+  withdraw-alike b k = go (order-refusal (order s ls n) b) refl
+    where
+      go : (o : Option Refusal) → order-refusal (order s ls n) b ≡ o → withdraw-refusal copy b k ≡ withdraw-refusal (order s ls n) b k
+      go (some r) e = rw (order-alike b, e)
+      go none e = rw (order-alike b, e, ordered b e .2)
+
+  -- The question is answered alike: where it is not refused, the copy has the counted lines.
+  pub complete-alike : (b : List ℕ) → completeOf copy b ≡ completeOf (order s ls n) b
+  unfolding completeOf complete-refusal answer
+  complete-alike b = rw (order-alike b) (go (order-refusal (order s ls n) b) refl)
+    where
+      go :
+          (o : Option Refusal) →
+          order-refusal (order s ls n) b ≡ o →
+          answer o (complete-among (is-named b (counted copy)) (options-in s) (report-in s))
+          ≡ answer o (complete-among (is-named b (counted (order s ls n))) (options-in s) (report-in s))
+      go (some r) e = refl
+      go none e =
+          let w = ordered b e in
+          rw (counted-copy (w .0) (w .1))

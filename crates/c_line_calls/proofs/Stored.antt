@@ -202,7 +202,7 @@ module _ (s b : List ℕ) (ls : List Line) (n : ℕ) (index : List ℕ) (k : ℕ
       let free = none-packed (index-refusal s index own) _ _ (ap (λ o. packedDone (o .answer)) (sym (withdraw-with (copy s ls n))) ∙ e) in
       let none = sym (withdraw-alike s ls n b k) ∙ index-accepted s index own free .own-none in
       let w = withdraw-accepted (order s ls n) b k none in
-      (sym (length-map ls lineOf) ∙ w .lines .slots, w .lines .few, w .line)
+      (sym (length-map ls lineOf) ∙ w .order .lines .slots, w .order .lines .few, w .line)
 
   pub withdraw-told :
       (r : ℕ) (ss : List ℕ) (zs : List Line) (m : ℕ) (is : List ℕ) →
@@ -233,8 +233,8 @@ module _ (s b : List ℕ) (ls : List Line) (n : ℕ) (index : List ℕ) (k : ℕ
       go none q =
           let own = index-accepted s index (withdraw-refusal (order s ls n) b k) q .own-none in
           let w = withdraw-accepted (order s ls n) b k own in
-          let slots = sym (length-map ls lineOf) ∙ w .lines .slots in
-          let lines = counted-copy s ls n slots (w .lines .few) in
+          let slots = sym (length-map ls lineOf) ∙ w .order .lines .slots in
+          let lines = counted-copy s ls n slots (w .order .lines .few) in
           let same = ap (λ ls. calls.with-marks (afresh b) (without k ls)) lines in
           rw (withdraw-with (order s ls n), q, ← moved-is k n ls (w .line)) (told none (withdrawn (order s ls n) b k) q same)
       go (some x) q = rw (withdraw-with (order s ls n), q) (told (some x) (withdrawn (copy s ls n) b k) q refl)

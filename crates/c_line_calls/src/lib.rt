@@ -1,11 +1,16 @@
-// The calls on the lines of an order, for C (include/nibdrumlin_sheets.h). Each copies the lines out, hands the copy on, and where it is
-// accepted stores in the lent lines and the lent count what is to stand there. Each answers one number: the refusal (0: accepted).
+// The calls on the lines of an order, for C (include/nibdrumlin_sheets.h). Each copies the lines out and hands the copy on; a keying and a
+// withdrawal, where they are accepted, store in the lent lines and the lent count what is to stand there. Each answers one number: its low
+// 8 bits are the refusal (0: accepted), the rest is the value.
 ghost use mathlib.Core.Path.{_≡_};
-ghost use Rattle.calls.specs.Calls.{keyWith, withdrawWith};
-ghost use Rattle.c_calls.specs.Packed.{packedDone};
+ghost use Rattle.calls.specs.Calls.{keyWith, withdrawWith, completeOf};
+ghost use Rattle.c_calls.specs.Packed.{packedDone, packedBool};
 ghost use Rattle.order_lines.specs.LineMeaning.{linesOf, order};
+use call_complete::Completed;
 use order_lines::Line;
 use order_lines::SLOTS;
+
+// The value 1 stands above the refusal's 8 bits.
+const YES: u64 = 256;
 
 // A keying, by a copy of the lines: its answer, and what it leaves of the sheet and the index.
 fn key_copied(
@@ -50,6 +55,18 @@ fn withdraw_copied(
         ≡ withdrawWith (order (now (sheet .entry)) lines count) (now (book .entry)) (now (index .entry)) k .lent .index ⌝ }
 {
     c_calls::done(call_withdrawal::withdraw(sheet, book, lines, count, index, k))
+}
+
+// The "complete" question, by a copy of the lines.
+fn complete_copied(sheet: &[u16], book: &[u8], lines: [Line; SLOTS], count: u16) -> u64
+    ensures { λ r. ⌜ r ≡ packedBool (completeOf (order (now (sheet .entry)) lines count) (now (book .entry))) ⌝ }
+{
+    let answer = call_complete::complete(sheet, book, lines, count);
+    match answer {
+        Completed::Complete => YES,
+        Completed::Incomplete => 0,
+        Completed::Refused(r) => c_calls::refused(r),
+    }
 }
 
 // A keying: where it is accepted, the slot at the count gets the line, the count rises by one, and the mark is counted in the index.
@@ -152,4 +169,14 @@ pub extern "C" fn nd_withdraw(
         order_lines::move_up(lines, k as usize, last as usize);
     }
     answer
+}
+
+// The "complete" question; the value is 1 where the sheet is complete. Nothing is written.
+#[no_mangle]
+pub extern "C" fn nd_complete(sheet: &[u16], book: &[u8], lines: &[Line], count: u16) -> u64
+    ensures { λ r. ⌜
+        r ≡ packedBool (completeOf (order (now (sheet .entry)) (now (lines .entry)) count) (now (book .entry))) ⌝ }
+{
+    let all = order_lines::copied(lines, count);
+    complete_copied(sheet, book, all, order_lines::judged(lines.len(), count))
 }

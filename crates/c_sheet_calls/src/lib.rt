@@ -1,10 +1,9 @@
 // The calls on sheets, for C (include/nibdrumlin_sheets.h). Each answers one number, as the calls of `c_calls` do: the low 8 bits are
 // the refusal (0: accepted), the rest is the value.
 ghost use mathlib.Core.Path.{_≡_};
-ghost use Rattle.calls.specs.Calls.{loadOf, writeOf, reportOf, completeOf, stepWith, runWith, fillOf};
-ghost use Rattle.c_calls.specs.Packed.{packedDone, packedValue};
-ghost use Rattle.c_sheet_calls.specs.PackedValues.{packedBool, packedRan};
-use call_report::Completed;
+ghost use Rattle.calls.specs.Calls.{loadOf, writeOf, reportOf, stepWith, runWith, fillOf};
+ghost use Rattle.c_calls.specs.Packed.{packedDone, packedValue, packedBool};
+ghost use Rattle.c_sheet_calls.specs.PackedValues.{packedRan};
 use call_report::Reported;
 use call_run::Ran;
 
@@ -42,19 +41,6 @@ pub extern "C" fn nd_report(sheet: &[u16], out: &mut [u8]) -> u64
         Reported::Consistent => 0,
         Reported::Contradictory => VALUE,
         Reported::Refused(r) => c_calls::refused(r),
-    }
-}
-
-// The "complete" question; the value is 1 where the sheet is complete.
-#[no_mangle]
-pub extern "C" fn nd_complete(sheet: &[u16]) -> u64
-    ensures { λ r. ⌜ r ≡ packedBool (completeOf (now (sheet .entry))) ⌝ }
-{
-    let answer = call_report::complete(sheet);
-    match answer {
-        Completed::Complete => VALUE,
-        Completed::Incomplete => 0,
-        Completed::Refused(r) => c_calls::refused(r),
     }
 }
 

@@ -20,7 +20,7 @@ use Rattle.calls.specs.Refusals.{line-refused, list-refused}
 use Rattle.calls.specs.Outcomes.{accepted, outcome}
 use Rattle.calls.specs.Lines.{most-lines, State, counted}
 use Rattle.calls.specs.Conditions.{has-option, is-book-of, is-shorter, applies, has-lines-in-order, has-line, has-full-list}
-use Rattle.calls.specs.Chains.{book-refusal, write-refusal, key-refusal, withdraw-refusal, step-refusal, run-refusal}
+use Rattle.calls.specs.Chains.{book-refusal, write-refusal, key-refusal, order-refusal, withdraw-refusal, step-refusal, run-refusal}
 use Rattle.theory_forms.specs.Logic.{and-split, and-join, first-none, only-none, none-due}
 
 -- An accepted outcome: nothing was due, and the value is the one given.
@@ -102,31 +102,42 @@ key-accepted t v e =
     below : (c : ℕ) → c ≤ most-lines → (c ≡ most-lines → ⊥) → c < most-lines
     below c few other = omega arith
 
--- A withdrawal.
-pub record Withdrawable (t : State) (b : List ℕ) (k : ℕ) : Type 0 where
+-- A sheet with a book and lines beside it.
+pub record Orderly (t : State) (b : List ℕ) : Type 0 where
   pub sheet : is-sheet (t .sheet) ≡ true
   pub book : book-refusal b ≡ none
   pub same : options-of b ≡ options-in (t .sheet)
   pub lines : InOrder t
+
+pub order-accepted : (t : State) (b : List ℕ) → order-refusal t b ≡ none → Orderly t b
+unfolding order-refusal
+order-accepted t b e =
+    let s = t .sheet in
+    let p = none-due (not (is-sheet s)) sheet-refused _ e in
+    let q = first-none (book-refusal b) _ (p .1) in
+    let r = none-due (not (is-book-of s b)) sheet-refused _ (q .1) in
+    record {
+      sheet = not-false (is-sheet s) (p .0);
+      book = q .0;
+      same = eqb-true (options-of b) (options-in s) (not-false (is-book-of s b) (r .0));
+      lines = lines-in-order t (not-false (has-lines-in-order t) (only-none (not (has-lines-in-order t)) sheet-refused (r .1)));
+    }
+
+-- A withdrawal.
+pub record Withdrawable (t : State) (b : List ℕ) (k : ℕ) : Type 0 where
+  pub order : Orderly t b
   pub line : k < t .count
   pub room : weight (book-nodes b) + literal-weight * (t .count - 1) ≤ most-weight
 
 pub withdraw-accepted : (t : State) (b : List ℕ) (k : ℕ) → withdraw-refusal t b k ≡ none → Withdrawable t b k
 unfolding withdraw-refusal
 withdraw-accepted t b k e =
-    let s = t .sheet in
-    let p = none-due (not (is-sheet s)) sheet-refused _ e in
-    let q = first-none (book-refusal b) _ (p .1) in
-    let r = none-due (not (is-book-of s b)) sheet-refused _ (q .1) in
-    let u = none-due (not (has-lines-in-order t)) sheet-refused _ (r .1) in
-    let w = none-due (not (has-line t k)) line-refused _ (u .1) in
+    let p = first-none (order-refusal t b) _ e in
+    let q = none-due (not (has-line t k)) line-refused _ (p .1) in
     record {
-      sheet = not-false (is-sheet s) (p .0);
-      book = q .0;
-      same = eqb-true (options-of b) (options-in s) (not-false (is-book-of s b) (r .0));
-      lines = lines-in-order t (not-false (has-lines-in-order t) (u .0));
-      line = ltb-true k (t .count) (not-false (has-line t k) (w .0));
-      room = ltb-false most-weight (weight (book-nodes b) + literal-weight * (t .count - 1)) (only-none _ full-refused (w .1));
+      order = order-accepted t b (p .0);
+      line = ltb-true k (t .count) (not-false (has-line t k) (q .0));
+      room = ltb-false most-weight (weight (book-nodes b) + literal-weight * (t .count - 1)) (only-none _ full-refused (q .1));
     }
 
 -- A step.

@@ -270,13 +270,13 @@ withdrawn-effect :
     })
     (without-line a b k) false 0
 withdrawn-effect t a b k h w =
-    let first = w .lines in
+    let first = w .order .lines in
     let few : t .count ≤ length (t .lines) = omega (arith, first .slots, first .few) in
     let standing = without k (counted t) in
     let fresh : Account = record { book = b; choices = []; ledger = [] } in
-    let good = accepted-book b (w .book) in
+    let good = accepted-book b (w .order .book) in
     let here = loaded-keeps b [] good in
-    let n : options-in (sheet-of (options-of b) (book-nodes b)) ≡ options-in (t .sheet) = here .options ∙ w .same in
+    let n : options-in (sheet-of (options-of b) (book-nodes b)) ≡ options-in (t .sheet) = here .options ∙ w .order .same in
     let known = known-without (options-in (t .sheet)) k (counted t) (first .known) in
     let many = without-length k (counted t) (omega (arith, length-take-le (t .count) (t .lines) few, w .line)) in
     let nodes = nodes-made (good .options) (loaded-shaped b good) (good .weight) in
@@ -455,7 +455,7 @@ same-options (withdraw b index k) t =
     (λ e right.
     marks-options (without k (counted t)) (sheet-of (options-of b) (book-nodes b))
     ∙ options-made (options-of b) (book-nodes b)
-    ∙ withdraw-accepted t b k e .same)
+    ∙ withdraw-accepted t b k e .order .same)
 same-options (step index r p i j) t =
     let s = t .sheet in
     with-cases (λ u. u) s index tt _ (step-refusal s r p i j) (λ o. options-in (o .lent .own) ≡ options-in s)

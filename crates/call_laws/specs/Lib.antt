@@ -19,6 +19,7 @@ pub mod OrderLines
 pub mod Effects
 pub mod SettledLists
 pub mod Rekeyed
+pub mod KeptOrders
 -- Loading and writing, in terms of the calls.
 pub mod LoadingAndWriting
 -- Outputs whose first numbers were written.

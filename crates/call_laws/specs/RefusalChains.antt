@@ -101,14 +101,17 @@ none-is ts = (to ts, from ts)
     from (t ∷ ts) n = let w = or-neither (t .holds) _ n in rw (w .0) (from ts (w .1))
 
 -- One chain after another; a chain's last refusal.
+-- The first of three, however they are taken together.
+pub first-joined : (o p q : Option Refusal) → ((o or-else p) or-else q) ≡ (o or-else p or-else q)
+unfolding first-of
+first-joined none p q = refl
+first-joined (some r) p q = refl
+
 pub first-append : (xs ys : List Test) → first-due (xs ++ ys) ≡ (first-due xs or-else first-due ys)
 unfolding first-due first-of
 first-append [] ys = refl
-first-append (x ∷ xs) ys = rw (first-append xs ys) (go (due (x .holds) (x .refusal)))
-  where
-    go : (o : Option Refusal) → first-of o (first-of (first-due xs) (first-due ys)) ≡ first-of (first-of o (first-due xs)) (first-due ys)
-    go none = refl
-    go (some r) = refl
+first-append (x ∷ xs) ys =
+    rw (first-append xs ys) (sym (first-joined (due (x .holds) (x .refusal)) (first-due xs) (first-due ys)))
 
 pub first-last : (o : Option Refusal) → (o or-else none) ≡ o
 unfolding first-of

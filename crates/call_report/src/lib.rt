@@ -1,21 +1,14 @@
-// The report, and the "complete" question.
+// The report.
 ghost use mathlib.Core.Path.{_≡_};
-ghost use Rattle.calls.specs.Calls.{reportOf, completeOf};
+ghost use Rattle.calls.specs.Calls.{reportOf};
 ghost use Rattle.call_answers.specs.AnswerMeaning.{afterCall};
-ghost use Rattle.call_report.specs.ReportMeaning.{reportedOf, completedOf};
+ghost use Rattle.call_report.specs.ReportMeaning.{reportedOf};
 use call_answers::Refusal;
 
 // What a report says beside its bytes.
 pub enum Reported {
     Consistent,
     Contradictory,
-    Refused(Refusal),
-}
-
-// What the "complete" question answers.
-pub enum Completed {
-    Complete,
-    Incomplete,
     Refused(Refusal),
 }
 
@@ -35,19 +28,5 @@ pub fn report(sheet: &[u16], out: &mut [u8]) -> Reported
         Reported::Contradictory
     } else {
         Reported::Consistent
-    }
-}
-
-// The "complete" question.
-pub fn complete(sheet: &[u16]) -> Completed
-    ensures { λ r. ⌜ completedOf r ≡ completeOf (now (sheet .entry)) ⌝ }
-{
-    if !sheet_check::is_sheet(sheet) {
-        return Completed::Refused(Refusal::Sheet);
-    }
-    if report_marks::is_complete(sheet) {
-        Completed::Complete
-    } else {
-        Completed::Incomplete
     }
 }

@@ -2,7 +2,7 @@
 use mathlib.Core.Bool.{true, false}
 use mathlib.Core.List.{List}
 use mathlib.Core.Option.{none, some}
-use mathlib.Core.Path.{_≡_, refl, ap, _∙_}
+use mathlib.Core.Path.{_≡_, sym, ap, _∙_}
 use Prim.Native.Nat.{ℕ, _+_, _-_, _*_, _≤_, _<_}
 use native.Mathlib.Omega.{arith}
 use borrow.Author.Tests.{lt-ltb, le-ltb, eq-eqb, ne-eqb}
@@ -20,7 +20,7 @@ use Rattle.calls.specs.Outcomes.{refused, accepted}
 use Rattle.calls.specs.Lines.{most-lines, State, counted, without, moved-up, with-marks}
 use Rattle.calls.specs.Index.{fresh-count}
 use Rattle.calls.specs.Conditions.{has-lines-in-order, index-length}
-use Rattle.calls.specs.Chains.{book-refusal, withdraw-refusal, early, index-refusal}
+use Rattle.calls.specs.Chains.{order-refusal, withdraw-refusal, early, index-refusal}
 use Rattle.calls.specs.Calls.{withdrawOf, withdrawWith}
 use Rattle.theory_forms.specs.Sheets.{sheet-formed, nodes-made, options-made}
 use Rattle.theory_formats.specs.Loading.{Accepted, loaded-sheet, loaded-shaped}
@@ -28,6 +28,7 @@ use Rattle.theory_index.specs.IndexedCalls.{sheet-first, index-accepted, refuse
 use Rattle.theory_index.specs.Left.{left-room}
 use Rattle.call_laws.specs.Accepted.{InOrder, withdraw-accepted}
 use Rattle.call_laws.specs.Books.{accepted-book}
+use Rattle.call_laws.specs.RefusalChains.{first-joined}
 use Rattle.call_laws.specs.OrderLines.{without-length, known-without, Marked, marks-put}
 use Rattle.call_answers.specs.AnswerMeaning.{afterCall, besideIndex, onIndexedSheet}
 use Rattle.call_withdrawal.specs.LastTests.{line-refusal}
@@ -54,28 +55,13 @@ module _ (b : List ℕ) (c k : ℕ) where
 
 -- The tests before them.
 module _ (t : State) (b : List ℕ) (k : ℕ) where
-  pub no-sheet : is-sheet (t .sheet) ≡ false → some sheet-refused ≡ withdraw-refusal t b k
-  unfolding withdraw-refusal first-of only-if
-  no-sheet h = rw h
+  pub not-orderly : {r : Refusal} → order-refusal t b ≡ some r → some r ≡ withdraw-refusal t b k
+  unfolding withdraw-refusal first-of
+  not-orderly e = rw e
 
-  module _ (sheet : is-sheet (t .sheet) ≡ true) where
-    pub no-book : {r : Refusal} → book-refusal b ≡ some r → some r ≡ withdraw-refusal t b k
-    unfolding withdraw-refusal first-of only-if
-    no-book e = rw (sheet, e)
-
-    module _ (book : book-refusal b ≡ none) where
-      pub other-options : (options-of b ≡ options-in (t .sheet) → ⊥) → some sheet-refused ≡ withdraw-refusal t b k
-      unfolding withdraw-refusal first-of only-if
-      other-options ne = rw (sheet, book, ne-eqb (options-of b) (options-in (t .sheet)) ne)
-
-      module _ (same : options-of b ≡ options-in (t .sheet)) where
-        pub no-order : has-lines-in-order t ≡ false → some sheet-refused ≡ withdraw-refusal t b k
-        unfolding withdraw-refusal first-of only-if
-        no-order o = rw (sheet, book, eq-eqb (options-of b) (options-in (t .sheet)) same, o)
-
-        pub in-order : has-lines-in-order t ≡ true → line-refusal b (t .count) k ≡ withdraw-refusal t b k
-        unfolding withdraw-refusal line-refusal first-of only-if
-        in-order o = rw (sheet, book, eq-eqb (options-of b) (options-in (t .sheet)) same, o)
+  pub orderly : order-refusal t b ≡ none → line-refusal b (t .count) k ≡ withdraw-refusal t b k
+  unfolding withdraw-refusal line-refusal first-of
+  orderly e = rw e
 
 -- What is left: the book's sheet with the marks of the lines that stand; and beside it the lines and their count.
 abbrev pub afresh : List ℕ → List ℕ
@@ -119,17 +105,17 @@ module _ (t : State) (b index : List ℕ) (k : ℕ) where
   doable e =
       let i = index-accepted (t .sheet) index (withdraw-refusal t b k) e in
       let w = withdraw-accepted t b k (i .own-none) in
-      let good = accepted-book b (w .book) in
+      let good = accepted-book b (w .order .book) in
       let nodes : nodes-in (afresh b) ≡ book-nodes b = nodes-made (good .options) (loaded-shaped b good) (good .weight) in
-      let same : options-in (afresh b) ≡ options-in (t .sheet) = options-made (options-of b) (book-nodes b) ∙ w .same in
-      let known : all (λ l. ltb (option l) (options-in (afresh b))) (counted t) ≡ true = rw same (w .lines .known) in
+      let same : options-in (afresh b) ≡ options-in (t .sheet) = options-made (options-of b) (book-nodes b) ∙ w .order .same in
+      let known : all (λ l. ltb (option l) (options-in (afresh b))) (counted t) ≡ true = rw same (w .order .lines .known) in
       let room : weight (nodes-in (afresh b)) + literal-weight * (t .count - 1) ≤ most-weight = rw nodes (w .room) in
-      let left = marked (w .lines) (w .line) (loaded-sheet b good) known room in
+      let left = marked (w .order .lines) (w .line) (loaded-sheet b good) known room in
       record {
         book = good;
-        whole = sheet-formed (t .sheet) (w .sheet) .whole;
+        whole = sheet-formed (t .sheet) (w .order .sheet) .whole;
         loaded = loaded-sheet b good;
-        few = w .lines .few;
+        few = w .order .lines .few;
         line = w .line;
         known = known;
         room = room;
@@ -150,10 +136,5 @@ module _ (t : State) (b index : List ℕ) (k : ℕ) where
 
 -- Where none is due that comes before an index's, it is a sheet.
 pub sheet-tested : (t : State) (b : List ℕ) (k : ℕ) → early (withdraw-refusal t b k) ≡ none → is-sheet (t .sheet) ≡ true
-unfolding withdraw-refusal
-sheet-tested t b k = sheet-first (t .sheet) _
-
--- The first number of a sheet is N.
-pub options-read : (s : List ℕ) → getD s 0 0 ≡ options-in s
-unfolding options-in
-options-read s = refl
+unfolding withdraw-refusal order-refusal
+sheet-tested t b k e = sheet-first (t .sheet) _ (ap early (sym (first-joined _ _ _)) ∙ e)

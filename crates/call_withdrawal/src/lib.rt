@@ -34,19 +34,10 @@ fn refuse_line(book: &[u8], count: u16, k: u64) -> Done
 fn refuse(sheet: &[u16], book: &[u8], lines: [Line; SLOTS], count: u16, k: u64) -> Done
     ensures { λ r. ⌜ dueOf r ≡ «withdraw-refusal» (order (now (sheet .entry)) lines count) (now (book .entry)) k ⌝ }
 {
-    if !sheet_check::is_sheet(sheet) {
-        return Done::Refused(Refusal::Sheet);
-    }
-    let checked = call_books::check(book);
-    let Done::Accepted = checked else {
-        return checked;
+    let lent = call_orders::refuse(sheet, book, lines, count);
+    let Done::Accepted = lent else {
+        return lent;
     };
-    if common_nodes::word_at(book, 0) != common_nodes::wide16(sheet[0]) {
-        return Done::Refused(Refusal::Sheet);
-    }
-    if !order_check::are_in_order(lines, count, sheet[0]) {
-        return Done::Refused(Refusal::Sheet);
-    }
     refuse_line(book, count, k)
 }
 

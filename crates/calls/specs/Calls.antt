@@ -5,9 +5,8 @@ use Prim.Native.Nat.{ℕ, _+_, _-_}
 use lib.ListN.{length, set}
 use Rattle.model.specs.Base.{maybe, placed}
 use Rattle.model.specs.Literal.{literal}
-use Rattle.model.specs.Propagation.{complete}
 use Rattle.model.specs.Strategy.{run}
-use Rattle.model.specs.Sheet.{nodes-in, sheet-of, report-in}
+use Rattle.model.specs.Sheet.{options-in, nodes-in, sheet-of, report-in}
 use Rattle.model.specs.Results.{appended, stepped, run-through}
 use Rattle.model.specs.Book.{options-of, codes-of, book-nodes, written, option-of-code}
 use Rattle.calls.specs.Outcomes.{Answer, answer, Outcome, outcome, refusal-in, unless}
@@ -16,6 +15,7 @@ use Rattle.calls.specs.Chains.{complete-refusal, key-refusal, withdraw-r
 use Rattle.calls.specs.Chains.{fill-refusal, index-refusal}
 use Rattle.calls.specs.Lines.{State, counted, without, moved-up, with-marks}
 use Rattle.calls.specs.Index.{fresh-count, Indexed}
+use Rattle.calls.specs.Named.{is-named, complete-among}
 
 -- The book check.
 unfoldable pub checkOf : List ℕ → Answer (Unit {0})
@@ -41,9 +41,12 @@ unfoldable pub reportOf : List ℕ → List ℕ → Outcome (List ℕ) Bool
 reportOf s out =
     outcome (report-refusal s out) (report-in s .contradictory) out (placed (report-in s .marks) out)
 
--- The "complete" question.
-unfoldable pub completeOf : List ℕ → Answer Bool
-completeOf s = answer (complete-refusal s) (complete (report-in s))
+-- The "complete" question. Document 02, U6: the book and the choices "are lent with the sheet", and the mention is judged on them.
+unfoldable pub completeOf : State → List ℕ → Answer Bool
+completeOf t book =
+    answer
+    (complete-refusal t book)
+    (complete-among (is-named book (counted t)) (options-in (t .sheet)) (report-in (t .sheet)))
 
 -- The next four are without an index, as the desk program makes them; with one they stand at the end. A keying. Document 02, U2: "keying
 -- adds a line and the mark".

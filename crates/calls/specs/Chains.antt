@@ -54,9 +54,6 @@ unfoldable pub report-refusal : List ℕ → List ℕ → Option Refusal
 report-refusal s out =
     due (not (is-sheet s)) sheet-refused or-else due (is-shorter out (options-in s)) output-refused
 
-unfoldable pub complete-refusal : List ℕ → Option Refusal
-complete-refusal s = due (not (is-sheet s)) sheet-refused
-
 unfoldable pub key-refusal : State → ℕ → Option Refusal
 key-refusal t v =
     due (not (is-sheet (t .sheet))) sheet-refused
@@ -65,15 +62,23 @@ key-refusal t v =
     or-else due (not (has-option (t .sheet) v)) option-refused
     or-else due (is-full (t .sheet)) full-refused
 
--- Document 02, U2: "Every 11 but the sheet's own is tested after 6, with that for N."
-unfoldable pub withdraw-refusal : State → List ℕ → ℕ → Option Refusal
-withdraw-refusal t b k =
+-- A sheet with a book and lines lent beside it. Document 02, U2: "Every 11 but the sheet's own is tested after 6, with that for N."
+unfoldable pub order-refusal : State → List ℕ → Option Refusal
+order-refusal t b =
     due (not (is-sheet (t .sheet))) sheet-refused
     or-else book-refusal b
     or-else due (not (is-book-of (t .sheet) b)) sheet-refused
     or-else due (not (has-lines-in-order t)) sheet-refused
+
+unfoldable pub withdraw-refusal : State → List ℕ → ℕ → Option Refusal
+withdraw-refusal t b k =
+    order-refusal t b
     or-else due (not (has-line t k)) line-refused
     or-else due (leaves-too-much t b) full-refused
+
+-- Document 02, U6: book and choices "are lent with the sheet, and checked by 1 to 6 and 11 as for a withdrawal, by no others".
+unfoldable pub complete-refusal : State → List ℕ → Option Refusal
+complete-refusal t b = order-refusal t b
 
 -- Document 02, U4: "refusal 9 is for rules outside 1 to 17".
 unfoldable pub step-refusal : List ℕ → ℕ → ℕ → ℕ → ℕ → Option Refusal

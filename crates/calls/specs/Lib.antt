@@ -3,6 +3,7 @@ pub mod Refusals
 pub mod Outcomes
 pub mod Lines
 pub mod Index
+pub mod Named
 pub mod Conditions
 pub mod Chains
 pub mod Calls

@@ -67,8 +67,8 @@ pub writing-in-order : writing ≡ (11, 1) ∷ (6, 11) ∷ (11, 12) ∷ []
 unfolding definitions samples heavy writes writing
 writing-in-order = refl
 
--- Reporting: 11 before 12, which is for an output too short and for no longer one. A single step: 11 before 9, 9 before 10. Of the
--- "complete" question and of a run there is 11 alone.
+-- Reporting: 11 before 12, which is for an output too short and for no longer one. A single step: 11 before 9, 9 before 10. Of a
+-- run there is 11 alone.
 unfoldable pub on-sheets : List (ℕ × ℕ)
 on-sheets =
     let s = sheet 1 (root 1 ∷ P ∷ []) in
@@ -76,12 +76,11 @@ on-sheets =
     ∷ (said (reportOf [] (0 ∷ 0 ∷ []) .answer), said (reportOf s (0 ∷ 0 ∷ []) .answer))
     ∷ (said (stepOf [] 0 0 0 0 .answer), said (stepOf s 0 0 0 0 .answer))
     ∷ (said (stepOf s 18 9 0 0 .answer), said (stepOf s 17 9 0 0 .answer))
-    ∷ (said (completeOf []), said (completeOf s))
     ∷ (said (runOf [] 1 .answer), said (runOf s 1 .answer))
     ∷ []
 
 pub on-sheets-in-order :
-    on-sheets ≡ (11, 12) ∷ (11, 0) ∷ (11, 9) ∷ (9, 10) ∷ (11, 0) ∷ (11, 0) ∷ []
+    on-sheets ≡ (11, 12) ∷ (11, 0) ∷ (11, 9) ∷ (9, 10) ∷ (11, 0) ∷ []
 unfolding definitions samples on-sheets
 on-sheets-in-order = refl
 
@@ -118,6 +117,27 @@ withdrawing =
 pub withdrawing-in-order : withdrawing ≡ (11, 1) ∷ (6, 11) ∷ (6, 11) ∷ (11, 13) ∷ (13, 8) ∷ []
 unfolding definitions samples heavy withdrawing
 withdrawing-in-order = refl
+
+-- Document 02, U6: book and choices are "checked by 1 to 6 and 11 as for a withdrawal, by no others": a full list, a full sheet and a book
+-- as heavy as may be are asked about like any other.
+unfoldable pub questioning : List (ℕ × ℕ)
+questioning =
+    let s = sheet 1 (root 0 ∷ []) in
+    let none = book ("P" ∷ []) [] in
+    let most = book ("P" ∷ []) ((any-of 2047 ∷ replicate 2047 P) ∷ []) in
+    let full = sheet 1 (root 1 ∷ any-of 2047 ∷ replicate 2047 P) in
+    let other = sheet 0 (root 0 ∷ []) in
+    let good = replicate 64 (pos 0) in
+    (said (completeOf (lined [] [] 65) []), said (completeOf (lined s [] 65) []))
+    ∷ (said (completeOf (lined other [] 0) (heavy True)), said (completeOf (lined other [] 0) none))
+    ∷ (said (completeOf (lined s [] 65) (heavy True)), said (completeOf (lined s [] 65) none))
+    ∷ (said (completeOf (lined s (pos 1 ∷ []) 1) (heavy True)), said (completeOf (lined s (pos 1 ∷ []) 1) none))
+    ∷ (said (completeOf (lined s good 64) none), said (completeOf (lined full good 64) most))
+    ∷ []
+
+pub questioning-in-order : questioning ≡ (11, 1) ∷ (6, 11) ∷ (6, 11) ∷ (6, 11) ∷ (0, 0) ∷ []
+unfolding definitions samples heavy questioning
+questioning-in-order = refl
 
 -- Document 02, U5: a call with an index. What it answers to one that is right, to one that is long enough but not the fresh count, and to
 -- one that is too short: 11 with the other 11s, so after a book's numbers and before 14, 13, 7, 8, 9 and 10; 12 after all of them.

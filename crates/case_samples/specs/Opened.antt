@@ -16,6 +16,7 @@ use Rattle.calls.specs.Refusals
 use Rattle.calls.specs.Outcomes
 use Rattle.calls.specs.Lines
 use Rattle.calls.specs.Index
+use Rattle.calls.specs.Named
 use Rattle.calls.specs.Chains
 use Rattle.calls.specs.Calls
 use Rattle.calls.specs.History
@@ -42,7 +43,7 @@ of-nodes = tt
 of-meaning : Unit {0}
 unfolding Clauses.unions Clauses.need Clauses.no-tree Clauses.one-tree-more Clauses.some-of Clauses.clauses Propagation.others
     Propagation.refuted Propagation.forced-in Propagation.forced Propagation.propagate Propagation.facts-of Propagation.conflict
-    Propagation.mark Propagation.count-from Propagation.report-by Propagation.report Propagation.complete List.flatten
+    Propagation.mark Propagation.count-from Propagation.report-by Propagation.report List.flatten
 of-meaning = tt
 
 of-rules : Unit {0}
@@ -74,7 +75,7 @@ of-books = tt
 of-calls : Unit {0}
 unfolding Refusals.refusal-number Outcomes.answer Outcomes.if-accepted Outcomes.outcome Chains.part-refusal Chains.book-refusal
     Chains.lookup-refusal Chains.load-refusal Chains.write-refusal Chains.report-refusal Chains.complete-refusal
-    Chains.key-refusal Chains.withdraw-refusal Chains.step-refusal Chains.run-refusal Calls.checkOf Calls.lookupOf Calls.loadOf Calls.writeOf
+    Chains.key-refusal Chains.order-refusal Chains.withdraw-refusal Chains.step-refusal Chains.run-refusal Calls.checkOf Calls.lookupOf Calls.loadOf Calls.writeOf
     Calls.reportOf Calls.completeOf Calls.keyOf Calls.withdrawOf Calls.stepOf Calls.runOf Lines.without
     Lines.moved-up Lines.with-marks
 of-calls = tt
@@ -84,6 +85,10 @@ unfolding Index.names Index.mark-count Index.first-mark Index.entries Index.fres
     Chains.fill-refusal Chains.is-early Chains.early Chains.index-refusal Calls.fillOf Calls.with-index Calls.keyWith
     Calls.withdrawWith Calls.stepWith Calls.runWith
 of-indexes = tt
+
+of-names : Unit {0}
+unfolding Named.is-named Named.is-decided Named.complete-among
+of-names = tt
 
 of-lists : Unit {0}
 unfolding History.after-call History.after-calls History.account-call History.account-calls History.choice-clauses History.meaning
@@ -97,5 +102,5 @@ unfolding Desk.before-line Desk.lines Desk.key-found Desk.key-signed Desk.keyed 
 of-desk = tt
 
 unfoldable pub definitions : Unit {0}
-unfolding of-combinators of-literals of-forests of-nodes of-meaning of-rules of-runs of-sheets of-books of-calls of-indexes of-lists of-desk
+unfolding of-combinators of-literals of-forests of-nodes of-meaning of-rules of-runs of-sheets of-books of-calls of-indexes of-names of-lists of-desk
 definitions = tt

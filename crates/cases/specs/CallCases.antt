@@ -1,6 +1,6 @@
 -- Document 01's starred cases by the calls, and cases of document 02, U4: each is loaded from its book's bytes, chosen on, run and
 -- reported. (What is said of its sheet before the run is computed in `Cases`.) Then reports on sheets with kind 6 before any step, the
--- "complete" question, outputs of a report, budgets, and the last choice that fits.
+-- outputs of a report, budgets, and the last choice that fits.
 use mathlib.Core.Bool.{Bool, true, false}
 use mathlib.Core.List.{List, [], _∷_, _++_, map}
 use mathlib.Core.Path.{_≡_, refl}
@@ -10,7 +10,7 @@ use lib.ListN.{length, replicate}
 use Rattle.calls.specs.Refusals.{output-refused}
 use Rattle.calls.specs.Outcomes.{Answer, refused, accepted, Outcome}
 use Rattle.calls.specs.Lines.{State}
-use Rattle.calls.specs.Calls.{Ran, loadOf, keyOf, runOf, reportOf, completeOf}
+use Rattle.calls.specs.Calls.{Ran, loadOf, keyOf, runOf, reportOf}
 use Rattle.case_samples.specs.Opened.{definitions}
 use Rattle.case_samples.specs.Samples.{P, Q, R, S, not-P, not-Q, not-R, True, False, all-of, any-of, root, at-least, book, sheet}
 use Rattle.case_samples.specs.Samples.{lined, said, samples}
@@ -220,22 +220,6 @@ pub least-reports-told :
     ∷ []
 unfolding definitions samples least-reports
 least-reports-told = refl
-
--- Sheets before any step: every option in or out; one open; contradictory, though every option is forced; no option.
--- "A sheet is complete if it is not contradictory and every option is 1 or 2."
-unfoldable pub questions : List (Answer Bool)
-questions =
-    map
-    completeOf
-    (sheet 2 (root 2 ∷ any-of 2 ∷ P ∷ Q ∷ not-Q ∷ [])
-    ∷ sheet 2 (root 1 ∷ any-of 2 ∷ P ∷ all-of 2 ∷ P ∷ Q ∷ [])
-    ∷ sheet 1 (root 2 ∷ P ∷ not-P ∷ [])
-    ∷ sheet 0 (root 0 ∷ [])
-    ∷ [])
-
-pub questions-answered : questions ≡ accepted true ∷ accepted false ∷ accepted false ∷ accepted true ∷ []
-unfolding definitions samples questions
-questions-answered = refl
 
 -- Document 02, U1: "A report shall accept any output of at least N bytes, fill the first N and keep the rest. Calls with exactly N
 -- bytes answer as before. Refusal 12 is now for a shorter output only." P in, Q out, into outputs about the two bytes due; a

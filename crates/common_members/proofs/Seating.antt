@@ -35,13 +35,6 @@ apart-last (suc k) [] h = h
 apart-last (suc k) (leaf l ∷ ns) h = apart-last k ns (and-split (not (names (option l) ns)) (apart ns) h .1)
 apart-last (suc k) (head c m ∷ ns) h = apart-last k ns (and-split (bare c m) (apart ns) h .1)
 
--- A test that all numbers pass, at one of them.
-pub passed : (p : ℕ → Bool) (xs : List ℕ) (i : ℕ) → all p xs ≡ true → i < length xs → p (getD xs i 0) ≡ true
-unfolding all
-passed p xs i h l =
-    let rest = and-split (all p (take i xs)) (all p (drop i xs)) (sym (all-cut p i xs) ∙ h) .1 in
-    and-split (p (getD xs i 0)) _ (sym (ap (all p) (drop-cons xs i 0 l)) ∙ rest) .0
-
 -- The numbers from place i on are members, and the marks are those of the options that they name.
 abbrev read : ℕ → List ℕ → List Node
 read i xs = map node-of (drop i xs)

@@ -17,10 +17,20 @@ use Rattle.call_laws.specs.OrderLines.{option-literal}
 use Rattle.order_lines.specs.declared.Line.{Line}
 use Rattle.order_lines.specs.LineMeaning.{blank, lineOf, linesOf, order}
 
-module _ (n c : ℕ) (ls : List Line) (few : c ≤ length ls) where
-  long : length (take c (linesOf ls)) ≡ c
-  long = length-take-le c (linesOf ls) (omega (arith, length-map ls lineOf))
+-- The option of a counted line.
+pub counted-option :
+    (c : ℕ) (ls : List Line) (i : ℕ) →
+    i < c →
+    option (getD (take c (linesOf ls)) i (lineOf blank)) ≡ getD ls i blank .option
+counted-option c ls i h =
+    let d = getD ls i blank in
+    ap option (getD-take c (linesOf ls) i (lineOf blank) h ∙ List·getD-map lineOf ls i blank)
+    ∙ option-literal (d .option) (d .negative)
 
+pub counted-length : (c : ℕ) (ls : List Line) → c ≤ length ls → length (take c (linesOf ls)) ≡ c
+counted-length c ls few = length-take-le c (linesOf ls) (omega (arith, length-map ls lineOf))
+
+module _ (n c : ℕ) (ls : List Line) (few : c ≤ length ls) where
   pub order-more :
       (i : ℕ) →
       i < c →
@@ -28,15 +38,15 @@ module _ (n c : ℕ) (ls : List Line) (few : c ≤ length ls) where
       ≡ (ltb (getD ls i blank .option) n && all (λ l. ltb (option l) n) (drop (i + 1) (take c (linesOf ls))))
   unfolding all
   order-more i h =
-      let d = getD ls i blank in
-      let here : option (getD (take c (linesOf ls)) i (lineOf blank)) ≡ d .option =
-      ap option (getD-take c (linesOf ls) i (lineOf blank) h ∙ List·getD-map lineOf ls i blank)
-      ∙ option-literal (d .option) (d .negative) in
-      rw (drop-cons (take c (linesOf ls)) i (lineOf blank) (omega (arith, long)), add-one i, here)
+      rw (
+        drop-cons (take c (linesOf ls)) i (lineOf blank) (omega (arith, counted-length c ls few)),
+        add-one i,
+        counted-option c ls i h,
+      )
 
   pub order-end : (i : ℕ) → c ≤ i → all (λ l. ltb (option l) n) (drop i (take c (linesOf ls))) ≡ true
   unfolding all
-  order-end i h = rw (drop-of-length-le (take c (linesOf ls)) {i = i} (omega (arith, long)))
+  order-end i h = rw (drop-of-length-le (take c (linesOf ls)) {i = i} (omega (arith, counted-length c ls few)))
 
 -- The lines are in order by their slots, their count and their options.
 pub in-order-by :

@@ -5,7 +5,7 @@
 -- holds.
 use mathlib.Core.Bool.{Bool, true, not}
 use mathlib.Core.List.{List, [], _∷_, _++_, append-assoc}
-use mathlib.Core.Path.{_≡_, refl, subst}
+use mathlib.Core.Path.{_≡_, refl, sym, ap₂, subst, _∙_}
 use Prim.Native.Nat.{ℕ}
 use lib.ListN.{length}
 use Rattle.model.specs.Base.{all}
@@ -15,13 +15,13 @@ use Rattle.model.specs.Book.{head-in-limits, written}
 use Rattle.calls.specs.Refusals.{length-refused, head-refused, code-refused, contents-refused, body-refused, weight-refused}
 use Rattle.calls.specs.Refusals.{option-refused, full-refused, rule-refused, step-refused, sheet-refused, output-refused}
 use Rattle.calls.specs.Conditions.{lacks-head, is-length-due, has-good-codes, has-good-contents, has-good-bodies, is-light}
-use Rattle.calls.specs.Refusals.{line-refused, list-refused, refusal-number}
+use Rattle.calls.specs.Refusals.{due, _or-else_, line-refused, list-refused, refusal-number}
 use Rattle.calls.specs.Lines.{State}
 use Rattle.calls.specs.Conditions.{has-option, has-code, is-full, applies, is-book-of, is-long-enough, is-shorter}
 use Rattle.calls.specs.Conditions.{leaves-too-much, has-lines-in-order, has-line, has-full-list}
 use Rattle.calls.specs.Conditions.{has-short-index, has-stale-index}
 use Rattle.calls.specs.Chains.{part-refusal, book-refusal, lookup-refusal, load-refusal, write-refusal, report-refusal}
-use Rattle.calls.specs.Chains.{complete-refusal, key-refusal, withdraw-refusal, step-refusal, run-refusal, fill-refusal, is-early}
+use Rattle.calls.specs.Chains.{complete-refusal, key-refusal, order-refusal, withdraw-refusal, step-refusal, run-refusal, fill-refusal, is-early}
 use Rattle.calls.specs.Calls.{checkOf, lookupOf, loadOf, writeOf, reportOf, completeOf, keyOf, withdrawOf, stepOf, runOf}
 use Rattle.calls.specs.Calls.{fillOf, keyWith, withdrawWith, stepWith, runWith}
 use Rattle.call_laws.specs.RefusalChains.{Test, _on_, first-due, By-chain, first-append, first-last, answered, answered-lent, answered-with}
@@ -73,7 +73,16 @@ pub record First-due : Type 0 where
       (of-sheet s
       ∷ output-refused on is-shorter out (options-in s)
       ∷ [])
-  pub complete : (s : List ℕ) → By-chain (completeOf s) (of-sheet s ∷ [])
+  -- Document 02, U6: "both are lent with the sheet, and checked by 1 to 6 and 11 as for a withdrawal, by no others".
+  pub complete :
+      (order : State) (book : List ℕ) →
+      By-chain
+      (completeOf order book)
+      (of-sheet (order .sheet)
+      ∷ (of-book book
+      ++ (sheet-refused on not (is-book-of (order .sheet) book)
+      ∷ sheet-refused on not (has-lines-in-order order)
+      ∷ [])))
   -- Document 02, U5: "An index long enough but unequal to the fresh count before the call is refused 11", with the other 11s; "one shorter
   -- than twice N 12", which is last.
   pub key :
@@ -146,27 +155,38 @@ book-chain : (b : List ℕ) → book-refusal b ≡ first-due (of-book b)
 unfolding book-refusal part-refusal first-due of-book
 book-chain b = simp first-last
 
--- The refusals of a withdrawal that come before the 11 of an index, those that come after it, and all of them.
+-- What is tested of a sheet with a book and lines beside it: in a withdrawal, what comes before the 11 of an index. Then what comes after.
 abbrev of-order : State → List ℕ → List Test
 of-order order b =
-    sheet-refused on not (is-book-of (order .sheet) b) ∷ sheet-refused on not (has-lines-in-order order) ∷ []
-
-abbrev before-index : State → List ℕ → List Test
-before-index order b = of-sheet (order .sheet) ∷ (of-book b ++ of-order order b)
+    of-sheet (order .sheet)
+    ∷ (of-book b
+    ++ (sheet-refused on not (is-book-of (order .sheet) b)
+    ∷ sheet-refused on not (has-lines-in-order order)
+    ∷ []))
 
 abbrev after-index : State → List ℕ → ℕ → List Test
 after-index order b k = line-refused on not (has-line order k) ∷ full-refused on leaves-too-much order b ∷ []
 
-before-early : (order : State) (b : List ℕ) → all (λ t. is-early (t .refusal)) (before-index order b) ≡ true
+order-early : (order : State) (b : List ℕ) → all (λ t. is-early (t .refusal)) (of-order order b) ≡ true
 unfolding is-early refusal-number all of-book
-before-early order b = refl
+order-early order b = refl
+
+order-chain : (order : State) (b : List ℕ) → order-refusal order b ≡ first-due (of-order order b)
+unfolding order-refusal first-due
+order-chain order b = simp (first-append, first-last, book-chain)
+
+line-chain :
+    (order : State) (b : List ℕ) (k : ℕ) →
+    (due (not (has-line order k)) line-refused or-else due (leaves-too-much order b) full-refused) ≡ first-due (after-index order b k)
+unfolding first-due
+line-chain order b k = simp first-last
 
 withdraw-chain :
     (order : State) (b : List ℕ) (k : ℕ) →
-    withdraw-refusal order b k ≡ first-due (before-index order b ++ after-index order b k)
-unfolding withdraw-refusal first-due
+    withdraw-refusal order b k ≡ first-due (of-order order b ++ after-index order b k)
+unfolding withdraw-refusal
 withdraw-chain order b k =
-    rw (append-assoc (of-book b) (of-order order b) (after-index order b k)) (simp (first-append, first-last, book-chain))
+    ap₂ _or-else_ (order-chain order b) (line-chain order b k) ∙ sym (first-append (of-order order b) (after-index order b k))
 
 pub first-due-refused : First-due
 unfolding checkOf lookupOf loadOf writeOf reportOf completeOf keyOf withdrawOf stepOf runOf keyWith withdrawWith stepWith runWith fillOf
@@ -179,7 +199,7 @@ first-due-refused =
       load = λ b target. answered-lent _ _ _ _ (simp book-chain);
       write = λ s b out. answered-lent _ _ _ _ (simp (first-append, first-last, book-chain));
       report = λ s out. answered-lent _ _ _ _ (simp first-last);
-      complete = λ s. answered _ _ (simp first-last);
+      complete = λ order b. answered _ _ (order-chain order b);
       key = λ order index v negative.
           answered-with (λ u. u .sheet) order index tt _ (key-refusal order v)
           (of-sheet (order .sheet) ∷ sheet-refused on not (has-lines-in-order order) ∷ [])
@@ -190,9 +210,9 @@ first-due-refused =
           (simp first-last) refl refl;
       withdraw = λ order b index k.
           subst (λ rest. By-chain (withdrawWith order b index k .answer) (of-sheet (order .sheet) ∷ rest))
-          (append-assoc (of-book b) (of-order order b) _)
-          (answered-with (λ u. u .sheet) order index tt _ (withdraw-refusal order b k) (before-index order b) (after-index order b k)
-          (withdraw-chain order b k) (before-early order b) refl);
+          (append-assoc (of-book b) _ _)
+          (answered-with (λ u. u .sheet) order index tt _ (withdraw-refusal order b k) (of-order order b) (after-index order b k)
+          (withdraw-chain order b k) (order-early order b) refl);
       step = λ s index r p i j.
           answered-with (λ u. u) s index tt _ (step-refusal s r p i j)
           (of-sheet s ∷ [])

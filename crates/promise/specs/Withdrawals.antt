@@ -56,12 +56,12 @@ unfolding withdrawWith withdrawOf all
 taken-back-as-afresh order book index k e target long slots full =
     let done = with-accepted (λ u. u .sheet) order index tt _ (withdraw-refusal order book k) e in
     let w = withdraw-accepted order book k (done .0) in
-    let lines = w .lines in
-    let good = accepted-book book (w .book) in
+    let lines = w .order .lines in
+    let good = accepted-book book (w .order .book) in
     let standing = without k (counted order) in
     let s : List ℕ = sheet-of (options-of book) (book-nodes book) in
     let start : State = record { sheet = s; lines = slots; count = 0 } in
-    let n : options-in s ≡ options-in (order .sheet) = options-made (options-of book) (book-nodes book) ∙ w .same in
+    let n : options-in s ≡ options-in (order .sheet) = options-made (options-of book) (book-nodes book) ∙ w .order .same in
     let few = length-take-le (order .count) (order .lines) (omega (arith, lines .slots, lines .few)) in
     let many = without-length k (counted order) (omega (arith, few, w .line)) in
     let nodes : nodes-in s ≡ book-nodes book = nodes-made (good .options) (loaded-shaped book good) (good .weight) in
@@ -71,7 +71,7 @@ taken-back-as-afresh order book index k e target long slots full =
     let all-in =
     all-rekeyed standing start (loaded book start) (loaded-sheet book good)
     (record { slots = full; few = omega arith; known = refl }) known room (omega (arith, many, few, lines .few)) in
-    rw (load-accepted book target (w .book) long)
+    rw (load-accepted book target (w .order .book) long)
     (record { sheet = ap (λ x. x .own .sheet) (done .2) ∙ sym (all-in .sheet); none-refused = all-in .choices })
 
 -- The last line keyed, taken back with the book that was loaded: "the run's work is dropped", and the report is the one from before the

@@ -1,17 +1,24 @@
 // The core of the report and of the "complete" question: what is derived from a sheet, and what is written and said of it.
 ghost use mathlib.Core.Path.{_≡_};
-ghost use mathlib.Core.Bool.{true};
+ghost use mathlib.Core.Bool.{true, not, _&&_, _||_};
 ghost use Prim.Native.Nat.{_≤_, _<_};
 ghost use lib.ListN.{length, replicate};
 ghost use Rattle.model.specs.Base.{all};
 ghost use Rattle.model.specs.Limits.{«most-options», «most-literals»};
-ghost use Rattle.model.specs.Propagation.{«count-from», complete};
+ghost use Rattle.model.specs.Propagation.{«count-from»};
 ghost use Rattle.model.specs.Sheet.{«options-in», «report-in»};
+ghost use Rattle.calls.specs.Named.{«complete-among»};
 ghost use Rattle.theory_meaning.specs.FailedLiterals.{«Has-report», «mark-in», «marks-in», «is-marked»};
 ghost use Rattle.theory_forms.specs.Sheets.{Formed};
+ghost use Rattle.report_marks.specs.Noted.{«is-noted»};
 use common_limits::MOST_LITERALS;
+use common_limits::MOST_OPTIONS;
 use common_limits::SHEET_LENGTH;
 use report_parts::LINKS_LENGTH;
+
+// The places of a table of options that are named: one for each option, and one more, which whoever fills the table may write and nobody
+// reads.
+pub const NAMED_LENGTH: usize = MOST_OPTIONS + 1;
 
 // All that is forced becomes known: each part is looked at, and again where the trail of what became known touches it. Whether the
 // sheet is contradictory.
@@ -57,14 +64,24 @@ fn put_marks(failed: &[u8; MOST_LITERALS], contradictory: bool, out: &mut [u8])
     }
 }
 
-// Each of the first n options is in or out.
-fn all_marked(failed: &[u8; MOST_LITERALS], n: usize) -> bool
+// The option is named, and neither in nor out.
+fn is_missing(failed: &[u8; MOST_LITERALS], named: &[u8; NAMED_LENGTH], v: usize) -> bool
+    requires { ⌜ v < «most-options» ⌝ }
+    ensures { λ r. ⌜ r ≡ («is-noted» (now (named .entry)) v && not («is-marked» (now (failed .entry)) v)) ⌝ }
+{
+    named[v] == 1 && mark_of(failed, v) == 0
+}
+
+// Each of the first n options that are named is in or out.
+fn all_marked(failed: &[u8; MOST_LITERALS], named: &[u8; NAMED_LENGTH], n: usize) -> bool
     requires { ⌜ n ≤ «most-options» ⌝ }
-    ensures { λ r. ⌜ r ≡ all («is-marked» (now (failed .entry))) («count-from» 0 n) ⌝ }
+    ensures { λ r. ⌜
+        r
+        ≡ all (λ v. not («is-noted» (now (named .entry)) v) || «is-marked» (now (failed .entry)) v) («count-from» 0 n) ⌝ }
 {
     let mut v = 0;
     while v < n {
-        if mark_of(failed, v) == 0 {
+        if is_missing(failed, named, v) {
             return false;
         }
         v += 1;
@@ -83,11 +100,14 @@ pub fn put_report(sheet: &[u16], out: &mut [u8]) -> bool
     contradictory
 }
 
-// Whether a sheet is not contradictory and each of its options is in or out.
-pub fn is_complete(sheet: &[u16]) -> bool
+// Whether a sheet is not contradictory and each of its options that are named is in or out.
+pub fn is_complete(sheet: &[u16], named: &[u8; NAMED_LENGTH]) -> bool
     requires { ⌜ Formed (now sheet) ⌝ }
-    ensures { λ r. ⌜ r ≡ complete («report-in» (now (sheet .entry))) ⌝ }
+    ensures { λ r. ⌜
+        r
+        ≡ «complete-among» («is-noted» (now (named .entry))) («options-in» (now (sheet .entry)))
+        («report-in» (now (sheet .entry))) ⌝ }
 {
     let mut failed = [0u8; MOST_LITERALS];
-    !propagate(sheet, &mut failed) && all_marked(&failed, common_nodes::wide16(sheet[0]))
+    !propagate(sheet, &mut failed) && all_marked(&failed, named, common_nodes::wide16(sheet[0]))
 }

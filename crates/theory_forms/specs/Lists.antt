@@ -5,7 +5,7 @@ use mathlib.Core.Logic.{_⊎_, inl, inr, _↔_}
 use mathlib.Core.Option.{some}
 use mathlib.Core.Path.{_≡_, refl, sym, ap, ap₂, _∙_}
 use Prim.Native.Nat.{ℕ, zero, suc, _+_, _-_, _≤_, _<_}
-use native.Mathlib.Nat.{add-zero}
+use native.Mathlib.Nat.{zero-add, add-zero}
 use native.Mathlib.Omega.{arith}
 use borrow.Author.Tests.{eqb-true}
 use lib.Dec.{eqb}
@@ -13,7 +13,7 @@ use lib.ListN.{length, getD, getElem?, take, drop, replicate, take-append-drop}
 use lib.Seq.{take-nil, drop-cons, drop-drop}
 use Rattle.model.specs.Base.{all, any}
 use Rattle.model.specs.Propagation.{count-from}
-use Rattle.theory_forms.specs.Logic.{true-false, none-some, some-inj, and-split, and-join, or-split, or-left, or-right, fails-if}
+use Rattle.theory_forms.specs.Logic.{true-false, none-some, some-inj, and-split, and-join, or-split, or-left, or-right, same-test, fails-if}
 
 -- Tests over a list.
 
@@ -71,6 +71,11 @@ module _ {A : Type 0} (p : A → Bool) where
   all-flatten [] = refl
   all-flatten (xs ∷ xss) = all-append xs (flatten xss) ∙ ap (λ b. all p xs && b) (all-flatten xss)
 
+  pub any-flatten : (xss : List (List A)) → any p (flatten xss) ≡ any (any p) xss
+  unfolding any flatten
+  any-flatten [] = refl
+  any-flatten (xs ∷ xss) = any-append xs (flatten xss) ∙ ap (λ b. any p xs || b) (any-flatten xss)
+
   pub all-replicate : (k : ℕ) (a : A) → p a ≡ true → all p (replicate k a) ≡ true
   unfolding all
   all-replicate zero a h = refl
@@ -119,6 +124,13 @@ module _ {A : Type 0} where
   mem-flatten (ys ∷ xss) (List·Memᴰ·head q) k = Memᴰ·append-left (flatten xss) (rw q at k)
   mem-flatten (ys ∷ xss) (List·Memᴰ·tail m) k = Memᴰ·append-right ys (mem-flatten xss m k)
 
+-- A test that all elements pass, at a place.
+pub all-index : {A : Type 0} (p : A → Bool) (xs : List A) (i : ℕ) (d : A) → all p xs ≡ true → i < length xs → p (getD xs i d) ≡ true
+unfolding all
+all-index p [] i d e h = absurd (omega arith)
+all-index p (x ∷ xs) zero d e h = and-split (p x) (all p xs) e .0
+all-index p (x ∷ xs) (suc i) d e h = all-index p xs i d (and-split (p x) (all p xs) e .1) (omega arith)
+
 -- Maps.
 
 module _ {A B : Type 0} (f : A → B) where
@@ -126,6 +138,11 @@ module _ {A B : Type 0} (f : A → B) where
   unfolding all
   all-map p [] = refl
   all-map p (x ∷ xs) = ap (λ b. p (f x) && b) (all-map p xs)
+
+  pub any-map : (p : B → Bool) (xs : List A) → any p (map f xs) ≡ any (λ x. p (f x)) xs
+  unfolding any
+  any-map p [] = refl
+  any-map p (x ∷ xs) = ap (λ b. p (f x) || b) (any-map p xs)
 
   -- A map that is undone on every element is undone on the list.
   pub map-back : (g : B → A) (p : A → Bool) → ((x : A) → p x ≡ true → g (f x) ≡ x) → (xs : List A) → all p xs ≡ true → map g (map f xs) ≡ xs
@@ -154,6 +171,36 @@ unfolding count-from
 count-at f v zero i h = absurd (omega arith)
 count-at f v (suc n) zero h = ap f (sym (add-zero v))
 count-at f v (suc n) (suc i) h = count-at f (suc v) n i (omega arith) ∙ ap f (omega arith)
+
+-- One number more.
+pub count-more : (v n : ℕ) → count-from v (suc n) ≡ count-from v n ++ ((v + n) ∷ [])
+unfolding count-from
+count-more v zero = ap (λ w. w ∷ []) (sym (add-zero v))
+count-more v (suc n) = let e : suc v + n ≡ v + suc n = omega arith in ap (λ l. v ∷ l) (count-more (suc v) n ∙ rw e)
+
+-- A test of the numbers from 0 on holds exactly if it holds of each; so tests that agree on them hold alike.
+pub all-count : (p : ℕ → Bool) (n : ℕ) → (all p (count-from 0 n) ≡ true) ↔ ((v : ℕ) → v < n → p v ≡ true)
+unfolding all count-from
+all-count p n = (λ e v h. ap p (sym (zero-add v)) ∙ to 0 n e v h, λ h. from 0 n (λ v l. ap p (zero-add v) ∙ h v l))
+  where
+    to : (v n : ℕ) → all p (count-from v n) ≡ true → (i : ℕ) → i < n → p (v + i) ≡ true
+    to v zero e i h = absurd (omega arith)
+    to v (suc n) e zero h = ap p (add-zero v) ∙ and-split (p v) _ e .0
+    to v (suc n) e (suc i) h = ap p (omega arith) ∙ to (suc v) n (and-split (p v) _ e .1) i (omega arith)
+
+    from : (v n : ℕ) → ((i : ℕ) → i < n → p (v + i) ≡ true) → all p (count-from v n) ≡ true
+    from v zero h = refl
+    from v (suc n) h =
+        and-join (ap p (sym (add-zero v)) ∙ h 0 (omega arith)) (from (suc v) n (λ i l. ap p (omega arith) ∙ h (suc i) (omega arith)))
+
+pub all-counted :
+    (p q : ℕ → Bool) (n : ℕ) →
+    ((v : ℕ) → v < n → p v ≡ q v) →
+    all p (count-from 0 n) ≡ all q (count-from 0 n)
+all-counted p q n h =
+    same-test (all p (count-from 0 n)) (all q (count-from 0 n))
+    (λ e. all-count q n .1 (λ v l. sym (h v l) ∙ all-count p n .0 e v l))
+    (λ e. all-count p n .1 (λ v l. h v l ∙ all-count q n .0 e v l))
 
 -- Parts.
 

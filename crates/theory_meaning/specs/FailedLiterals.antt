@@ -16,10 +16,10 @@ use Rattle.model.specs.Literal.{Literal, pos, neg, complement, option, same, ha
 use Rattle.model.specs.Forest.{Conn, root, Forest, nil, lit, node, size}
 use Rattle.model.specs.Code.{decode}
 use Rattle.model.specs.Clauses.{Clause, unions, need, no-tree, one-tree-more, some-of, clauses, Derived, derived, Contradictory}
-use Rattle.model.specs.Propagation.{others, refuted, conflict, mark, count-from, report-by, report, complete}
+use Rattle.model.specs.Propagation.{others, refuted, conflict, mark, count-from, report-by, report}
 use Rattle.model.specs.Sheet.{options-in, nodes-in, clauses-in, report-in}
 use Rattle.theory_forms.specs.Logic.{true-false, either, and-split, and-join, or-split, or-left, or-right, same-test, pick-true}
-use Rattle.theory_forms.specs.Lists.{all-append, all-at, all-from, any-at, any-from, all-map}
+use Rattle.theory_forms.specs.Lists.{all-append, all-at, all-from, any-at, any-from, all-map, count-at, count-more}
 use Rattle.theory_forms.specs.Literals.{same-is, not-same, complement-twice, complement-inj, has-mem, not-has}
 use Rattle.theory_forms.specs.Fine.{fine, fine-node}
 use Rattle.theory_meaning.specs.Clauses.{clauses-root, all-others, all-but-one}
@@ -327,11 +327,6 @@ unfolding mark mark-in complement
 mark-fact t v = rw (has-fact t (pos v), has-fact t (neg v))
 
 -- One mark more.
-count-more : (v n : ℕ) → count-from v (suc n) ≡ count-from v n ++ ((v + n) ∷ [])
-unfolding count-from
-count-more v zero = ap (λ w. w ∷ []) (sym (add-zero v))
-count-more v (suc n) = let e : suc v + n ≡ v + suc n = omega arith in ap (λ l. v ∷ l) (count-more (suc v) n ∙ rw e)
-
 pub marks-more : (b : Bool) (t : List ℕ) (n : ℕ) → marks-in b t (suc n) ≡ marks-in b t n ++ (pick b 3 (mark-in t n) ∷ [])
 unfolding marks-in
 marks-more b t n = rw (count-more 0 n, map-append, zero-add)
@@ -356,13 +351,6 @@ open-mark t v = go (set-of t (neg v)) (set-of t (pos v))
     go false true = refl
     go false false = refl
 
-complete-marks :
-    (b : Bool) (t : List ℕ) (n : ℕ) →
-    (not b && all (λ m. eqb m 1 || eqb m 2) (marks-in b t n)) ≡ (not b && all (is-marked t) (count-from 0 n))
-unfolding marks-in is-marked pick
-complete-marks true t n = refl
-complete-marks false t n = all-map (mark-in t) (λ m. eqb m 1 || eqb m 2) (count-from 0 n)
-
 module _ (s t : List ℕ) (e : Has-report s t) where
   pub report-conflict : report-in s .contradictory ≡ fails (set-of t) root (decode (nodes-in s))
   unfolding report-by clauses-in
@@ -372,6 +360,10 @@ module _ (s t : List ℕ) (e : Has-report s t) where
   unfolding report-by
   report-marks = ap (λ r. r .marks) (sym e) ∙ picked-marks (conflict (facts-in t) (clauses-in s)) t (options-in s) ∙ ap (λ b. marks-in b t (options-in s)) (ap (λ r. r .contradictory) e)
 
-  pub report-complete : complete (report-in s) ≡ (not (report-in s .contradictory) && all (is-marked t) (count-from 0 (options-in s)))
-  unfolding complete
-  report-complete = rw report-marks (complete-marks (report-in s .contradictory) t (options-in s))
+  -- Without a contradiction, an option's byte in the report is its mark.
+  pub report-mark : report-in s .contradictory ≡ false → (v : ℕ) → v < options-in s → getD (report-in s .marks) v 0 ≡ mark-in t v
+  unfolding marks-in pick
+  report-mark quiet v h =
+      ap (λ xs. getD xs v 0) (report-marks ∙ ap (λ b. marks-in b t (options-in s)) quiet)
+      ∙ count-at (mark-in t) 0 (options-in s) v h
+      ∙ ap (mark-in t) (zero-add v)

@@ -20,7 +20,7 @@ use Rattle.theory_forms.specs.Scan.{is-literal, inner-node}
 use Rattle.theory_reading.specs.Leaves.{literal-kind}
 use Rattle.theory_forms.specs.Codes.{encode-decode, trees-drop, size-length}
 use Rattle.theory_forms.specs.Forests.{grouping}
-use Rattle.theory_forms.specs.Lists.{map-drop}
+use Rattle.theory_forms.specs.Lists.{all-index, map-drop}
 use Rattle.theory_forms.specs.Seats.{seated-below}
 use Rattle.theory_forms.specs.Shape.{shaped-trees, shaped-seated}
 use Rattle.theory_forms.specs.Sheets.{Formed}
@@ -147,12 +147,6 @@ trees-of xs = size (decode (map node-of xs))
 pub values-length : (t xs : List ℕ) → length (values-of t xs) ≡ trees-of xs
 unfolding values-of trees-of
 values-length t xs = length-values (set-of t) (decode (map node-of xs))
-
-all-index : {A : Type 0} (p : A → Bool) (xs : List A) (i : ℕ) (d : A) → all p xs ≡ true → i < length xs → p (getD xs i d) ≡ true
-unfolding all
-all-index p [] i d e h = absurd (omega arith)
-all-index p (x ∷ xs) zero d e h = and-split (p x) (all p xs) e .0
-all-index p (x ∷ xs) (suc i) d e h = all-index p xs i d (and-split (p x) (all p xs) e .1) (omega arith)
 
 -- The literals among numbers that begin with the root have options below n.
 rooted-literal :

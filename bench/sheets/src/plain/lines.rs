@@ -27,7 +27,7 @@ pub fn key(order: &mut Order, option: u64, negative: bool) -> u64 {
 
 /// What a keying is refused but for its index.
 fn key_refusal(order: &Order, option: u64) -> u64 {
-    if !is_sheet(&order.sheet) || !are_in_order(order) {
+    if !is_sheet(&order.sheet) || !has_lines_in_order(order) {
         return 11;
     }
     if usize::from(order.count) == SLOTS {
@@ -61,7 +61,7 @@ fn book_for_withdrawal<'a>(order: &Order, book: &'a [u8], k: u64) -> Result<Chec
         return Err(11);
     }
     let book = checked(book)?;
-    if book.options != usize::from(order.sheet[0]) || !are_in_order(order) {
+    if book.options != usize::from(order.sheet[0]) || !has_lines_in_order(order) {
         return Err(11);
     }
     if k >= u64::from(order.count) {
@@ -73,11 +73,16 @@ fn book_for_withdrawal<'a>(order: &Order, book: &'a [u8], k: u64) -> Result<Chec
     Ok(book)
 }
 
-/// Whether there are 64 slots, a count of at most 64, and no line that names no option.
-fn are_in_order(order: &Order) -> bool {
-    let count = usize::from(order.count);
-    let is_named = |line: &Line| line.option < order.sheet[0];
-    order.lines.len() == SLOTS && count <= SLOTS && order.lines[..count].iter().all(is_named)
+fn has_lines_in_order(order: &Order) -> bool {
+    are_in_order(order.sheet[0], &order.lines, order.count)
+}
+
+/// Whether there are 64 slots, a count of at most 64, and no line that names none of so many
+/// options.
+pub fn are_in_order(options: u16, lines: &[Line], count: u16) -> bool {
+    let count = usize::from(count);
+    let is_named = |line: &Line| line.option < options;
+    lines.len() == SLOTS && count <= SLOTS && lines[..count].iter().all(is_named)
 }
 
 /// Moves the lines after k up; the slot that is free then keeps what it held.

@@ -13,6 +13,13 @@ pub struct Checked<'a> {
     bodies: &'a [u8],
 }
 
+impl Checked<'_> {
+    /// The nodes of all bodies, one after another.
+    pub fn nodes(&self) -> impl Iterator<Item = u16> + '_ {
+        nodes(self.bodies)
+    }
+}
+
 /// The refusal, 0 where the book is accepted and the sheet is filled.
 pub fn load(book: &[u8], sheet: &mut [u16]) -> u64 {
     if sheet.len() != LENGTH {
@@ -33,9 +40,8 @@ pub fn fill(sheet: &mut [u16], book: &Checked) {
     sheet[0] = book.options as u16;
     sheet[1] = 1 + nodes as u16;
     sheet[2] = node(ROOT, book.rules);
-    let bodies = book.bodies.chunks_exact(2);
-    for (place, bytes) in sheet[3..3 + nodes].iter_mut().zip(bodies) {
-        *place = number(bytes) as u16;
+    for (place, node) in sheet[3..3 + nodes].iter_mut().zip(book.nodes()) {
+        *place = node;
     }
     sheet[3 + nodes..].fill(0);
 }
@@ -62,8 +68,7 @@ pub fn checked(book: &[u8]) -> Result<Checked<'_>, u64> {
     if !are_bodies(contents, bodies, options) {
         return Err(5);
     }
-    let nodes = bodies.chunks_exact(2).map(|bytes| number(bytes) as u16);
-    let weight = 1 + total + nodes.filter(|&node| is_literal(node)).count();
+    let weight = 1 + total + nodes(bodies).filter(|&node| is_literal(node)).count();
     if weight > 4096 {
         return Err(6);
     }
@@ -78,6 +83,11 @@ pub fn checked(book: &[u8]) -> Result<Checked<'_>, u64> {
 /// A 16-bit number, low byte first.
 fn number(bytes: &[u8]) -> usize {
     usize::from(u16::from_le_bytes([bytes[0], bytes[1]]))
+}
+
+/// Bytes as nodes.
+fn nodes(bodies: &[u8]) -> impl Iterator<Item = u16> + '_ {
+    bodies.chunks_exact(2).map(|bytes| number(bytes) as u16)
 }
 
 fn are_codes(codes: &[u8], options: usize) -> bool {
@@ -137,7 +147,7 @@ fn is_tree(body: &[u8], options: usize) -> bool {
 /// Whether the bytes begin with an at-least and its members, each of these one node; those that
 /// are missing are missed by the count of trees.
 fn has_members(body: &[u8]) -> bool {
-    let mut nodes = body.chunks_exact(2).map(|bytes| number(bytes) as u16);
+    let mut nodes = nodes(body);
     let members = nodes.next().map_or(0, arity);
     are_members(nodes.take(members))
 }

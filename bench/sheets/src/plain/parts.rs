@@ -225,6 +225,11 @@ fn facts(nodes: &[u16]) -> Option<[bool; LITERALS]> {
 /// The report, at the start of an output whose rest stays: whether the sheet is contradictory.
 pub fn report(sheet: &[u16], out: &mut [u8]) -> bool {
     assert!(is_sheet(sheet) && out.len() >= usize::from(sheet[0]));
+    mark(sheet, out)
+}
+
+/// The report of what is known to be a sheet, into an output that is long enough.
+pub fn mark(sheet: &[u16], out: &mut [u8]) -> bool {
     let out = &mut out[..usize::from(sheet[0])];
     let Some(facts) = facts(used(sheet)) else {
         out.fill(3);

@@ -42,10 +42,10 @@ unfolding code-ok then-zeros
 first s l = rw (byte-more 0 s (omega arith) l) (twice (character (getD s 0 0)) _ _)
 
 abbrev Inv-loop : tie.InvT-loop
-Inv-loop s k₀ k = (k ≤ code-length) × (code-ok (take code-length s) ≡ ok-from s k)
+Inv-loop s table k₀ k = (k ≤ code-length) × (code-ok (take code-length s) ≡ ok-from s k)
 
 abbrev μ-loop : tie.MeasureT-loop
-μ-loop s k₀ k = code-length - k
+μ-loop s table k₀ k = code-length - k
 
 turn :
     (c : tie.In-loop Inv-loop μ-loop) →
@@ -54,27 +54,27 @@ turn :
     code-ok (take code-length s) ≡ ok-by s (n .loop .k)
 turn c = let n = c .before in n .loop .inv .1 ∙ more (n .before .before .before .before .before .args .s .now) (n .loop .k) (omega arith) (omega arith)
 
-shared-slice-read-is-character : tie.Need-shared-slice-read-is-character Inv-loop μ-loop
-shared-slice-read-is-character c = omega arith
+shared-slice-read-is-listed : tie.Need-shared-slice-read-is-listed Inv-loop μ-loop
+shared-slice-read-is-listed c = omega arith
 
 returns : tie.Need-returns Inv-loop μ-loop
 returns c =
     let m = c .before in
-    sym (first (m .before .before .before .args .s .now) (omega arith) ∙ rw (← m .is-character .ensures, not-true (m .is-character .result) (c .if1 .taken)))
+    sym (first (m .before .before .before .args .s .now) (omega arith) ∙ rw (← m .is-listed .ensures, not-true (m .is-listed .result) (c .if1 .taken)))
 
 loop-holds : tie.Need-loop-holds Inv-loop μ-loop
 loop-holds c =
     let m = c .before in
-    (omega arith, first (m .before .before .before .args .s .now) (omega arith) ∙ rw (← m .is-character .ensures, not-false (m .is-character .result) (c .if1 .left)))
+    (omega arith, first (m .before .before .before .args .s .now) (omega arith) ∙ rw (← m .is-listed .ensures, not-false (m .is-listed .result) (c .if1 .left)))
 
-shared-slice-read-is-character-2 : tie.Need-shared-slice-read-is-character-2 Inv-loop μ-loop
-shared-slice-read-is-character-2 c = omega arith
+shared-slice-read-is-listed-2 : tie.Need-shared-slice-read-is-listed-2 Inv-loop μ-loop
+shared-slice-read-is-listed-2 c = omega arith
 
 returns-2 : tie.Need-returns-2 Inv-loop μ-loop
 unfolding pick
 returns-2 c =
     let m = c .before .before in
-    c .is-zero-from .ensures ∙ sym (turn (m .before .before) ∙ rw (← m .is-character2 .ensures, not-true (m .is-character2 .result) (c .before .if2 .taken)))
+    c .is-zero-from .ensures ∙ sym (turn (m .before .before) ∙ rw (← m .is-listed2 .ensures, not-true (m .is-listed2 .result) (c .before .if2 .taken)))
 
 add-k : tie.Need-add-k Inv-loop μ-loop
 add-k c = omega arith
@@ -86,7 +86,7 @@ loop-again : tie.Need-loop-again Inv-loop μ-loop
 unfolding pick
 loop-again c =
     let m = c .before in
-    (omega arith, turn (m .before .before) ∙ rw (← m .is-character2 .ensures, not-false (m .is-character2 .result) (c .if2 .left)))
+    (omega arith, turn (m .before .before) ∙ rw (← m .is-listed2 .ensures, not-false (m .is-listed2 .result) (c .if2 .left)))
 
 returns-3 : tie.Need-returns-3 Inv-loop μ-loop
 returns-3 c =
@@ -100,12 +100,12 @@ is-code-spec =
     (tie.spec
     Inv-loop
     μ-loop
-    shared-slice-read-is-character
-    (λ c κs. search needs)
+    shared-slice-read-is-listed
+    (λ c κs. c .before .before .pre .1)
     returns
     loop-holds
-    shared-slice-read-is-character-2
-    (λ c κs. search needs)
+    shared-slice-read-is-listed-2
+    (λ c κs. c .before .before .before .before .before .before .before .pre .1)
     (λ c κs. search needs)
     returns-2
     add-k

@@ -12,10 +12,10 @@ use Rattle.book_distinct_codes.proofs.are_few_codes.Statement.{statemen
 use Rattle.book_distinct_codes.proofs.are_few_codes.Tie as tie
 
 abbrev Inv-loop : tie.InvT-loop
-Inv-loop s n first₀ next₀ i₀ first next i = Entered n s first next i
+Inv-loop s n characters first₀ next₀ i₀ first next i = Entered n s first next i
 
 abbrev μ-loop : tie.MeasureT-loop
-μ-loop s n first₀ next₀ i₀ first next i = i
+μ-loop s n characters first₀ next₀ i₀ first next i = i
 
 loop-holds : tie.Need-loop-holds Inv-loop μ-loop
 loop-holds c = entered-none (c .before .args .n) (c .before .args .s .now) buckets most-options refl refl (omega arith)

@@ -145,7 +145,7 @@ module _ {M : Type 1} (𝓤 : URA M) (H : Heap 𝓤) (A : Atoms 𝓤) (W : Given
         -- the lines are lent to `copied`, and come back
         sets ! 34 (addr ! (from ! (fld ! refl (hop ! (look-in ! 50 (sub ! 0 refl (whole !))) (stop !))))) refl (tt, tt) $
         sets ! 32 (agg ! (and-then ! (var ! 34 refl) (and-then ! (load ! (from ! (fld ! refl (stop !))) (look-in ! 50 (sub ! 1 refl (whole !)))) (no-more !)))) refl (tt, (tt, (record { fits = g .0 }, tt))) $
-        move ! (2 ∷ 3 ∷ []) $ copies-lent W mem run x n ! (fmOf 𝓤 H (W .laws) 𝓣) copies g gn (λ ν γ. and-then ! (var ! 33 refl) (and-then ! (var ! 41 refl) (no-more !))) (λ u is.
+        move ! (2 ∷ 3 ∷ []) $ copies-lent W mem run n x ! (fmOf 𝓤 H (W .laws) 𝓣) copies g gn (λ ν γ. and-then ! (var ! 33 refl) (and-then ! (var ! 41 refl) (no-more !))) (λ u is.
         -- [the lines; κ′'s token; the count's cell; what closes it; the sheet; κ's token; the index; κ‴'s token; _23; …; _0; …]
         land ! (from ! (stop !)) (init ! 38 refl (array-typed R (typed 𝓤 H A W) 64 all _ is .0)) $
         -- the sheet as it is passed on, the count as it is judged, and the index as it is passed on

@@ -3,7 +3,7 @@ use mathlib.Core.Path.{sym, ap, _∙_}
 use borrow.Author.Needs.{needs}
 use Rattle.model.specs.Base.{pick}
 use Rattle.call_report.specs.ReportMeaning.{reportedOf}
-use Rattle.c_sheet_calls.specs.PackedValues.{packedBool}
+use Rattle.c_calls.specs.Packed.{packedBool}
 use Rattle.call_answers.proofs.AnswersTold.{told}
 use Rattle.c_sheet_calls.proofs.nd_report.Statement.{statement}
 use Rattle.c_sheet_calls.proofs.nd_report.Tie as tie

@@ -10,7 +10,8 @@ use lib.ListN.{length, getD, take}
 use lib.Seq.{length-take-le, getD-take}
 use Rattle.model.specs.Limits.{most-options}
 use Rattle.model.specs.Sheet.{body-node}
-use Rattle.common_members.proofs.Seating.{passed, Seated, begun, seated-more, not-seated}
+use Rattle.theory_forms.specs.Lists.{all-index}
+use Rattle.common_members.proofs.Seating.{Seated, begun, seated-more, not-seated}
 use Rattle.common_members.proofs.are_members.Statement.{statement}
 use Rattle.common_members.proofs.are_members.Tie as tie
 
@@ -39,7 +40,7 @@ module _ (c : tie.In-loop Inv-loop μ-loop) where
 
   node : body-node most-options (getD numbers (c .before .loop .i - 1) 0) ≡ true
   node =
-      passed (body-node most-options) numbers (c .before .loop .i - 1) (c .before .before .before .pre .1) (omega (arith, within, c .loop-test .taken))
+      all-index (body-node most-options) numbers (c .before .loop .i - 1) 0 (c .before .before .before .pre .1) (omega (arith, within, c .loop-test .taken))
 
 sub-i : tie.Need-sub-i Inv-loop μ-loop
 sub-i c = omega (arith, c .loop-test .taken)

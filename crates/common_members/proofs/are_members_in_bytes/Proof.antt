@@ -10,7 +10,8 @@ use Rattle.model.specs.Limits.{most-options}
 use Rattle.model.specs.Sheet.{body-node}
 use Rattle.model.specs.Book.{word, words}
 use Rattle.theory_formats.specs.Bytes.{length-words, word-among}
-use Rattle.common_members.proofs.Seating.{passed, Seated, begun, seated-more, not-seated}
+use Rattle.theory_forms.specs.Lists.{all-index}
+use Rattle.common_members.proofs.Seating.{Seated, begun, seated-more, not-seated}
 use Rattle.common_members.proofs.are_members_in_bytes.Statement.{statement}
 use Rattle.common_members.proofs.are_members_in_bytes.Tie as tie
 
@@ -41,7 +42,7 @@ module _ (c : tie.In-loop Inv-loop μ-loop) where
 
   node : body-node most-options (getD numbers (c .before .loop .left - 1) 0) ≡ true
   node =
-      passed (body-node most-options) numbers (c .before .loop .left - 1) (c .before .before .before .pre .1) (omega (arith, within, c .loop-test .taken))
+      all-index (body-node most-options) numbers (c .before .loop .left - 1) 0 (c .before .before .before .pre .1) (omega (arith, within, c .loop-test .taken))
 
 sub-left : tie.Need-sub-left Inv-loop μ-loop
 sub-left c = omega (arith, c .loop-test .taken)

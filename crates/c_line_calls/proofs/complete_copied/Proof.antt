@@ -1,11 +1,11 @@
--- `c_sheet_calls::nd_complete` meets its contract: the answer as one number.
+-- `c_line_calls::complete_copied` meets its contract: the answer as one number.
 use mathlib.Core.Path.{sym, ap, _∙_}
 use borrow.Author.Needs.{needs}
 use Rattle.model.specs.Base.{pick}
-use Rattle.call_report.specs.ReportMeaning.{completedOf}
-use Rattle.c_sheet_calls.specs.PackedValues.{packedBool}
-use Rattle.c_sheet_calls.proofs.nd_complete.Statement.{statement}
-use Rattle.c_sheet_calls.proofs.nd_complete.Tie as tie
+use Rattle.call_complete.specs.CompleteMeaning.{completedOf}
+use Rattle.c_calls.specs.Packed.{packedBool}
+use Rattle.c_line_calls.proofs.complete_copied.Statement.{statement}
+use Rattle.c_line_calls.proofs.complete_copied.Tie as tie
 
 enum-told : tie.Need-enum-told
 enum-told c = search needs
@@ -23,8 +23,8 @@ returns-3 c =
     c .refused .ensures
     ∙ ap packedBool (ap completedOf (sym (c .before .before .answer .given .1)) ∙ c .before .before .before .before .complete .ensures)
 
-pub nd-complete-spec : {M : Type 1} → statement M
-nd-complete-spec =
+pub complete-copied-spec : {M : Type 1} → statement M
+complete-copied-spec =
     tie.close
     (tie.spec
     (λ c κs. search needs)

@@ -1,0 +1,2 @@
+-- Computed cases of the "complete" question.
+pub mod CompleteCases
