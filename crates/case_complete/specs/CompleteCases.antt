@@ -1,11 +1,13 @@
 -- Document 02, U6: the "complete" question, book by book and line by line. "A sheet is complete from now on if it is not contradictory and
 -- every option that some rule of the loaded book or some choice names is marked 1 or 2."
 use mathlib.Core.Bool.{Bool, true, false}
-use mathlib.Core.List.{List, [], _∷_, map}
+use mathlib.Core.List.{List, [], _∷_, _++_, map}
 use mathlib.Core.Path.{_≡_, refl}
 use Prim.Native.Nat.{ℕ}
 use lib.ListN.{replicate}
 use Rattle.model.specs.Literal.{Literal, pos, neg}
+use Rattle.model.specs.Propagation.{complete}
+use Rattle.model.specs.Sheet.{report-in}
 use Rattle.calls.specs.Refusals.{sheet-refused}
 use Rattle.calls.specs.Outcomes.{Answer, refused, accepted}
 use Rattle.calls.specs.Calls.{completeOf}
@@ -117,6 +119,17 @@ without-options =
 pub without-options-so : without-options ≡ accepted true ∷ accepted false ∷ []
 unfolding definitions samples without-options
 without-options-so = refl
+
+-- Document 01's words, which are enough now and not needed: "A sheet is complete if it is not contradictory and every option is 1 or 2."
+unfoldable pub as-before : List Bool
+as-before =
+    map (λ nodes. complete (report-in (sheet 2 nodes)))
+    ((root 2 ∷ P ∷ not-Q ∷ []) ∷ (root 1 ∷ P ∷ []) ∷ (root 1 ∷ not-Q ∷ []) ∷ (root 3 ∷ P ∷ not-P ∷ Q ∷ []) ∷ [])
+    ++ map (λ nodes. complete (report-in (sheet 0 nodes))) ((root 0 ∷ []) ∷ (root 1 ∷ False ∷ []) ∷ [])
+
+pub as-before-so : as-before ≡ true ∷ false ∷ false ∷ false ∷ true ∷ false ∷ []
+unfolding definitions samples as-before
+as-before-so = refl
 
 -- Lines that are not in order: 65 counted, a counted one that names no option (past the count it may stand), 63 slots and 65.
 unfoldable pub lines-lent : List (Answer Bool)

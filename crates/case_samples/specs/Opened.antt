@@ -43,7 +43,7 @@ of-nodes = tt
 of-meaning : Unit {0}
 unfolding Clauses.unions Clauses.need Clauses.no-tree Clauses.one-tree-more Clauses.some-of Clauses.clauses Propagation.others
     Propagation.refuted Propagation.forced-in Propagation.forced Propagation.propagate Propagation.facts-of Propagation.conflict
-    Propagation.mark Propagation.count-from Propagation.report-by Propagation.report List.flatten
+    Propagation.mark Propagation.count-from Propagation.report-by Propagation.report Propagation.complete List.flatten
 of-meaning = tt
 
 of-rules : Unit {0}
