@@ -1,13 +1,14 @@
 -- The desk program: what it writes for the bytes of a book and of its standard input.
 use mathlib.Core.Bool.{Bool, true, false}
 use mathlib.Core.List.{List, [], _∷_, _++_}
-use Prim.Native.Nat.{ℕ, zero, suc, _+_, _/_, _%_}
-use lib.Dec.{eqb, ltb}
+use Prim.Native.Nat.{ℕ}
+use lib.Dec.{eqb}
 use lib.ListN.{replicate}
 use Rattle.model.specs.Base.{pick}
 use Rattle.model.specs.Limits.{sheet-length}
 use Rattle.model.specs.Book.{codes-of, characters}
 use Rattle.model.specs.Literal.{pos}
+use Rattle.texts.specs.Decimals.{decimal}
 use Rattle.calls.specs.Refusals.{refusal-number, option-refused, list-refused}
 use Rattle.calls.specs.Outcomes.{Answer, refused, accepted, Outcome}
 use Rattle.calls.specs.Lines.{most-lines, State}
@@ -52,14 +53,6 @@ all-keyed book (l ∷ ls) t = go-on (keyed book l t .answer) (keyed book l t .le
 -- Document 02, U2: "The desk program begins with an empty list."
 unfoldable pub with-no-lines : List ℕ → State
 with-no-lines s = record { sheet = s; lines = replicate most-lines (pos 0); count = 0 }
-
--- A number in decimal digits.
-unfoldable pub digits : ℕ → ℕ → List ℕ
-digits zero n = []
-digits (suc most) n = pick (ltb n 10) ((48 + n) ∷ []) (digits most (n / 10) ++ ((48 + n % 10) ∷ []))
-
-unfoldable pub decimal : ℕ → List ℕ
-decimal n = digits (suc n) n
 
 -- The words, in ASCII: refused, contradiction, settled, stopped, open, in, out.
 unfoldable pub refused-word : List ℕ

@@ -1,4 +1,4 @@
--- What computed cases see through, by one name: the definitions of `model` and `calls`. To unfold a name is to unfold all
+-- What computed cases see through, by one name: the definitions of `model`, `texts` and `calls`. To unfold a name is to unfold all
 -- that its own line lists.
 use mathlib.Core.List
 use Rattle.model.specs.Base
@@ -12,6 +12,9 @@ use Rattle.model.specs.Strategy
 use Rattle.model.specs.Sheet
 use Rattle.model.specs.Results
 use Rattle.model.specs.Book
+use Rattle.texts.specs.Decimals
+use Rattle.texts.specs.ClauseFile
+use Rattle.texts.specs.ClauseBook
 use Rattle.calls.specs.Refusals
 use Rattle.calls.specs.Outcomes
 use Rattle.calls.specs.Lines
@@ -72,12 +75,22 @@ unfolding Book.word Book.words Book.bytes-of Book.options-of Book.rules-of Book.
     Book.characters Book.option-of-code
 of-books = tt
 
+of-texts : Unit {0}
+unfolding Decimals.digits Decimals.decimal Decimals.is-digit Decimals.is-decimal Decimals.number-from Decimals.number-in
+    ClauseFile.before-part ClauseFile.parts ClauseFile.plain-ends ClauseFile.lines ClauseFile.past-comments ClauseFile.is-p-line
+    ClauseFile.stated ClauseFile.is-blank ClauseFile.with-word ClauseFile.not-empty ClauseFile.words-of-line ClauseFile.mark-by
+    ClauseFile.mark-of-word ClauseFile.closes ClauseFile.with-mark ClauseFile.clauses-of-words ClauseFile.file-stated
+    ClauseFile.file-of-lines ClauseFile.file-of ClauseBook.padded ClauseBook.code-of ClauseBook.codes-to ClauseBook.nodes-of-clause
+    ClauseBook.nodes-of-file ClauseBook.book-of-file ClauseBook.is-too-large
+of-texts = tt
+
 of-calls : Unit {0}
 unfolding Refusals.refusal-number Outcomes.answer Outcomes.if-accepted Outcomes.outcome Chains.part-refusal Chains.book-refusal
     Chains.lookup-refusal Chains.load-refusal Chains.write-refusal Chains.report-refusal Chains.complete-refusal
-    Chains.key-refusal Chains.order-refusal Chains.withdraw-refusal Chains.step-refusal Chains.run-refusal Calls.checkOf Calls.lookupOf Calls.loadOf Calls.writeOf
-    Calls.reportOf Calls.completeOf Calls.keyOf Calls.withdrawOf Calls.stepOf Calls.runOf Lines.without
-    Lines.moved-up Lines.with-marks
+    Chains.key-refusal Chains.order-refusal Chains.withdraw-refusal Chains.step-refusal Chains.run-refusal
+    Calls.checkOf Calls.lookupOf Calls.loadOf Calls.writeOf
+    Calls.reportOf Calls.completeOf Calls.keyOf Calls.withdrawOf Calls.stepOf Calls.runOf
+    Lines.without Lines.moved-up Lines.with-marks
 of-calls = tt
 
 of-indexes : Unit {0}
@@ -96,11 +109,11 @@ unfolding History.after-call History.after-calls History.account-call History.ac
 of-lists = tt
 
 of-desk : Unit {0}
-unfolding Desk.before-line Desk.lines Desk.key-found Desk.key-signed Desk.keyed Desk.go-on Desk.all-keyed Desk.with-no-lines Desk.digits Desk.decimal
+unfolding Desk.before-line Desk.lines Desk.key-found Desk.key-signed Desk.keyed Desk.go-on Desk.all-keyed Desk.with-no-lines
     Desk.refused-word Desk.contradiction-word Desk.settled-word Desk.stopped-word Desk.mark-word Desk.line Desk.printed
     Desk.first-line Desk.option-lines Desk.desk-budget Desk.screen-length Desk.deskOf
 of-desk = tt
 
 unfoldable pub definitions : Unit {0}
-unfolding of-combinators of-literals of-forests of-nodes of-meaning of-rules of-runs of-sheets of-books of-calls of-indexes of-names of-lists of-desk
+unfolding of-combinators of-literals of-forests of-nodes of-meaning of-rules of-runs of-sheets of-books of-texts of-calls of-indexes of-names of-lists of-desk
 definitions = tt

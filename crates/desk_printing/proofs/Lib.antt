@@ -1,3 +1,2 @@
-pub mod PlacedBytes
-pub mod Decimals
+pub mod PlacedLines
 pub mod Options

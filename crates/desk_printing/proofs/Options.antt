@@ -16,8 +16,9 @@ use Rattle.model.specs.Book.{characters, pieces}
 use Rattle.calls.specs.Desk.{line, mark-word, option-lines}
 use Rattle.theory_reading.specs.Stretches.{live-short}
 use Rattle.book_codes.proofs.Pieces.{count-pieces, pieces-more}
-use Rattle.desk_printing.specs.Placed.{after, filled}
-use Rattle.desk_printing.proofs.PlacedBytes.{length-line, placed-then}
+use Rattle.common_decimal.specs.Placed.{after, filled}
+use Rattle.common_decimal.proofs.PlacedBytes.{placed-then}
+use Rattle.desk_printing.proofs.PlacedLines.{length-line}
 
 -- The characters of a code of which k were passed.
 module _ (s : List ℕ) (k : ℕ) (long : 13 ≤ length s) (h : k < 13) where

@@ -3,10 +3,11 @@ ghost use mathlib.Core.Path.{_≡_};
 ghost use Prim.Native.Nat.{_+_, _*_, _≤_, _<_};
 ghost use lib.ListN.{length, take, set};
 ghost use Rattle.model.specs.Book.{characters, pieces};
+ghost use Rattle.texts.specs.Decimals.{decimal};
 ghost use Rattle.calls.specs.Refusals.{«refusal-number»};
-ghost use Rattle.calls.specs.Desk.{decimal, line, «mark-word», «refused-word», «first-line», «option-lines»};
+ghost use Rattle.calls.specs.Desk.{line, «mark-word», «refused-word», «first-line», «option-lines»};
 ghost use Rattle.call_answers.specs.AnswerMeaning.{refusalOf};
-ghost use Rattle.desk_printing.specs.Placed.{after, filled};
+ghost use Rattle.common_decimal.specs.Placed.{after, filled};
 use call_answers::Refusal;
 
 // A space and a line end at their places.
@@ -34,27 +35,13 @@ fn put_line(a: &[u8], b: &[u8], out: &mut [u8]) -> usize
     end + 1
 }
 
-// A number in decimal digits, the last digit after those of a tenth of it.
-fn put_decimal(n: u64, out: &mut [u8]) -> usize
-    requires { ⌜ length (decimal n) ≤ length (now out) ⌝ }
-    ensures { λ r. ⌜ after r (now (out .exit)) ≡ filled (decimal n) (now (out .entry)) ⌝ }
-{
-    if n < 10 {
-        out[0] = (48 + n) as u8;
-        return 1;
-    }
-    let k = put_decimal(n / 10, out);
-    out[k] = (48 + n % 10) as u8;
-    k + 1
-}
-
 // A word and a number, as a line.
 fn put_counted(word: &[u8], n: u64, out: &mut [u8]) -> usize
     requires { ⌜ length (now word) + 22 ≤ length (now out) ⌝ }
     ensures { λ r. ⌜ after r (now (out .exit)) ≡ filled (line (now (word .entry)) (decimal n)) (now (out .entry)) ⌝ }
 {
     let mut digits = [0u8; 20];
-    let k = put_decimal(n, &mut digits);
+    let k = common_decimal::put_decimal(n, &mut digits);
     put_line(word, &digits[..k], out)
 }
 

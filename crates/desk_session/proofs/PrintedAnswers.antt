@@ -17,15 +17,17 @@ use Rattle.calls.specs.Refusals.{Refusal, refusal-number}
 use Rattle.calls.specs.Outcomes.{Answer, refused, accepted, Outcome, outcome}
 use Rattle.calls.specs.Chains.{book-refusal, load-refusal}
 use Rattle.calls.specs.Calls.{Ran, loadOf, runOf, reportOf}
-use Rattle.calls.specs.Desk.{lines, all-keyed, with-no-lines, decimal, line, printed, refused-word, contradiction-word, settled-word}
+use Rattle.texts.specs.Decimals.{decimal}
+use Rattle.calls.specs.Desk.{lines, all-keyed, with-no-lines, line, printed, refused-word, contradiction-word, settled-word}
 use Rattle.calls.specs.Desk.{stopped-word, first-line, option-lines, desk-budget, screen-length, deskOf}
 use Rattle.call_laws.specs.Books.{accepted-book}
 use Rattle.call_laws.specs.PlacedOutputs.{lines-first}
 use Rattle.call_answers.specs.AnswerMeaning.{afterCall, onSheet}
 use Rattle.call_books.proofs.BookTests.{codes-room}
-use Rattle.desk_printing.specs.Placed.{after, filled}
-use Rattle.desk_printing.proofs.PlacedBytes.{length-line, placed-within}
-use Rattle.desk_printing.proofs.Decimals.{twenty-digits}
+use Rattle.common_decimal.specs.Placed.{after, filled}
+use Rattle.theory_texts.specs.Decimals.{twenty-digits}
+use Rattle.common_decimal.proofs.PlacedBytes.{placed-within}
+use Rattle.desk_printing.proofs.PlacedLines.{length-line}
 use Rattle.desk_session.specs.Session.{told-lines, ran-lines, sessionOf}
 
 -- The room of an accepted book's codes.

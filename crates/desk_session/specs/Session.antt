@@ -9,7 +9,7 @@ use Rattle.model.specs.Book.{codes-of}
 use Rattle.calls.specs.Outcomes.{Outcome}
 use Rattle.calls.specs.Calls.{Ran, reportOf}
 use Rattle.calls.specs.Desk.{printed, first-line, option-lines, screen-length, deskOf}
-use Rattle.desk_printing.specs.Placed.{Written, after, filled}
+use Rattle.common_decimal.specs.Placed.{Written, after, filled}
 
 -- What is printed of a report, after a run.
 unfoldable pub told-lines : List ℕ → Ran → Outcome (List ℕ) Bool → List ℕ

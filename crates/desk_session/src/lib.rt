@@ -10,7 +10,7 @@ ghost use Rattle.calls.specs.Chains.{«book-refusal»};
 ghost use Rattle.calls.specs.Calls.{runOf, reportOf};
 ghost use Rattle.calls.specs.Desk.{printed, «first-line», «option-lines», «desk-budget», «screen-length»};
 ghost use Rattle.call_answers.specs.AnswerMeaning.{doneOf};
-ghost use Rattle.desk_printing.specs.Placed.{after, filled};
+ghost use Rattle.common_decimal.specs.Placed.{after, filled};
 ghost use Rattle.desk_session.specs.Session.{«told-lines», «ran-lines», sessionOf};
 use call_answers::Done;
 use call_report::Reported;

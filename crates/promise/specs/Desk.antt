@@ -10,6 +10,7 @@ use Rattle.model.specs.Limits.{sheet-length}
 use Rattle.model.specs.Propagation.{Report, report}
 use Rattle.model.specs.Sheet.{is-sheet}
 use Rattle.model.specs.Book.{options-of, codes-of}
+use Rattle.texts.specs.Decimals.{decimal}
 use Rattle.calls.specs.Refusals.{Refusal, refusal-number, sheet-refused}
 use Rattle.calls.specs.Outcomes.{refused, accepted, Outcome}
 use Rattle.calls.specs.Chains.{load-refusal}
@@ -17,7 +18,7 @@ use Rattle.calls.specs.Calls.{Ran, checkOf, loadOf, runOf, reportOf}
 use Rattle.calls.specs.Lines.{State}
 use Rattle.calls.specs.History.{Call, run, after-call, after-calls, loaded, account-calls}
 use Rattle.calls.specs.Index.{fresh-count}
-use Rattle.calls.specs.Desk.{lines, keyed, go-on, all-keyed, with-no-lines, decimal, line, printed, refused-word}
+use Rattle.calls.specs.Desk.{lines, keyed, go-on, all-keyed, with-no-lines, line, printed, refused-word}
 use Rattle.calls.specs.Desk.{first-line, option-lines, desk-budget, screen-length, deskOf}
 use Rattle.theory_forms.specs.Logic.{none-due}
 use Rattle.theory_meaning.specs.ExactReports.{report-tells}

@@ -4,10 +4,11 @@ use native.Mathlib.Omega.{arith}
 use borrow.Author.Needs.{needs}
 use lib.ListN.{replicate}
 use lib.Seq.{length-take-le}
-use Rattle.calls.specs.Desk.{decimal, line}
-use Rattle.desk_printing.specs.Placed.{filled}
-use Rattle.desk_printing.proofs.PlacedBytes.{placed-count, placed-within, placed-start}
-use Rattle.desk_printing.proofs.Decimals.{twenty-digits}
+use Rattle.texts.specs.Decimals.{decimal}
+use Rattle.calls.specs.Desk.{line}
+use Rattle.common_decimal.specs.Placed.{filled}
+use Rattle.theory_texts.specs.Decimals.{twenty-digits}
+use Rattle.common_decimal.proofs.PlacedBytes.{placed-count, placed-within, placed-start}
 use Rattle.desk_printing.proofs.put_counted.Statement.{statement}
 use Rattle.desk_printing.proofs.put_counted.Tie as tie
 

@@ -1,7 +1,7 @@
 -- `desk_printing::put_line` meets its contract: the space and the line end, the first word, and the second in the rest that is lent.
 use native.Mathlib.Omega.{arith}
 use borrow.Author.Needs.{needs}
-use Rattle.desk_printing.proofs.PlacedBytes.{line-written}
+use Rattle.desk_printing.proofs.PlacedLines.{line-written}
 use Rattle.desk_printing.proofs.put_line.Statement.{statement}
 use Rattle.desk_printing.proofs.put_line.Tie as tie
 

@@ -10,7 +10,7 @@ use lib.Seq.{length-take-le}
 use Rattle.model.specs.Base.{pick}
 use Rattle.model.specs.Book.{characters}
 use Rattle.calls.specs.Desk.{line, mark-word}
-use Rattle.desk_printing.specs.Placed.{Written, filled}
+use Rattle.common_decimal.specs.Placed.{Written, filled}
 use Rattle.desk_printing.proofs.put_option.Statement.{statement}
 use Rattle.desk_printing.proofs.put_option.Tie as tie
 

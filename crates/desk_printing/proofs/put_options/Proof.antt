@@ -10,8 +10,8 @@ use lib.Seq.{take-length}
 use Rattle.model.specs.Book.{characters, pieces}
 use Rattle.calls.specs.Desk.{line, mark-word, option-lines}
 use Rattle.model.specs.Base.{placed}
-use Rattle.desk_printing.specs.Placed.{after, filled}
-use Rattle.desk_printing.proofs.PlacedBytes.{placed-count}
+use Rattle.common_decimal.specs.Placed.{after, filled}
+use Rattle.common_decimal.proofs.PlacedBytes.{placed-count}
 use Rattle.desk_printing.proofs.Options.{options-more, option-short}
 use Rattle.desk_printing.proofs.put_options.Statement.{statement}
 use Rattle.desk_printing.proofs.put_options.Tie as tie

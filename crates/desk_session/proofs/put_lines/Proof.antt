@@ -11,8 +11,8 @@ use lib.Seq.{length-take-le}
 use Rattle.model.specs.Book.{options-of, codes-of, pieces}
 use Rattle.calls.specs.Calls.{Ran}
 use Rattle.calls.specs.Desk.{first-line, option-lines}
-use Rattle.desk_printing.specs.Placed.{filled}
-use Rattle.desk_printing.proofs.PlacedBytes.{placed-count, placed-within, placed-then}
+use Rattle.common_decimal.specs.Placed.{filled}
+use Rattle.common_decimal.proofs.PlacedBytes.{placed-count, placed-within, placed-then}
 use Rattle.desk_session.proofs.PrintedAnswers.{few-options, codes-fit, lines-lent, short-first}
 use Rattle.desk_session.proofs.put_lines.Statement.{statement}
 use Rattle.desk_session.proofs.put_lines.Tie as tie

@@ -7,7 +7,7 @@ use Rattle.calls.specs.Calls.{Ran, runOf, reportOf}
 use Rattle.calls.specs.Desk.{desk-budget, screen-length}
 use Rattle.call_answers.specs.AnswerMeaning.{afterCall}
 use Rattle.call_run.specs.RunMeaning.{ranOf}
-use Rattle.desk_printing.specs.Placed.{Written, filled}
+use Rattle.common_decimal.specs.Placed.{Written, filled}
 use Rattle.desk_session.specs.Session.{told-lines, ran-lines}
 use Rattle.desk_session.proofs.PrintedAnswers.{ran-accepted, ran-refused}
 use Rattle.desk_session.proofs.put_ran.Statement.{statement}

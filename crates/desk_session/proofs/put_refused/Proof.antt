@@ -5,7 +5,7 @@ use borrow.Author.Needs.{needs}
 use Rattle.model.specs.Base.{placed}
 use Rattle.calls.specs.Desk.{printed}
 use Rattle.call_answers.specs.AnswerMeaning.{doneOf}
-use Rattle.desk_printing.specs.Placed.{filled}
+use Rattle.common_decimal.specs.Placed.{filled}
 use Rattle.desk_session.proofs.put_refused.Statement.{statement}
 use Rattle.desk_session.proofs.put_refused.Tie as tie
 

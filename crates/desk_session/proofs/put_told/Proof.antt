@@ -10,7 +10,7 @@ use Rattle.calls.specs.Calls.{reportOf}
 use Rattle.calls.specs.Desk.{screen-length}
 use Rattle.call_answers.specs.AnswerMeaning.{afterCall}
 use Rattle.call_report.specs.ReportMeaning.{reportedOf}
-use Rattle.desk_printing.specs.Placed.{filled}
+use Rattle.common_decimal.specs.Placed.{filled}
 use Rattle.desk_session.proofs.PrintedAnswers.{few-options, told-consistent, told-contradictory, told-refused}
 use Rattle.desk_session.proofs.put_told.Statement.{statement}
 use Rattle.desk_session.proofs.put_told.Tie as tie

@@ -1,18 +1,19 @@
--- `desk_printing::put_decimal` meets its contract: a number below ten is its digit, another the digits of a tenth of it and the last. The
+-- `common_decimal::put_decimal` meets its contract: a number below ten is its digit, another the digits of a tenth of it and the last. The
 -- measure is the number.
 use Prim.Native.Nat.{ℕ, _/_, _<_}
 use native.Mathlib.Omega.{arith}
 use borrow.Author.Needs.{needs}
 use borrow.Fn.Kinds.{In}
 use borrow.Fn.PlainCycle.{Measures, is, falls, and}
-use Rattle.calls.specs.Desk.{decimal}
-use Rattle.desk_printing.proofs.PlacedBytes.{placed-count}
-use Rattle.desk_printing.proofs.Decimals.{length-small, length-large, decimal-one, decimal-more}
-use Rattle.desk_printing.proofs.put_decimal.Reads as put-decimal
-use Rattle.desk_printing.proofs.put_decimal.Kinds as put-decimal-kinds
-use Rattle.desk_printing.proofs.+put_decimal.Lts-put_decimal as put-decimal-lts
-use Rattle.desk_printing.proofs.+put_decimal.{statement}
-use Rattle.desk_printing.proofs.+put_decimal.Tie.{close}
+use Rattle.texts.specs.Decimals.{decimal}
+use Rattle.theory_texts.specs.Decimals.{length-small, length-large}
+use Rattle.common_decimal.proofs.PlacedBytes.{placed-count}
+use Rattle.common_decimal.proofs.PlacedDigits.{decimal-one, decimal-more}
+use Rattle.common_decimal.proofs.put_decimal.Reads as put-decimal
+use Rattle.common_decimal.proofs.put_decimal.Kinds as put-decimal-kinds
+use Rattle.common_decimal.proofs.+put_decimal.Lts-put_decimal as put-decimal-lts
+use Rattle.common_decimal.proofs.+put_decimal.{statement}
+use Rattle.common_decimal.proofs.+put_decimal.Tie.{close}
 
 abbrev μ-put-decimal : Measures 1 put-decimal-kinds.ps ℕ
 μ-put-decimal κs a = a .0

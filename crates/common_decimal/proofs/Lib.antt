@@ -1,0 +1,2 @@
+pub mod PlacedBytes
+pub mod PlacedDigits
