@@ -18,7 +18,7 @@ unfolding spans
 length-spans zero s = refl
 length-spans (suc m) s = ap suc (length-spans m (drop (span 1 s) s))
 
-length-lined : (sum : ℕ) (ks : List ℕ) → length (lined-up sum ks) ≡ 2 * length ks
+pub length-lined : (sum : ℕ) (ks : List ℕ) → length (lined-up sum ks) ≡ 2 * length ks
 length-lined sum ks = ap length (sym (flat-places sum ks)) ∙ length-flat (places sum ks) ∙ ap (λ n. 2 * n) (length-places sum ks)
 
 pub length-contents : (m : ℕ) (s : List ℕ) → length (bytes-of (lined-up 0 (spans m s))) ≡ 4 * m

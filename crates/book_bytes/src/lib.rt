@@ -39,7 +39,7 @@ pub fn put_three(out: &mut [u16], x: usize, y: usize, z: usize)
 }
 
 // A number as two bytes at a place, the low one first.
-fn put_word(out: &mut [u8], k: usize, x: usize)
+pub fn put_word(out: &mut [u8], k: usize, x: usize)
     requires { ⌜ k + 1 < length (now out) ⌝ }
     ensures { λ r. ⌜ now (out .exit) ≡ set (set (now (out .entry)) k (x % 256)) (k + 1) (x / 256 % 256) ⌝ }
 {

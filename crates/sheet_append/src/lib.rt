@@ -11,7 +11,7 @@ use common_limits::BARRED_KIND;
 use common_limits::PLAIN_KIND;
 
 // The number of a literal of an option.
-fn number_of(option: u16, negative: bool) -> u16
+pub fn number_of(option: u16, negative: bool) -> u16
     requires { ⌜ option < «most-options» ⌝ }
     ensures { λ r. ⌜ r ≡ «number-of» (leaf (literal option negative)) ⌝ }
 {

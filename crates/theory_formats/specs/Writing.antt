@@ -38,7 +38,7 @@ written-parts s b f e =
     rw (whole, length-places 0 (counts f), length-counts f, flat-places 0 (counts f))
 
 -- A number of a body has 16 bits.
-body-small : (n x : ℕ) → body-node n x ≡ true → x < 65536
+pub body-small : (n x : ℕ) → body-node n x ≡ true → x < 65536
 unfolding known kind
 body-small n x h = omega (arith, leb-true (kind x) 6 (and-split (leb 1 (kind x)) (leb (kind x) 6) (known-body n x h) .1))
 

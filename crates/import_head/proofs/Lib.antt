@@ -1,0 +1,2 @@
+mod Beginnings
+mod HeadTests
