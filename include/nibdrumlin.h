@@ -48,7 +48,8 @@
  * and may be called from several threads at a time, each on its own buffers.
  * ND_STACK_BOOK, below, is how many bytes of stack suffice for either.
  *
- * The calls on order sheets stand in nibdrumlin_sheets.h.
+ * The calls on order sheets, and the one that makes a book of a clause file,
+ * stand in nibdrumlin_sheets.h.
  */
 #ifndef NIBDRUMLIN_H
 #define NIBDRUMLIN_H

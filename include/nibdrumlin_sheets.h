@@ -1,8 +1,8 @@
 /*
  * Order sheets: a book loaded onto a sheet, choices keyed and taken back, steps, runs, reports,
- * how often the sheet names each option, and the sheet written back as a book.  The book check
- * and the code lookup stand in nibdrumlin.h, which this header includes, with what a book is and
- * how an answer is packed.
+ * how often the sheet names each option, and the sheet written back as a book; and a book made of
+ * a clause file.  The book check and the code lookup stand in nibdrumlin.h, which this header
+ * includes, with what a book is and how an answer is packed.
  *
  * A sheet is exactly 4,098 numbers of 16 bits, in the machine's own byte order:
  *
@@ -43,6 +43,20 @@
  * stale where it has 2N numbers or more and the first 2N are not those of the sheet: nothing but
  * nd_index mends it.
  *
+ * A clause file is a text in the DIMACS CNF format, as partners publish their rules; nd_import
+ * makes a book of it.  A line ends at byte 10, with or without 13 directly before it, or at the
+ * end of the text.  The text is
+ *
+ *   comment lines    any number, each with c as its first byte and any bytes after it
+ *   p cnf V C        one line, with single spaces and nothing more: V options, C clauses
+ *   the clauses      C of them, each a row of marks (1 to V, or with a minus directly before it
+ *                    where the option is barred) that is closed by 0; a row may be empty
+ *
+ * All numbers are decimal, of any length, without leading zeros and without a plus.  After the p
+ * line spaces, tabs and line ends may stand before and after numbers, as many as one likes, and at
+ * least one stands between two; nothing else does, no comment and no 13 but directly before 10.
+ * Any other text is refused 15, an empty one too.
+ *
  * Every function answers one number.  Its low 8 bits are the refusal, 0 where the call is
  * accepted; the rest is the value (nd_refusal and nd_value of nibdrumlin.h take it apart).  A
  * refused call has the value 0.  The refusals:
@@ -58,10 +72,13 @@
  *            not the sheet's; in a keying, a withdrawal and nd_complete also lines that are not
  *            in order; in a keying, a withdrawal, a step and a run also a stale index; in loading
  *            only a length that is not 4,098
- *   12       output shorter than needed: for a report, than N bytes; index shorter than 2N
- *            numbers, in every call that takes one
+ *   12       output shorter than needed: for a report, than N bytes; for a written or an imported
+ *            book, than its length; index shorter than 2N numbers, in every call that takes one
  *   13       no such line
  *   14       list full: there are 64 lines
+ *   15       not a clause file: text of any other form
+ *   16       clause file too large for a book: V over 512; C, or C plus the marks, over 4,095; or
+ *            1 + C + twice the marks, which is the book's weight, over 4,096
  *
  * What each function can be refused stands beside it, in the order of the tests: the first that
  * holds is the answer.
@@ -73,15 +90,15 @@
  * is lent: so the index lies apart from the sheet.
  *
  * Every input has an answer: there is nothing that the caller must have tested before.  Lengths
- * count elements: bytes of a book or an output, 16-bit numbers of a sheet or an index, slots of
- * lines.  A pointer may be null where its length is 0; that is an empty run.  Otherwise it must
- * point to as many elements as its length says, and a sheet, an index, lines and a count must be
- * aligned as uint16_t is.  A count is one number and has no length: where a call changes it, it
- * takes a pointer, which is never null; nd_complete changes nothing and takes the number.
+ * count elements: bytes of a book, a text or an output, 16-bit numbers of a sheet or an index,
+ * slots of lines.  A pointer may be null where its length is 0; that is an empty run.  Otherwise
+ * it must point to as many elements as its length says, and a sheet, an index, lines and a count
+ * must be aligned as uint16_t is.  A count is one number and has no length: where a call changes
+ * it, it takes a pointer, which is never null; nd_complete changes nothing and takes the number.
  *
  * Stack: the ND_STACK_ numbers, here and in nibdrumlin.h, are bytes that suffice for one call,
- * with a margin of at least 4,096 over what was measured: 3,656 for nd_write, 6,352 for
- * nd_withdraw, 10,684 for nd_step, 33,292 for nd_run, 58,928 for nd_complete.
+ * with a margin of at least 4,096 over what was measured: 288 for nd_import, 3,656 for nd_write,
+ * 6,352 for nd_withdraw, 10,684 for nd_step, 33,292 for nd_run, 58,928 for nd_complete.
  * tests/library/stack.c measures it again.  It counts what the calls and their memset, memcpy and
  * memmove use.  A program that binds these three only when they are first called needs, that once,
  * the dynamic linker's stack besides.
@@ -105,7 +122,8 @@ extern "C" {
 /* The most options of a book: an output of so many bytes is enough for every report. */
 #define ND_OPTIONS_MOST 512
 
-/* The length of the longest book, in bytes: an output of so many is enough for every write. */
+/* The length of the longest book, in bytes: an output of so many is enough for every write and
+ * every import. */
 #define ND_BOOK_LONGEST 31234
 
 /* The length of the longest index, in numbers of 16 bits: so many are enough for every sheet. */
@@ -129,12 +147,30 @@ struct nd_line {
 #define ND_OUT 2
 #define ND_CONTRADICTORY 3
 
-/* Bytes of stack that suffice for nd_load, nd_write, nd_index and nd_key; nd_withdraw and nd_step;
- * nd_run; nd_report and nd_complete. */
+/* Bytes of stack that suffice for nd_import, nd_load, nd_write, nd_index and nd_key; nd_withdraw
+ * and nd_step; nd_run; nd_report and nd_complete. */
 #define ND_STACK_SHEET 8192
 #define ND_STACK_STEP 16384
 #define ND_STACK_RUN 40960
 #define ND_STACK_REPORT 65536
+
+/*
+ * Makes a book of the text_len bytes at text, a clause file.
+ *
+ * Accepted, the book's bytes stand at the start of out, those beyond stay, and the value is their
+ * number: 8 + 13V + 4C + 2T, for T = C plus the marks of all clauses.  The book has V options and
+ * C rules.  Option v - 1 has as its code the letter V and the decimal v: V1 to V512.  Each clause
+ * is one rule, an any-of (kind 4) of its marks, a lone mark's too; an empty clause is the any-of of
+ * nothing, which is false.  Clauses and marks stand in the order of the text.  A mark may stand
+ * twice in a clause, and beside its opposite: all are kept.
+ *
+ * It is a book: nd_load takes it, and what is then reported is unit propagation on the clauses of
+ * the text.
+ *
+ * Refused 15 (not a clause file, also where its numbers are too large for a book), 16 (too large
+ * for a book), then 12 (out_len is under that number).
+ */
+uint64_t nd_import(const uint8_t *text, size_t text_len, uint8_t *out, size_t out_len);
 
 /*
  * Loads the book_len bytes at book onto a sheet.

@@ -9,6 +9,7 @@
     print(order.lines, order.run(100_000), order.report())
     print(order.mentions("BODY-C").count)  # how often the sheet names BODY-C
     print(order.is_complete())  # whether all that is named in its book or lines is in or out
+    book = Book.from_clauses(Path("valves.cnf").read_bytes())  # of a partner's clause file
 
 A call that is refused raises Refused, which has the number of the refusal and its meaning, and
 leaves everything as it was. The library is target/library/libnibdrumlin_sheets.so of this
@@ -16,10 +17,10 @@ repository, which tools/build-library makes; the environment variable NIBDRUMLIN
 another file.
 
 Book and Order stand on the functions nd_load, nd_run and so on, which are the C functions of
-include/nibdrumlin.h and include/nibdrumlin_sheets.h on memory that the caller lends: a book or an
-output is any run of bytes, a sheet or an index any run of 16-bit numbers (array("H"), say), the
-lines of an order a ctypes array of Slot, their count one 16-bit number (ctypes.c_uint16, say; where
-the call changes nothing, an int).
+include/nibdrumlin.h and include/nibdrumlin_sheets.h on memory that the caller lends: a book, a text
+or an output is any run of bytes, a sheet or an index any run of 16-bit numbers (array("H"), say),
+the lines of an order a ctypes array of Slot, their count one 16-bit number (ctypes.c_uint16, say;
+where the call changes nothing, an int).
 """
 import ctypes
 import functools
@@ -57,6 +58,8 @@ MEANINGS = {
     12: "the output or the index is too short",
     13: "no such line",
     14: "the list is full: it has 64 lines",
+    15: "the text is no clause file: it has another form",
+    16: "the clause file is too large for a book: its options, clauses, nodes or weight",
 }
 
 LIBRARY = Path(__file__).resolve().parent.parent / "target/library/libnibdrumlin_sheets.so"
@@ -66,7 +69,7 @@ LIBRARY = Path(__file__).resolve().parent.parent / "target/library/libnibdrumlin
 SIGNATURES = {
     "nd_book_check": "b", "nd_code_lookup": "bb", "nd_load": "bS", "nd_write": "sbB",
     "nd_report": "sB", "nd_complete": "sbl2", "nd_index": "sS", "nd_key": "SLCS8?",
-    "nd_withdraw": "SbLCS8", "nd_step": "SS8888", "nd_run": "SS8"}
+    "nd_withdraw": "SbLCS8", "nd_step": "SS8888", "nd_run": "SS8", "nd_import": "bB"}
 NUMBERS = {"2": ctypes.c_uint16, "8": ctypes.c_uint64, "?": ctypes.c_bool}
 SIZES = {"b": 1, "B": 1, "s": 2, "S": 2, "C": 2}
 
@@ -91,7 +94,7 @@ class Refused(Exception):
 
 
 class LibraryMissing(Exception):
-    """The shared library is not there; the message says what to run."""
+    """The shared library is not there, or has not all functions; the message says what to run."""
 
 
 class State(IntEnum):
@@ -141,13 +144,15 @@ def _functions() -> Dict[str, Any]:
     if not path.is_file():
         raise LibraryMissing("no %s: run 'tools/build-library' first, or name the library in "
                              "NIBDRUMLIN_LIBRARY" % path)
-    library = ctypes.CDLL(str(path.resolve()))
-    functions = {}
-    for name, letters in SIGNATURES.items():
-        function = library[name]
+    try:
+        library = ctypes.CDLL(str(path.resolve()))
+        functions = {name: library[name] for name in SIGNATURES}
+    except (OSError, AttributeError) as error:  # no library at all, or one from before a call
+        raise LibraryMissing("%s is no library of these calls (%s): run 'tools/build-library' again"
+                             % (path, error)) from None
+    for name, function in functions.items():
         function.restype = ctypes.c_uint64
-        function.argtypes = [kind for letter in letters for kind in _types(letter)]
-        functions[name] = function
+        function.argtypes = [kind for letter in SIGNATURES[name] for kind in _types(letter)]
     return functions
 
 
@@ -228,6 +233,12 @@ def nd_code_lookup(book: Lent, code: Lent) -> int:
     return _call("nd_code_lookup", book, code)
 
 
+def nd_import(text: Lent, out: Lent) -> int:
+    """Makes a book of a clause file, at the start of `out`, whose rest stays, and answers its
+    length, BOOK_LONGEST at most. Refused 15, 16, 12."""
+    return _call("nd_import", text, out)
+
+
 def nd_load(book: Lent, sheet: Lent) -> None:
     """Fills the 4,098 numbers of the sheet from the book. Refused 11, 1 to 6."""
     _call("nd_load", book, sheet)
@@ -301,6 +312,13 @@ class Book:
     def from_file(cls, path: Union[str, "os.PathLike[str]"]) -> "Book":
         """The book in a file."""
         return cls(Path(path).read_bytes())
+
+    @classmethod
+    def from_clauses(cls, text: Lent) -> "Book":
+        """The book of a clause file (DIMACS CNF) of any length: a rule for each clause, and the
+        codes V1, V2 and so on; refused 15, 16."""
+        out = bytearray(BOOK_LONGEST)
+        return cls(memoryview(out)[:nd_import(text, out)])
 
     @staticmethod
     def check(data: Lent) -> None:

@@ -1,8 +1,10 @@
-//! Links the static libraries that hold every call on books, on sheets and on the lines of orders.
+//! Links the static libraries that hold every call on books, on clause files, on sheets and on the
+//! lines of orders.
 //!
 //! `tools/build-library`, run at the repository's top, writes them to
-//! `target/staticlib/libc_calls.a`, `libc_sheet_calls.a` and `libc_line_calls.a`.  The
-//! environment variable `ND_STATICLIB_DIR` names another folder to take them from.
+//! `target/staticlib/libc_calls.a`, `libc_book_calls.a`, `libc_sheet_calls.a` and
+//! `libc_line_calls.a`.  The environment variable `ND_STATICLIB_DIR` names another folder to take
+//! them from.
 
 use std::env;
 use std::path::{Path, PathBuf};
@@ -30,6 +32,7 @@ fn main() {
     println!("cargo:rerun-if-env-changed=ND_STATICLIB_DIR");
     println!("cargo:rustc-link-search=native={}", folder.display());
     link(&folder, "c_calls");
+    link(&folder, "c_book_calls");
     link(&folder, "c_sheet_calls");
     link(&folder, "c_line_calls");
 }

@@ -1,5 +1,6 @@
 """The program as it is called: its output, its status, and the files that it leaves."""
 import os
+import re
 import subprocess
 import sys
 import tempfile
@@ -9,15 +10,16 @@ from xml.etree import ElementTree
 
 from bookfile import checking, files
 
-from book import TOP, Failed, check
+from book import LIBRARY, TOP, Failed, check
 from book.nests import DEEPEST, nest
 
 TOOL, EXAMPLES = str(TOP / "tools/book"), TOP / "examples"
 
 
-def call(*arguments, status=0):
+def call(*arguments, status=0, library=LIBRARY):
     """What the program prints; where it fails, its one line of standard error."""
-    done = subprocess.run([sys.executable, TOOL, *map(str, arguments)], capture_output=True, check=False)
+    done = subprocess.run([sys.executable, TOOL, *map(str, arguments)], capture_output=True, check=False,
+                          env=dict(os.environ, NIBDRUMLIN_LIBRARY=str(library)))
     printed, told = done.stdout.decode(), done.stderr.decode()
     check(done.returncode == status, arguments, "ends with", done.returncode, told)
     check("Traceback" not in told, arguments, told)
@@ -59,6 +61,10 @@ def refused_files(folder):
             (("make", EXAMPLES / "meter.txt", "/dev/null"), "/dev/null: cannot be written: it is no plain file"),
             (("show", target), "target.bin: refused 2: byte 0: the head says 29,537 options; 512 is the most"),
             (("draw", target, "-o", target), "target.bin: refused 2"), (("diff", EXAMPLES / "book.bin", target), "refused 2"),
+            (("import", folder / "none.cnf", target), "none.cnf: cannot be read: No such file or directory"),
+            (("import", folder, target), "cannot be read: Is a directory"), (("import", text), "required: BOOK"),
+            (("import", EXAMPLES / "valves.cnf", folder / "no" / "book.bin"), "book.bin: cannot be written: No such file or directory"),
+            (("import", EXAMPLES / "valves.cnf", "/dev/null"), "/dev/null: cannot be written: it is no plain file"),
             (("check", folder / "none.bin"), "none.bin: cannot be read"), (("mkae", text, target), "invalid choice"),
             (("make", text), "required: BOOK"), ((), "required: VERB")):
         told = call(*arguments, status=1)
@@ -79,6 +85,42 @@ def refused_writing(folder, target):
     with open("/dev/full", "wb") as full:
         done = subprocess.run([sys.executable, TOOL, "show", str(EXAMPLES / "book.bin")], stdout=full, stderr=subprocess.PIPE, check=False)
     check((done.returncode, done.stderr) == (1, b"standard output: cannot be written: No space left on device\n"), done)
+
+
+def refused_clauses(folder):
+    """A clause file that is refused: where and why in one line, and the book that stood there stays. So it does without a library."""
+    clauses, target = folder / "bad.cnf", folder / "target.bin"
+    target.write_bytes((EXAMPLES / "book.bin").read_bytes())
+    for text, due in (
+            (b"c one\r\np cnf 2 2\r\n1 0\r\n2 3 0\r\n", ":4:3: refused 15: a mark is a number from 1 to V, and V is 2; this is 3"),
+            (b"p cnf 1 2\n1 0\n", ":3:1: refused 15: a clause is expected, since C is 2; here the text ends, after 1 clause"),
+            (b"p cnf 1 1\n+1 0", ":2:1: refused 15: a number has no plus"),
+            (b"p cnf 600 1\n" + b"1 " * 2048 + b"0", ": refused 16: V, the number of options, is 600; 512 is the most; "
+             "the weight (1, C and twice the marks) is 4,098; 4,096 is the most")):
+        clauses.write_bytes(text)
+        check(call("import", clauses, target, status=1) == "%s%s\n" % (clauses, due), "another message than", due)
+    clauses.write_bytes(b"p cnf 1 0")
+    for library in (folder / "none.so", clauses):
+        told = call("import", clauses, target, status=1, library=library)
+        check(str(library) in told and "tools/build-library" in told, "without a library the tool says", told)
+    check(target.read_bytes() == (EXAMPLES / "book.bin").read_bytes(), "a refused clause file changed the book that stood there")
+    check(sorted(os.listdir(folder)) == ["bad.cnf", "target.bin"], "a refused clause file left its traces")
+
+
+def imported_files(folder):
+    """The sample of clauses: a book with a rule for each, which is shown, checked and made again like any other."""
+    made, text = folder / "valves.bin", folder / "shown.txt"
+    made.write_bytes(b"old")
+    call("import", EXAMPLES / "valves.cnf", made)
+    shown = call("show", made)
+    sizes = re.search(r"^p cnf (\d+) (\d+)$", (EXAMPLES / "valves.cnf").read_text(), re.M).groups()
+    check((shown.count("option V"), shown.count("rule any(")) == tuple(map(int, sizes)), "the sample of clauses is shown as", shown)
+    text.write_text(shown)
+    call("make", text, folder / "again.bin")
+    check((folder / "again.bin").read_bytes() == made.read_bytes(), "the sample of clauses shown and made again is another book")
+    check("accepted" in call("check", made), "the book of the sample of clauses is not accepted")
+    for words in ("p cnf 3 2", "without\n  leading zeros", "tools/build-library"):
+        check(words in call("import", "--help"), "the help of import lacks:", words)
 
 
 def written_files(folder):
@@ -164,7 +206,7 @@ def deep_files(folder):
 
 def run(accepted):
     with tempfile.TemporaryDirectory() as name:
-        for part in (sample_books, refused_files, written_files, changes, pictures, deep_files):
+        for part in (sample_books, refused_files, refused_clauses, imported_files, written_files, changes, pictures, deep_files):
             folder = Path(name) / part.__name__
             folder.mkdir()
             part(folder)

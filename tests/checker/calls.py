@@ -4,10 +4,10 @@ Buffers are lists of numbers and are not changed in place; `buffers after` is th
 that the call may write, as it leaves them. Arguments are unsigned and of any size: none is narrowed
 before it is compared. The lines of an order are a buffer of (option, barred), their count a buffer
 of one number (to complete, which changes nothing, a number), and an index of mentions is None where
-none is lent. Values: lookup, the option; write, the length; run, 2 x count and 1 more if settled;
-report, 1 if contradictory; complete, 1 if so; the others, 0.
+none is lent. Values: lookup, the option; write and import_, the length; run, 2 x count and 1 more
+if settled; report, 1 if contradictory; complete, 1 if so; the others, 0.
 """
-from . import Refused, books, keying, meaning, mentions, rules, sheets
+from . import Refused, books, clause_files, keying, meaning, mentions, rules, sheets
 
 
 def answer(work, *lent):
@@ -78,3 +78,7 @@ def report(sheet, output):
 
 def complete(sheet, book, lines, count):
     return answer(lambda: (meaning.complete(sheet, book, lines, count),))
+
+
+def import_(text, output):
+    return answer(lambda: clause_files.import_text(text, output), output)

@@ -9,7 +9,8 @@ from pathlib import Path
 if not __package__:
     sys.path.insert(0, str(Path(__file__).resolve().parent.parent))
 from checker import (calls, desk, keying, meaning, rules, selftest_at_least, selftest_complete,
-                     selftest_every, selftest_keying, selftest_lists, selftest_mentions, sheets)
+                     selftest_every, selftest_import, selftest_keying, selftest_lists,
+                     selftest_mentions, sheets)
 from checker.books import build
 from checker.cases import BAD, CASES, CODES, ORDERS, P, Q, STEPS
 from checker.expecting import BLANK, MOST, counted, done, expect, loaded
@@ -187,6 +188,7 @@ def main(books=3000, seed=1):
     selftest_at_least.all_of_them(rng)
     asked = selftest_complete.all_of_them(rng, selftest_lists.random_tree)
     every = selftest_every.all_of_them(rng)
+    imported = selftest_import.all_of_them(random.Random(seed))
     for number in range(books):
         sheet = selftest_lists.check_book(rng, met)
         if number % 100 == 0 and sheet[1] < 12:
@@ -195,10 +197,11 @@ def main(books=3000, seed=1):
     steps = [met[rule] for rule in rules.TABLE]
     print("selftest: %d books and %d orders to try, %d steps, the refusals, %d faults of an index "
           "beside them and %d calls with one and without, %d small sheets with every step from "
-          "them (%d), %d sheets complete or not, and %d random books with %d steps (each rule %d "
-          "times or more), %d keyings, %d withdrawals and %d questions all held, %.0f s" % (
-              len(CASES) + 5, len(ORDERS), len(STEPS), *mentions, *every, asked, books, sum(steps),
-              min(steps), met["key", 0], met["withdraw", 0], met["complete", 0],
+          "them (%d), %d sheets complete or not, %d clause files by hand, %d short and %d random "
+          "ones, and %d random books with %d steps (each rule %d times or more), %d keyings, %d "
+          "withdrawals and %d questions all held, %.0f s" % (
+              len(CASES) + 5, len(ORDERS), len(STEPS), *mentions, *every, asked, *imported, books,
+              sum(steps), min(steps), met["key", 0], met["withdraw", 0], met["complete", 0],
               time.time() - start))
 
 

@@ -7,8 +7,10 @@ books and sheets. refused_orders: those of keyings and withdrawals, damaged line
 "complete" question, by what names which option. mentions: an index filled, kept up to date and
 refused. at_least: node kind 6, its members good and damaged, steps beside its rules. wide: as many
 members as there can be. cases: the papers' own. orders: the order of the rules in the book and of
-an order's lines. theories: larger random theories. desks: the desk program. From the folder above:
-python3 -m driver
+an order's lines. theories: larger random theories. clause_texts: clause files in every style, and
+damaged. clause_faults: each with a fault. imports: all of these imported. import_limits: numbers
+and texts of any length, and the limits. clause_shapes: files as others publish them, and what they
+report. desks: the desk program. From the folder above: python3 -m driver
 """
 
 

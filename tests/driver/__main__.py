@@ -11,16 +11,17 @@ from pathlib import Path
 
 from checker import naming
 
-from . import (Difference, at_least, cases, completes, desks, indexes, lists, mentions, orders,
-               refusals, refused_orders, theories, wide)
+from . import (Difference, at_least, cases, clause_shapes, completes, desks, import_limits, imports,
+               indexes, lists, mentions, orders, refusals, refused_orders, theories, wide)
 from .comparing import CAN_REFUSE, FAULTS, NULL, SAYS, Comparing
 from .library import Library
 
 TOP = Path(__file__).resolve().parent.parent.parent
 DESK = TOP / "target/bin/desk"
 LISTS, ORDERS, THEORIES, DESKS = 20_000, 300, 150, 2_000
+TEXTS, LARGE_TEXTS, CLAUSE_FILES = 500, 450, 300
 ALL = (*cases.ALL, *refusals.ALL, *refused_orders.ALL, *completes.ALL, *mentions.ALL, *at_least.ALL,
-       *wide.ALL)
+       *wide.ALL, *imports.ALL, *import_limits.ALL)
 RANDOM = (*refusals.RANDOM, *refused_orders.RANDOM, *completes.RANDOM, *mentions.RANDOM,
           *at_least.RANDOM, *wide.RANDOM)
 
@@ -55,6 +56,11 @@ def fixed(comparing, desk, share):
     numbered(1, "list", LISTS, lambda rng: lists.one_list(comparing, rng), share)
     numbered(1, "order", ORDERS, lambda rng: orders.one_order(comparing, rng), share)
     numbered(1, "theory", THEORIES, lambda rng: theories.one_theory(comparing, rng), share)
+    numbered(1, "text", TEXTS, lambda rng: imports.one_text(comparing, rng), share)
+    numbered(1, "large text", LARGE_TEXTS, lambda rng: import_limits.one_large(comparing, rng),
+             share)
+    numbered(1, "clause file", CLAUSE_FILES, lambda rng: clause_shapes.one_file(comparing, rng),
+             share)
     if desk:
         numbered(1, "desk", DESKS, lambda rng: desks.one_desk(comparing, desk, rng), share)
 
@@ -100,6 +106,9 @@ def soak(comparing, desk, seconds):
         numbered(part, "list", 2000, lambda rng: lists.one_list(comparing, rng))
         numbered(part, "order", 50, lambda rng: orders.one_order(comparing, rng))
         numbered(part, "theory", 50, lambda rng: theories.one_theory(comparing, rng))
+        numbered(part, "text", 50, lambda rng: imports.one_text(comparing, rng))
+        numbered(part, "large text", 50, lambda rng: import_limits.one_large(comparing, rng))
+        numbered(part, "clause file", 50, lambda rng: clause_shapes.one_file(comparing, rng))
         if desk:
             numbered(part, "desk", 200, lambda rng: desks.one_desk(comparing, desk, rng))
         rounds += 1
@@ -122,6 +131,8 @@ def due_counts(desk):
     # Each kind of answer to "complete", by what names which option, and each way of asking it.
     least.update({kind: LISTS // 400 for kind in naming.KINDS})
     least.update({kind: LISTS // 100 for kind in lists.QUESTIONS})
+    # Each form of a clause file, each fault of one, each limit that can decide; what files derive.
+    least.update({**imports.due_counts(TEXTS), **clause_shapes.due_counts(CLAUSE_FILES)})
     # Every answer of every call. (A code that is found is a lookup accepted, one that is not is 7.)
     least.update({(call, number): 1 for call in CAN_REFUSE for number in [0] + CAN_REFUSE[call]})
     least.update({(call, said): 1 for call in SAYS for said in SAYS[call]})
@@ -143,7 +154,8 @@ def tell(seen):
         print("  %s beside no refusal or one: %s" % (fault, ", ".join(
             "%s %d: %d" % (call, own, seen[call, fault, own])
             for call, kind, own in FAULTS if kind == fault)))
-    words = sorted(key for key in seen if isinstance(key, str))
+    imports.tell(seen)
+    words = sorted(key for key in seen if isinstance(key, str) and key not in imports.KINDS)
     print("  " + ", ".join("%s %d" % (word, seen[word]) for word in words))
 
 

@@ -12,7 +12,7 @@ CAN_REFUSE = {
     "check": [1, 2, 3, 4, 5, 6], "lookup": [1, 2, 3, 4, 5, 6, 7], "load": [11, 1, 2, 3, 4, 5, 6],
     "write": [11, 1, 2, 3, 4, 5, 6, 12], "report": [11, 12], "complete": [11, 1, 2, 3, 4, 5, 6],
     "key": [11, 14, 7, 8, 12], "withdraw": [11, 1, 2, 3, 4, 5, 6, 13, 8, 12],
-    "step": [11, 9, 10, 12], "run": [11, 12], "index": [11, 12]}
+    "step": [11, 9, 10, 12], "run": [11, 12], "index": [11, 12], "import_": [15, 16, 12]}
 
 # What a call with an index can be refused without one, where there is a sheet to count: of these
 # each, and none, must stand beside each fault of an index.

@@ -16,7 +16,8 @@ CALLS = {
     "load": ("nd_load", "bS"), "write": ("nd_write", "sbB"),
     "report": ("nd_report", "sB"), "complete": ("nd_complete", "sbl2"),
     "key": ("nd_key", "SLCI8?"), "withdraw": ("nd_withdraw", "SbLCI8"),
-    "step": ("nd_step", "SI8888"), "run": ("nd_run", "SI8"), "index": ("nd_index", "sI")}
+    "step": ("nd_step", "SI8888"), "run": ("nd_run", "SI8"), "index": ("nd_index", "sI"),
+    "import_": ("nd_import", "bB")}
 RUN = (ctypes.c_void_p, ctypes.c_size_t)
 ARGUMENTS = {"b": RUN, "B": RUN, "s": RUN, "S": RUN, "l": RUN, "L": RUN, "I": RUN,
              "C": (ctypes.c_void_p,), "2": (ctypes.c_uint16,), "8": (ctypes.c_uint64,),
@@ -68,6 +69,16 @@ class Lent:
     def promised(self):
         """All bytes that a promise speaks of."""
         return self.memory
+
+
+class NoBytes(Lent):
+    """No bytes, by a null pointer."""
+
+    def __init__(self):
+        super().__init__([])
+
+    def arguments(self):
+        return [None, 0]
 
 
 class Numbers(Lent):

@@ -3,6 +3,7 @@
 module: every call and refusal by python/nibdrumlin.py, reports beside the checker's. refusing: the
 refused calls. lending: the memory that is lent. orders: the examples beside the desk program.
 examples: those that take words, changes: the one that takes lines back, mentions: the one that
-tells how often each option is named, reserved: the one that asks whether an order is complete.
-stack.c: the stack that each call needs. All of it: tests/library/run
+tells how often each option is named, reserved: the one that asks whether an order is complete,
+imports: the one that makes a book of a clause file. stack.c: the stack that each call needs. All of
+it: tests/library/run
 """

@@ -1,5 +1,5 @@
-"""The examples in C that take a book and words: what each prints, as C and as C++, beside what is
-due; what examples/README.md shows of it; and a choice as all of them key it."""
+"""The examples in C that take a file, mostly a book, and words: what each prints, as C and as C++,
+beside what is due; what examples/README.md shows of it; and a choice as all of them key it."""
 import re
 import subprocess
 import tempfile

@@ -1,5 +1,5 @@
 """The Python module: every refusal that each call can give, memory beside and under what is lent,
-orders, reports, runs and indexes beside the checker's. From the folder above:
+orders, reports, runs, indexes and imports beside the checker's. From the folder above:
 python3 -m library.module"""
 import ctypes
 import random
@@ -8,7 +8,7 @@ import time
 from array import array
 from pathlib import Path
 
-from checker import calls
+from checker import calls, clause_files
 from checker.books import build
 from checker.cases import CASES, CODES, COMPLETE, ORDERS, P, Q, R
 from checker.keying import SLOTS
@@ -19,8 +19,9 @@ from driver.comparing import CAN_REFUSE
 from driver.indexes import PAST, fresh_count
 from driver.making import random_book
 from library.lending import SPARE, Lent, asked, lend, slots
-from library.refusing import (AT, BAD_BOOKS, BLANK, BOOK, FULL_BOOK, INDEX, LINES, NO_SHEETS,
-                              OTHER_BOOK, SHEET, all_refusals)
+from library.refusing import (AT, BAD_BOOKS, BLANK, BOOK, CLAUSES, CLAUSES_LENGTH, FULL_BOOK, INDEX,
+                              LINES, NO_CLAUSE_FILES, NO_SHEETS, OTHER_BOOK, SHEET, TOO_LARGE,
+                              all_refusals)
 
 sys.path.insert(0, str(Path(__file__).resolve().parent.parent.parent / "python"))
 import nibdrumlin  # noqa: E402
@@ -29,7 +30,7 @@ from nibdrumlin import Book, LibraryMissing, Order, Refused, Slot, State  # noqa
 MOST = 2 ** 64 - 1
 RANDOM_BOOKS = 150
 SECONDS = 3
-SYMBOLS = {"check": "nd_book_check", "lookup": "nd_code_lookup"}
+SYMBOLS = {"check": "nd_book_check", "lookup": "nd_code_lookup", "import_": "nd_import"}
 
 
 class Failed(Exception):
@@ -121,6 +122,29 @@ def check_books():
         expect(number_of(book.lookup, code) == 7, "Book: lookup of %r" % code)
     none = Book(bytes(8))
     expect((none.options, none.codes) == (0, ()), "Book: eight zero bytes")
+
+
+def check_imports():
+    """nd_import writes the checker's book and nothing beside it; Book.from_clauses, whatever memory
+    holds the text and however long it is, is that book, and orders of it go by its clauses."""
+    due = clause_files.book_of(CLAUSES)
+    for spare in (0, 1, 40):
+        text, out = Lent(CLAUSES), Lent(b"\x09" * (CLAUSES_LENGTH + spare))
+        expect(nibdrumlin.nd_import(text.part, out.part) == CLAUSES_LENGTH, "nd_import: its length")
+        expect(out.part.tobytes() == due + b"\x09" * spare, "nd_import: the bytes, or those beyond")
+        expect(text.is_unchanged() and out.has_guards(), "nd_import: other memory was written")
+    for text in (CLAUSES, bytearray(CLAUSES), memoryview(CLAUSES), array("B", CLAUSES),
+                 b"c%s\n" % (b"\xff" * 3_000_000) + CLAUSES, CLAUSES + b"\r\n\t " * 500_000):
+        expect(Book.from_clauses(text).data == due, "Book.from_clauses: its bytes")
+    for number, texts in ((15, NO_CLAUSE_FILES), (16, TOO_LARGE)):
+        for text in texts:
+            expect(number_of(Book.from_clauses, text) == number, "a clause file, due %d" % number)
+    longest = b"p cnf 512 4095\n" + b"0\n" * 4095
+    expect(len(Book.from_clauses(longest).data) == nibdrumlin.BOOK_LONGEST, "the longest book")
+    order = Order(Book.from_clauses(b"p cnf 3 2\n1 -2 0\n2 3 0\n"))
+    order.key("V1", barred=True)
+    expect(list(order.report().states.items()) == [("V1", 2), ("V2", 2), ("V3", 1)],
+           "an order of imported clauses")
 
 
 def check_refused_orders():
@@ -258,6 +282,10 @@ def check_misuse():
             ("an index of bytes", TypeError, nibdrumlin.nd_run, (order.numbers, bytearray(9), 0)),
             ("an index that is read-only", TypeError, nibdrumlin.nd_step,
              (order.numbers, memoryview(index).toreadonly(), 0, 0, 0, 0)),
+            ("a text of characters", TypeError, Book.from_clauses, ("p cnf 0 0",)),
+            ("a text of 16-bit numbers", TypeError, Book.from_clauses, (array("H", [112]),)),
+            ("a book's room that is read-only", TypeError, nibdrumlin.nd_import,
+             (CLAUSES, bytes(CLAUSES_LENGTH))),
             ("a negative budget", ValueError, order.run, (-1,))]:
         expect(raises(error, work, *arguments), "%s: %s is due" % (name, error.__name__))
     expect(issubclass(LibraryMissing, Exception) and not issubclass(LibraryMissing, Refused),
@@ -320,6 +348,7 @@ def main():
         refusals = check_refusals()
         check_accepted()
         check_books()
+        check_imports()
         check_refused_orders()
         check_kept_orders()
         orders = check_orders()

@@ -44,14 +44,15 @@ def compare(programs):
 
 
 def check_missing():
-    """Without the library the example says in one line what to run."""
-    ran = subprocess.run([str(PROGRAMS["Python"]), str(TOP / "examples/book.bin")], input=b"",
-                         env=dict(os.environ, NIBDRUMLIN_LIBRARY="/nowhere"), capture_output=True,
-                         timeout=60)
-    if ran.returncode != 1 or ran.stdout or ran.stderr.count(b"\n") != 1:
-        raise Difference("no library: status %d, said %r" % (ran.returncode, ran.stderr))
-    if b"tools/build-library" not in ran.stderr:
-        raise Difference("no library: %r does not say what to run" % ran.stderr)
+    """Without a library, or with a file that is none, the example says in one line what to run."""
+    for library in ("/nowhere", str(PROGRAMS["Python"])):
+        ran = subprocess.run([str(PROGRAMS["Python"]), str(TOP / "examples/book.bin")], input=b"",
+                             env=dict(os.environ, NIBDRUMLIN_LIBRARY=library), capture_output=True,
+                             timeout=60)
+        if ran.returncode != 1 or ran.stdout or ran.stderr.count(b"\n") != 1:
+            raise Difference("no library: status %d, said %r" % (ran.returncode, ran.stderr))
+        if b"tools/build-library" not in ran.stderr:
+            raise Difference("no library: %r does not say what to run" % ran.stderr)
 
 
 def main():

@@ -1,5 +1,5 @@
-"""Calls that are refused, each with the refusal due: every fault of a book, of a sheet, of lines
-and of an index, alone and beside others."""
+"""Calls that are refused, each with the refusal due: every fault of a book, of a sheet, of lines,
+of an index and of a clause file, alone and beside others."""
 from checker import calls
 from checker.books import build
 from checker.cases import NOT_P, P, Q
@@ -48,6 +48,33 @@ BAD_BOOKS = [
 BAD_LINES = [(Lines(LINES), Count(2)), (Lines(SPARE + SPARE[:1]), Count(0)), (Lines(), Count(0)),
              (Lines([(0, True)] * 64), Count(65)), (Lines([(0, True)] * 64), Count(65_535)),
              slots([(2, False)]), slots([(0, True), (65_535, False)])]
+
+
+CLAUSES = b"c two options\r\np cnf 2 3\n1 -2 0\n\t2 2\r\n0 0"
+CLAUSES_LENGTH = 8 + 13 * 2 + 4 * 3 + 2 * 7  # of its book: three clauses and four marks
+# Texts of another form, each by one fault.
+NO_CLAUSE_FILES = [
+    b"", b"c", CLAUSES[:-1], CLAUSES[:-2], CLAUSES + b" 1", CLAUSES + b" 0", CLAUSES + b"\nc",
+    CLAUSES + b"\r", b"\n" + CLAUSES, b" " + CLAUSES] + [CLAUSES.replace(old, new) for old, new in (
+        (b"p cnf", b"p  cnf"), (b"p cnf", b"p\tcnf"), (b"2 3", b"02 3"), (b"2 3", b"2 3 "),
+        (b"-2", b"-3"), (b"-2", b"- 2"), (b"-2", b"+2"), (b"-2 0", b"-0"), (b"1 -2", b"1-2"),
+        (b"1 -2", b"1\r-2"), (b"-2", b"-%d" % (2 ** 64 + 2)), (b"-2", b"-%d" % 10 ** 60))]
+# Clause files that no book has room for: by their options; by their clauses, nodes and weight.
+TOO_LARGE = [b"p cnf 513 0", b"p cnf %d 1\n%d 0" % (2 ** 64 + 2, 2 ** 64),
+             b"p cnf 0 4096\n" + b"0 " * 4096, b"p cnf 1 1\n" + b"1 " * 2048 + b"0",
+             b"p cnf 1 1\n" + b"-1\n" * 4095 + b"0"]
+
+
+def import_refusals():
+    """(call, refusal due, arguments) for every fault of a clause file, and an output too short."""
+    for out in (b"", b"\x09" * (CLAUSES_LENGTH - 1), b"\x09" * 31_234):
+        for text in NO_CLAUSE_FILES:
+            yield "import_", 15, (text, out)
+        for text in TOO_LARGE:
+            yield "import_", 16, (text, out)
+            yield "import_", 15, (text + b"-", out)  # 15 goes first
+    for length in range(CLAUSES_LENGTH):
+        yield "import_", 12, (CLAUSES, b"\x09" * length)
 
 
 def book_refusals():
@@ -135,4 +162,5 @@ def index_refusals():
 
 
 def all_refusals():
-    return [*book_refusals(), *sheet_refusals(), *order_refusals(), *index_refusals()]
+    return [*book_refusals(), *sheet_refusals(), *order_refusals(), *index_refusals(),
+            *import_refusals()]

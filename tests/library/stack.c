@@ -27,7 +27,8 @@ typedef char line_is_four_bytes[sizeof(struct nd_line) == 4 ? 1 : -1];
 typedef char negative_is_the_third[offsetof(struct nd_line, negative) == 2 ? 1 : -1];
 
 enum call {
-    NOTHING, CHECK, LOOKUP, LOAD, WRITE, INDEX, KEY, WITHDRAW, STEP, RUN, REPORT, COMPLETE, CALLS
+    NOTHING, CHECK, LOOKUP, IMPORT, LOAD, WRITE, INDEX, KEY, WITHDRAW, STEP, RUN, REPORT, COMPLETE,
+    CALLS
 };
 
 static const struct {
@@ -37,6 +38,7 @@ static const struct {
     {"no call", MARGIN},
     {"nd_book_check", ND_STACK_BOOK},
     {"nd_code_lookup", ND_STACK_BOOK},
+    {"nd_import", ND_STACK_SHEET},
     {"nd_load", ND_STACK_SHEET},
     {"nd_write", ND_STACK_SHEET},
     {"nd_index", ND_STACK_SHEET},
@@ -56,6 +58,8 @@ static struct {
 
 static uint8_t book[ND_BOOK_LONGEST], written[ND_BOOK_LONGEST], states[ND_OPTIONS_MOST];
 static size_t book_len;
+static char text[65536]; /* a clause file */
+static size_t text_len;
 static uint16_t sheet[ND_SHEET_LENGTH], count, mentions[2 * ND_OPTIONS_MOST];
 static struct nd_line lines[ND_LINES_MOST];
 static uint64_t step[4], answer;
@@ -81,6 +85,9 @@ static void make_call(void)
     switch (current) {
     case CHECK: answer = nd_book_check(book, book_len); break;
     case LOOKUP: answer = nd_code_lookup(book, book_len, (const uint8_t *)"C511", 4); break;
+    case IMPORT:
+        answer = nd_import((const uint8_t *)text, text_len, written, sizeof written);
+        break;
     case LOAD: answer = nd_load(book, book_len, sheet, ND_SHEET_LENGTH); break;
     case WRITE:
         answer = nd_write(sheet, ND_SHEET_LENGTH, book, book_len, written, sizeof written);
@@ -362,7 +369,34 @@ static void measure_withdrawals(void)
     measure(WITHDRAW, 0);
 }
 
-/* Every call on one book of 512 options. */
+/* A clause file of 512 options and so many clauses, of so many marks each, is measured. */
+static void measure_import(size_t clauses, size_t marks, unsigned allowed)
+{
+    text_len = (size_t)sprintf(text, "c full size\r\np cnf 512 %u\r\n", (unsigned)clauses);
+    for (size_t clause = 0; clause < clauses; clause++) {
+        for (size_t mark = 0; mark < marks; mark++)
+            text_len += (size_t)sprintf(text + text_len, "%s%u\t", mark % 2 == 0 ? "" : "-",
+                                        (unsigned)((clause + mark) % 512 + 1));
+        text_len += (size_t)sprintf(text + text_len, "0\r\n");
+    }
+    measure(IMPORT, allowed);
+    if (nd_refusal(answer) != allowed)
+        fail("an import is not refused as it is due");
+}
+
+/* As many clauses, as many marks and as much weight as can be; a mark too many, and a text that is
+ * no clause file only at its end. */
+static void measure_imports(void)
+{
+    measure_import(4095, 0, 0);
+    measure_import(1365, 1, 0);
+    measure_import(1, 2047, 0);
+    measure_import(1, 2048, 16);
+    text_len -= 3; /* its last 0 and the line end */
+    measure(IMPORT, 15);
+}
+
+/* Every other call on one book of 512 options. */
 static void measure_shape(size_t shape)
 {
     begin_book(512);
@@ -393,6 +427,7 @@ int main(void)
 
     for (size_t at = 0; at < sizeof shapes / sizeof shapes[0]; at++)
         measure_shape(at);
+    measure_imports();
     if (whole_lists == 0)
         fail("no line of a list of 64 was taken back");
     for (int rule = 1; rule <= RULES; rule++)

@@ -1,9 +1,9 @@
-//! Links the static libraries that hold the C-callable functions: the two of `c_calls`, and
-//! those of `c_sheet_calls`, on sheets and indexes.
+//! Links the static libraries that hold the C-callable functions: the two of `c_calls`,
+//! those of `c_sheet_calls`, on sheets and indexes, and that of `c_book_calls`, the import.
 //!
-//! `rt staticlib c_calls` and `rt staticlib c_sheet_calls`, run at the repository's top,
-//! write them to `target/staticlib`.  The environment variable `ND_STATICLIB_DIR` names
-//! another folder to take `libc_calls.a` and `libc_sheet_calls.a` from.
+//! `tools/build-library`, run at the repository's top, writes them to `target/staticlib`.
+//! The environment variable `ND_STATICLIB_DIR` names another folder to take `libc_calls.a`,
+//! `libc_sheet_calls.a` and `libc_book_calls.a` from.
 
 use std::env;
 use std::path::PathBuf;
@@ -23,12 +23,12 @@ fn main() {
         );
     };
     println!("cargo:rustc-link-search=native={}", folder.display());
-    for name in ["c_calls", "c_sheet_calls"] {
+    for name in ["c_calls", "c_sheet_calls", "c_book_calls"] {
         let archive = folder.join(format!("lib{name}.a"));
         println!("cargo:rerun-if-changed={}", archive.display());
         if !archive.is_file() {
             panic!(
-                "no {}: run `rt staticlib {name}` at the repository's top",
+                "no {}: run `tools/build-library` at the repository's top",
                 archive.display()
             );
         }

@@ -3,7 +3,7 @@ import argparse
 import os
 import sys
 
-from . import Mistake, books, checking, comparing, drawing, files, notation, showing
+from . import Mistake, books, checking, clause_text, comparing, drawing, files, importing, notation, showing
 from .checking import Refused, counted, in_thousands
 from .words import NotationMistake
 
@@ -44,6 +44,30 @@ Options, rules, nodes and bytes are counted from 0, as document 01 counts them.
 Exit status: 0 done (of diff, whether or not there is a difference), 1 refused or not
 understood: one line says why and where, and every file is as it was."""
 
+CLAUSE_FILE = """\
+a clause file (DIMACS CNF):
+  c comment lines, as many as one likes, before all else
+  p cnf 3 2
+  1 -2 0
+  2 3 0
+
+  The p line gives V, the number of options, and C, the number of clauses, with single
+  spaces. Then come C clauses, each a row of marks closed by 0: numbers 1 to V, with a
+  minus directly before it where the option is barred. Numbers are decimal, without
+  leading zeros and without a plus. After the p line any spaces, tabs and line ends may
+  stand before and after numbers, at least one between two, and nothing else. A line
+  ends at byte 10, with or without byte 13 directly before it.
+
+  Option v - 1 gets the code V and v: V1, V2 and so on. Each clause becomes a rule, an
+  any(..) of its marks in their order. A book has room for 512 options, 4,095 clauses and
+  a weight (1, the clauses and twice the marks) of 4,096.
+
+The book is made by the library's nd_import: run tools/build-library first. Lines and
+columns are counted from 1. Exit status: 0 done, 1 refused: one line says why and where,
+and every file is as it was."""
+
+EPILOGS = {"make": NOTATION, "show": NOTATION, "import": CLAUSE_FILE}
+
 
 class Parser(argparse.ArgumentParser):
     def error(self, message):
@@ -74,16 +98,17 @@ def drop_output():
 
 
 def parser():
-    top = Parser(prog="book", description="Option books: made from a text, shown, checked, compared and drawn.",
+    top = Parser(prog="book", description="Option books: made from a text or from clauses, shown, checked, compared and drawn.",
                  epilog=NOTATION, formatter_class=argparse.RawDescriptionHelpFormatter)
     verbs = top.add_subparsers(title="verbs", metavar="VERB", required=True)
     for name, work, names, words in (
             ("make", make, ("TEXT", "BOOK"), "write the book that a text describes"),
+            ("import", import_clauses, ("CLAUSES", "BOOK"), "write the book of a clause file (DIMACS CNF)"),
             ("show", show, ("BOOK",), "print the text of a book; `make` gives the same bytes again"),
             ("check", check, ("BOOK",), "say whether a file is a book, and if not, why and where; if so, the room used"),
             ("diff", diff, ("OLD", "NEW"), "say which options and rules were added, removed and moved"),
             ("draw", draw, ("BOOK",), "draw the rules as trees (SVG)")):
-        verb = verbs.add_parser(name, help=words, description=words, epilog=NOTATION if name in ("make", "show") else None,
+        verb = verbs.add_parser(name, help=words, description=words, epilog=EPILOGS.get(name),
                                 formatter_class=argparse.RawDescriptionHelpFormatter)
         for each in names:
             verb.add_argument(each)
@@ -98,10 +123,26 @@ def make(given):
         book = notation.book_of(files.read(given.TEXT))
     except NotationMistake as mistake:
         raise Mistake("%s:%d:%d: %s" % (given.TEXT, mistake.line, mistake.column, mistake)) from None
+    write_book(given.BOOK, books.to_bytes(book))
+
+
+def import_clauses(given):
+    text = files.read(given.CLAUSES)
     try:
-        files.write(given.BOOK, books.to_bytes(book), checking.read)
+        data = importing.book_of(text)
+    except clause_text.Fault as fault:
+        line, column = clause_text.place(text, fault.at)
+        raise Mistake("%s:%d:%d: %s" % (given.CLAUSES, line, column, Refused(importing.NO_CLAUSE_FILE, fault))) from None
+    except Refused as refusal:
+        raise Mistake("%s: %s" % (given.CLAUSES, refusal)) from None
+    write_book(given.BOOK, data)
+
+
+def write_book(path, data):
+    try:
+        files.write(path, data, checking.read)
     except Refused as refusal:  # the text was accepted, so this is a fault of the tool or of the disk
-        raise Mistake("%s: not written, since what was made is no book: %s" % (given.BOOK, refusal)) from None
+        raise Mistake("%s: not written, since what was made is no book: %s" % (path, refusal)) from None
 
 
 def show(given):

@@ -1,7 +1,7 @@
 //! The time of the library's book check and code lookup next to plain Rust's by the same
 //! methods, and to the Rust reference's.
 //!
-//!     rt staticlib c_calls                                        at the repository's top
+//!     tools/build-library                                         at the repository's top
 //!     cd bench/books && cargo run --release --offline --locked
 
 #[path = "../../sheets/src/at_least.rs"]

@@ -2,6 +2,7 @@
 
 use crate::completes::Asked;
 use crate::figures::time;
+use crate::imports;
 use crate::measure::mean;
 use crate::rows::Row;
 
@@ -15,15 +16,18 @@ enum Kind {
     Mean,
 }
 
+/// The value of a row, if it has one that is held to a bar.
+type Value<R> = fn(&R) -> Option<f64>;
+
 /// A bar, and the value of the rows that have one.
-struct Bar {
+struct Bar<R> {
     said: &'static str,
     limit: f64,
     kind: Kind,
-    of: fn(&Row) -> Option<f64>,
+    of: Value<R>,
 }
 
-const fn bar(kind: Kind, said: &'static str, limit: f64, of: fn(&Row) -> Option<f64>) -> Bar {
+const fn bar<R>(kind: Kind, said: &'static str, limit: f64, of: Value<R>) -> Bar<R> {
     Bar {
         said,
         limit,
@@ -32,15 +36,15 @@ const fn bar(kind: Kind, said: &'static str, limit: f64, of: fn(&Row) -> Option<
     }
 }
 
-const fn ratio(said: &'static str, limit: f64, of: fn(&Row) -> Option<f64>) -> Bar {
+const fn ratio<R>(said: &'static str, limit: f64, of: Value<R>) -> Bar<R> {
     bar(Kind::Ratio, said, limit, of)
 }
 
-const fn seconds(said: &'static str, limit: f64, of: fn(&Row) -> Option<f64>) -> Bar {
+const fn seconds<R>(said: &'static str, limit: f64, of: Value<R>) -> Bar<R> {
     bar(Kind::Time, said, limit, of)
 }
 
-const BARS: [Bar; 16] = [
+const BARS: [Bar<Row>; 16] = [
     ratio("run, times plain Rust by bounds: at most 3", 3.0, |row| {
         is_full(row).then_some(row.run[0] / row.run[1])
     }),
@@ -115,6 +119,37 @@ const BARS: [Bar; 16] = [
     }),
 ];
 
+/// The bars of imports, of whatever weight.
+const IMPORT_BARS: [Bar<imports::Row>; 2] = [
+    ratio(
+        "import of 1 MB of comments and 4,000 numbers or fewer, times plain Rust: at most 2",
+        2.0,
+        |row| row.is_mostly_comments().then_some(row.ratio()),
+    ),
+    ratio(
+        "import of any clause file measured, times plain Rust: at most 4",
+        4.0,
+        |row| Some(row.ratio()),
+    ),
+];
+
+/// A row that is told by its name.
+trait Named {
+    fn name(&self) -> &str;
+}
+
+impl Named for Row {
+    fn name(&self) -> &str {
+        &self.name
+    }
+}
+
+impl Named for imports::Row {
+    fn name(&self) -> &str {
+        self.name
+    }
+}
+
 fn is_full(row: &Row) -> bool {
     row.weight == FULL
 }
@@ -141,25 +176,25 @@ fn worse_report(row: &Row) -> f64 {
 }
 
 /// A value as the table shows it.
-fn shown(bar: &Bar, value: f64) -> String {
+fn shown<R>(bar: &Bar<R>, value: f64) -> String {
     match bar.kind {
         Kind::Time => time(value),
         // What is near a low bar is told apart by its second digit.
-        _ if bar.limit < 2.0 => format!("{value:.2}"),
+        _ if bar.limit <= 2.0 => format!("{value:.2}"),
         _ => format!("{value:.1}"),
     }
 }
 
 /// The values that a bar is for, with their families, the worst first.
-fn values<'a>(rows: &'a [Row], bar: &Bar) -> Vec<(f64, &'a str)> {
-    let of_row = |row: &'a Row| Some(((bar.of)(row)?, row.name.as_str()));
+fn values<'a, R: Named>(rows: &'a [R], bar: &Bar<R>) -> Vec<(f64, &'a str)> {
+    let of_row = |row: &'a R| Some(((bar.of)(row)?, row.name()));
     let mut values: Vec<(f64, &str)> = rows.iter().filter_map(of_row).collect();
     values.sort_by(|one, other| other.0.total_cmp(&one.0));
     values
 }
 
 /// How many of the values that are held to a bar are over it, in words.
-fn verdict(bar: &Bar, held: &[f64]) -> String {
+fn verdict<R>(bar: &Bar<R>, held: &[f64]) -> String {
     match held.iter().filter(|&&value| value > bar.limit).count() {
         0 => "met".to_string(),
         _ if held.len() == 1 => "missed".to_string(),
@@ -167,7 +202,7 @@ fn verdict(bar: &Bar, held: &[f64]) -> String {
     }
 }
 
-fn line(rows: &[Row], bar: &Bar) -> String {
+fn line<R: Named>(rows: &[R], bar: &Bar<R>) -> String {
     let values = values(rows, bar);
     let Some(&(worst, name)) = values.first() else {
         return format!("| {} | | | not measured |\n", bar.said);
@@ -185,8 +220,11 @@ fn line(rows: &[Row], bar: &Bar) -> String {
 }
 
 /// The table of bars.
-pub fn table(rows: &[Row]) -> String {
-    let head = "| at weight 4,096 | worst | family | |\n|---|--:|---|---|\n";
+pub fn table(rows: &[Row], imports: &[imports::Row]) -> String {
+    let head =
+        "| at weight 4,096; imports | worst | family or clause file | |\n|---|--:|---|---|\n";
     let lines = BARS.iter().map(|bar| line(rows, bar));
-    std::iter::once(head.to_string()).chain(lines).collect()
+    let of_imports = IMPORT_BARS.iter().map(|bar| line(imports, bar));
+    let head = std::iter::once(head.to_string());
+    head.chain(lines).chain(of_imports).collect()
 }

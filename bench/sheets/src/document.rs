@@ -1,5 +1,6 @@
 //! The measured part of the document: all tables, with what the machine was like.
 
+use crate::imports;
 use crate::measure::Noise;
 use crate::rows::Row;
 use crate::{bars, figures, tables, toys};
@@ -37,12 +38,18 @@ fn stopped_said(rows: &[Row], patience: f64) -> String {
 }
 
 /// All that was measured.
-pub fn measured(rows: &[Row], agreed: &[String], noise: &Noise, patience: f64) -> String {
+pub fn measured(
+    rows: &[Row],
+    imports: &[imports::Row],
+    agreed: &[String],
+    noise: &Noise,
+    patience: f64,
+) -> String {
     [
         agreed.join(" "),
         noise.said(),
         "### The bars".to_string(),
-        bars::table(rows),
+        bars::table(rows, imports),
         "### Runs".to_string(),
         stopped_said(rows, patience),
         tables::runs(rows),
@@ -55,6 +62,8 @@ pub fn measured(rows: &[Row], agreed: &[String], noise: &Noise, patience: f64) -
         "### The \"complete\" question".to_string(),
         tables::completes_said(rows),
         tables::completes(rows),
+        "### Imports".to_string(),
+        tables::imports(imports),
         "### Multiplied out".to_string(),
         toys::table(TOYS),
         "### At-leasts multiplied out".to_string(),

@@ -1,4 +1,4 @@
-//! The library's calls on books and sheets, with safe wrappers.  No call has a condition that a
+//! The library's calls on books, sheets and clause files, with safe wrappers.  No call has a condition that a
 //! slice does not meet.
 
 use crate::answers::Ran;
@@ -7,6 +7,7 @@ use crate::orders::{Line, Order};
 extern "C" {
     fn nd_book_check(book: *const u8, book_len: usize) -> u64;
     fn nd_load(book: *const u8, book_len: usize, sheet: *mut u16, sheet_len: usize) -> u64;
+    fn nd_import(text: *const u8, text_len: usize, out: *mut u8, out_len: usize) -> u64;
     fn nd_index(sheet: *const u16, sheet_len: usize, index: *mut u16, index_len: usize) -> u64;
     fn nd_run(
         sheet: *mut u16,
@@ -61,6 +62,12 @@ pub fn book_check(book: &[u8]) -> u64 {
 pub fn load(book: &[u8], sheet: &mut [u16]) -> u64 {
     // SAFETY: as above, for both pointers.
     unsafe { nd_load(book.as_ptr(), book.len(), sheet.as_mut_ptr(), sheet.len()) }
+}
+
+/// Imports a clause file: the length of its book in all but the low 8 bits, or the refusal.
+pub fn import(text: &[u8], out: &mut [u8]) -> u64 {
+    // SAFETY: as above.
+    unsafe { nd_import(text.as_ptr(), text.len(), out.as_mut_ptr(), out.len()) }
 }
 
 /// Fills an index from a sheet: the refusal, 0 where it is accepted.

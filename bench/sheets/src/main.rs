@@ -1,7 +1,7 @@
 //! The time of checks, loads, indexes, runs, reports, keyings, withdrawals and the "complete"
-//! question on full-size books, through the library's C interface, next to plain Rust's in the
-//! same process.  Every answer is compared first; a difference stops the benchmark with the case
-//! printed.
+//! question on full-size books, and of imports of clause files, through the library's C interface,
+//! next to plain Rust's in the same process.  Every answer is compared first; a difference stops
+//! the benchmark with the case printed.
 //!
 //!     tools/build-library                                         at the repository's top
 //!     cd bench/sheets && cargo run --release --offline --locked -- [FLAGS]
@@ -10,13 +10,25 @@
 //!     --svg FILE          draw the plot
 //!     --patience SECONDS  stop a run of the library that would take longer (20)
 //!     --weights LIST      the weights, with commas (1024,2048,4096)
-//!     --only TEXT         only the families whose names hold this text
-//!     --seed NUMBER       of the random sheets (1)
+//!     --only TEXT         only the families and clause files whose names hold this text
+//!     --seed NUMBER       of the random sheets and clause files (1)
 //!     --searches NUMBER   only compare the two searches on so many random sheets
 
 mod answers;
 mod at_least;
+#[path = "../../../tests/rust/src/at_leasts.rs"]
+#[allow(dead_code)]
+mod at_leasts;
 mod bars;
+#[path = "../../../tests/rust/src/books.rs"]
+#[allow(dead_code)]
+mod books;
+#[cfg(test)]
+#[path = "../../../tests/rust/src/clause_examples.rs"]
+mod clause_examples;
+#[path = "../../../tests/rust/src/clause_files.rs"]
+mod clause_files;
+mod clause_texts;
 mod clauses;
 mod compare;
 mod completes;
@@ -24,6 +36,9 @@ mod document;
 mod families;
 mod ffi;
 mod figures;
+#[cfg(test)]
+mod import_tests;
+mod imports;
 mod keyings;
 mod marks;
 mod measure;
@@ -42,6 +57,9 @@ mod random_books;
 #[path = "../../../tests/rust/src/reference.rs"]
 #[allow(dead_code)]
 mod reference;
+#[cfg(test)]
+#[path = "../../../tests/rust/src/reference_import.rs"]
+mod reference_import;
 mod rows;
 mod searches;
 mod tables;
@@ -192,6 +210,18 @@ fn completes_agree(seed: u64) -> String {
     )
 }
 
+/// Imports of random clause files, as a sentence.
+fn imports_agree(seed: u64) -> String {
+    let random = &mut Random::new(seed);
+    let seen = &mut imports::Seen::new();
+    imports::random_files(random, 20_000, 300, seen);
+    format!(
+        "Imports agree on random clause files, whole and damaged ({}); every book that they make \
+         is accepted, and of a whole file it is the one due.",
+        figures::by_answer(seen, &[0, 15, 16, 12])
+    )
+}
+
 /// The families, those with at-leasts last.
 fn all_families() -> Vec<families::Family> {
     let mut families = families::families();
@@ -251,10 +281,12 @@ fn main() {
         answers_agree(flags.seed),
         orders_agree(flags.seed),
         completes_agree(flags.seed),
+        imports_agree(flags.seed),
     ];
     let noise = &mut measure::Noise::new();
     let rows = all_rows(&flags, noise);
-    let text = document::measured(&rows, &agreed, noise, flags.patience);
+    let imports = imports::measured(&flags.only, noise);
+    let text = document::measured(&rows, &imports, &agreed, noise, flags.patience);
     println!("{text}");
     if let Some(file) = &flags.doc {
         marks::put(file, document::MARK, &text);

@@ -1,6 +1,7 @@
 //! The measurements as Markdown.
 
 use crate::figures::{count, time};
+use crate::imports;
 use crate::measure::mean;
 use crate::rows::{Growth, Row};
 use std::fmt::Write;
@@ -157,6 +158,34 @@ pub fn completes(rows: &[Row]) -> String {
 /// The times of the library and of plain Rust, with their ratio.
 fn cells([ours, plain]: [f64; 2]) -> String {
     format!("{} | {} | {}", time(ours), time(plain), ratio(ours / plain))
+}
+
+/// The imports.
+pub fn imports(rows: &[imports::Row]) -> String {
+    let mut text = String::from(
+        "| clause file | bytes | answer | import | plain | ratio | plain, comments by blocks \
+         | ratio |\n|---|--:|---|--:|--:|--:|--:|--:|\n",
+    );
+    for row in rows {
+        let answer = match row.refusal {
+            0 => "accepted".to_string(),
+            refusal => format!("refused {refusal}"),
+        };
+        let [ours, plain, by_blocks] = row.times;
+        writeln!(
+            text,
+            "| {} | {} | {answer} | {} | {} | {:.2} | {} | {:.2} |",
+            row.name,
+            count(row.bytes as u64),
+            time(ours),
+            time(plain),
+            ours / plain,
+            time(by_blocks),
+            ours / by_blocks
+        )
+        .expect("a string");
+    }
+    text
 }
 
 /// The checks, the loads and the indexes.

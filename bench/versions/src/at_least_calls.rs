@@ -14,24 +14,22 @@ pub const RULES: usize = 17;
 pub fn are_known(library: &Library) -> bool {
     let mut lent = Lent {
         book: book(0, &[vec![at_least(0, 0)]]),
-        code: Vec::new(),
-        sheet: Vec::new(),
-        lines: Vec::new(),
-        count: 0,
-        index: Vec::new(),
-        out: Vec::new(),
+        ..Lent::default()
     };
     refusal(library.call(Call::Check, &mut lent)) == 0
 }
 
 /// Whether a call reads a node of kind 6, or names a rule that is for these alone.
 pub fn are_met(call: Call, lent: &Lent) -> bool {
+    use Call::Import;
     use Call::{Check, Complete, Index, Key, Load, Lookup, Report, Run, Step, Withdraw, Write};
     match call {
         Check | Lookup | Load => in_book(&lent.book),
         Write | Withdraw { .. } | Complete => in_book(&lent.book) || in_sheet(&lent.sheet),
         Step { rule, .. } => (15..=17).contains(&rule) || in_sheet(&lent.sheet),
         Index | Key { .. } | Run { .. } | Report => in_sheet(&lent.sheet),
+        // It reads a text and makes a book without them.
+        Import => false,
     }
 }
 

@@ -1,9 +1,9 @@
-//! The eleven calls: what is lent to them, and what each can be refused.
+//! The twelve calls: what is lent to them, and what each can be refused.
 
 use crate::orders::Line;
 
 /// All that a call can be lent; each takes what it needs.
-#[derive(Clone, PartialEq, Eq)]
+#[derive(Clone, Default, PartialEq, Eq)]
 pub struct Lent {
     pub book: Vec<u8>,
     pub code: Vec<u8>,
@@ -11,6 +11,7 @@ pub struct Lent {
     pub lines: Vec<Line>,
     pub count: u16,
     pub index: Vec<u16>,
+    pub text: Vec<u8>,
     pub out: Vec<u8>,
 }
 
@@ -50,10 +51,11 @@ pub enum Call {
     },
     Report,
     Complete,
+    Import,
 }
 
 /// Every call, with the answers that it can give: 0 where it is accepted, then its refusals.
-pub const ANSWERS: [(&str, &[u64]); 11] = [
+pub const ANSWERS: [(&str, &[u64]); 12] = [
     ("check", &[0, 1, 2, 3, 4, 5, 6]),
     ("lookup", &[0, 1, 2, 3, 4, 5, 6, 7]),
     ("load", &[0, 11, 1, 2, 3, 4, 5, 6]),
@@ -65,6 +67,7 @@ pub const ANSWERS: [(&str, &[u64]); 11] = [
     ("run", &[0, 11, 12]),
     ("report", &[0, 11, 12]),
     ("complete", &[0, 11, 1, 2, 3, 4, 5, 6]),
+    ("import", &[0, 15, 16, 12]),
 ];
 
 impl Call {
@@ -81,15 +84,16 @@ impl Call {
             Call::Run { .. } => "run",
             Call::Report => "report",
             Call::Complete => "complete",
+            Call::Import => "import",
         }
     }
 
     /// Whether the call writes nothing that it reads, so that it can be made again and again.
     pub fn repeats(self) -> bool {
-        use Call::{Check, Complete, Index, Load, Lookup, Report, Write};
+        use Call::{Check, Complete, Import, Index, Load, Lookup, Report, Write};
         matches!(
             self,
-            Check | Lookup | Load | Write | Index | Report | Complete
+            Check | Lookup | Load | Write | Index | Report | Complete | Import
         )
     }
 

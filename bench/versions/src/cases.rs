@@ -1,8 +1,10 @@
-//! What is timed: every call on every family's book of full size, and calls that are refused at
-//! the end of a weight's test.
+//! What is timed: every call on every family's book of full size, imports of long clause files, and
+//! calls that are refused at the end of a weight's test.
 
 use crate::calls::{refusal, Call, Lent};
+use crate::clause_texts::{ClauseText, LONGEST_BOOK};
 use crate::families::{Family, Rules};
+use crate::imports;
 use crate::library::Library;
 use crate::limits::{book_of, filled, sheet_of};
 use crate::nodes::LENGTH;
@@ -45,6 +47,7 @@ fn lent(library: &Library, rules: &Rules) -> Lent {
         ],
         count: 0,
         index: Vec::new(),
+        text: Vec::new(),
     };
     accepted(library, Call::Load, &mut lent);
     lent
@@ -110,6 +113,14 @@ fn case(library: &Library, name: &'static str, call: Call, lent: &Lent) -> Case 
         lent: lent.clone(),
         refusal: refusal(answer),
     }
+}
+
+/// The import of a clause file.
+pub fn of_clause_text(library: &Library, text: ClauseText) -> Case {
+    let lent = imports::lent(text.text, LONGEST_BOOK);
+    let case = case(library, Call::Import.name(), Call::Import, &lent);
+    assert_eq!(case.refusal, text.refusal, "{}", text.name);
+    case
 }
 
 /// Calls that are refused for a weight: a book's, a sheet's, a keying's or a withdrawal's.

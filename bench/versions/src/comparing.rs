@@ -1,7 +1,7 @@
 //! Every call by both libraries: the answers and all that was lent must be the same.  An index
 //! must also be the one that plain Rust counts, which stands for that of a library without one.
-//! Whether an order is complete must also be what plain Rust answers; a library that is asked this
-//! of the sheet alone may say so of fewer, and of no others.
+//! So too for an import.  Whether an order is complete must also be what plain Rust answers; a
+//! library that is asked this of the sheet alone may say so of fewer, and of no others.
 
 use crate::at_least_calls;
 use crate::at_least_calls::RULES;
@@ -10,6 +10,7 @@ use crate::completes;
 use crate::figures::{by_answer, count};
 use crate::library::Library;
 use crate::plain::complete::complete;
+use crate::plain::import::import;
 use crate::plain::index;
 use crate::random::Random;
 use crate::scenes;
@@ -141,11 +142,12 @@ impl<'a> Comparing<'a> {
         let total: u64 = self.seen.values().flat_map(BTreeMap::values).sum();
         format!(
             "Both give the same answers, and leave the same in all that they are lent, in {} \
-             calls: {}. Steps of rules 1 to {last} are among them.{}{}{}",
+             calls: {}. Steps of rules 1 to {last} are among them.{}{}{}{}",
             count(total),
             calls.join("; "),
             self.left_out_said(),
             self.indexes_said(),
+            self.imports_said(),
             self.complete_said()
         )
     }
@@ -198,6 +200,17 @@ impl<'a> Comparing<'a> {
         }
     }
 
+    fn imports_said(&self) -> &'static str {
+        match (self.before.has_import(), self.after.has_import()) {
+            (true, true) => " Every answer to an import, and every book made, is also plain Rust's.",
+            (false, false) => " Neither imports clause files: plain Rust answers the call import.",
+            _ => {
+                " One of them imports no clause files: what is said of the call import is said of the \
+                 other beside plain Rust."
+            }
+        }
+    }
+
     fn left_out_said(&self) -> String {
         if self.at_leasts {
             return String::new();
@@ -213,6 +226,9 @@ impl<'a> Comparing<'a> {
 /// Makes a call and answers it; the index that it leaves must be right, and so must whether an
 /// order is complete. Plain Rust stands in for the index of a library that has none.
 fn made(library: &Library, call: Call, lent: &mut Lent) -> u64 {
+    if matches!(call, Call::Import) {
+        return imported(library, lent);
+    }
     let start = lent.clone();
     let is_filling = matches!(call, Call::Index);
     let mut due = start.index.clone();
@@ -237,6 +253,24 @@ fn made(library: &Library, call: Call, lent: &mut Lent) -> u64 {
     answer
 }
 
+/// Imports a clause file and answers it: answer and output must be plain Rust's, which stands in
+/// for a library that imports none.
+fn imported(library: &Library, lent: &mut Lent) -> u64 {
+    let start = lent.clone();
+    let mut out = start.out.clone();
+    let due = import(&start.text, &mut out);
+    if !library.has_import() {
+        lent.out = out;
+        return due;
+    }
+    let answer = library.call(Call::Import, lent);
+    if answer != due || lent.out != out {
+        let said = format!("it answers {answer}, due is {due}, or another book");
+        stop(&said, Call::Import, &start);
+    }
+    answer
+}
+
 /// Numbers in hexadecimal.
 fn hexadecimal<T: std::fmt::LowerHex>(numbers: &[T], digits: usize) -> String {
     let numbers = numbers.iter().map(|number| format!("{number:0digits$x}"));
@@ -249,7 +283,7 @@ fn stop(what: &str, call: Call, lent: &Lent) -> ! {
     let sheet = &lent.sheet[..end.map_or(0, |end| end + 1)];
     panic!(
         "{what}\n{call:?}\nbook of {} bytes: {}\ncode: {}\nsheet of {}, zeros from {} on: {}\n\
-         {} slots, {} lines: {:?}\nindex: {:?}\noutput of {} bytes",
+         {} slots, {} lines: {:?}\nindex: {:?}\ntext: {}\noutput of {} bytes",
         lent.book.len(),
         hexadecimal(&lent.book, 2),
         hexadecimal(&lent.code, 2),
@@ -260,6 +294,7 @@ fn stop(what: &str, call: Call, lent: &Lent) -> ! {
         lent.count,
         lent.lines,
         lent.index,
+        lent.text.escape_ascii(),
         lent.out.len()
     );
 }

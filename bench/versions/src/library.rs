@@ -1,7 +1,8 @@
-//! A shared library of the eleven calls, opened while the program runs, so that several builds of
-//! it stand side by side in one process.  A build from before the index of mentions has ten: it
-//! cannot fill an index, and is lent none with a keying, a withdrawal, a step and a run.  One from
-//! before the "complete" question was judged on book and lines is asked it with the sheet alone.
+//! A shared library of the twelve calls, opened while the program runs, so that several builds of
+//! it stand side by side in one process.  A build from before clause files has eleven: it imports
+//! none.  One from before the index of mentions has ten: it cannot fill an index either, and is
+//! lent none with a keying, a withdrawal, a step and a run.  One from before the "complete"
+//! question was judged on book and lines is asked it with the sheet alone.
 
 use crate::calls::{Call, Lent};
 use crate::changes::Changes;
@@ -30,6 +31,7 @@ type Lookup = unsafe extern "C" fn(Bytes, usize, Bytes, usize) -> u64;
 type Load = unsafe extern "C" fn(Bytes, usize, Changed, usize) -> u64;
 type Write = unsafe extern "C" fn(Sheet, usize, Bytes, usize, *mut u8, usize) -> u64;
 type Report = unsafe extern "C" fn(Sheet, usize, *mut u8, usize) -> u64;
+type Import = unsafe extern "C" fn(Bytes, usize, *mut u8, usize) -> u64;
 
 /// The calls of one library, which stays open.
 pub struct Library {
@@ -40,6 +42,8 @@ pub struct Library {
     report: Report,
     complete: Complete,
     changes: Changes,
+    /// None in a build from before clause files.
+    import: Option<Import>,
 }
 
 impl Library {
@@ -60,6 +64,7 @@ impl Library {
                 report: symbol(library, c"nd_report"),
                 complete: Complete::of(library),
                 changes: Changes::of(library),
+                import: has_symbol(library, c"nd_import").then(|| symbol(library, c"nd_import")),
             }
         }
     }
@@ -74,11 +79,17 @@ impl Library {
         self.complete.judges_order()
     }
 
+    /// Whether it imports clause files.
+    pub fn has_import(&self) -> bool {
+        self.import.is_some()
+    }
+
     /// Makes a call: its answer.
     pub fn call(&self, call: Call, lent: &mut Lent) -> u64 {
         let (book, book_len) = (lent.book.as_ptr(), lent.book.len());
         let (code, code_len) = (lent.code.as_ptr(), lent.code.len());
         let (sheet, sheet_len) = (lent.sheet.as_mut_ptr(), lent.sheet.len());
+        let (text, text_len) = (lent.text.as_ptr(), lent.text.len());
         let (out, out_len) = (lent.out.as_mut_ptr(), lent.out.len());
         // SAFETY: every pointer is good for as many elements as its length says, no two overlap,
         // and the library touches nothing else.
@@ -90,6 +101,10 @@ impl Library {
                 Call::Write => (self.write)(sheet, sheet_len, book, book_len, out, out_len),
                 Call::Report => (self.report)(sheet, sheet_len, out, out_len),
                 Call::Complete => self.complete.call(lent),
+                Call::Import => {
+                    let import = self.import.expect("a build that imports clause files");
+                    import(text, text_len, out, out_len)
+                }
                 _ => self.changes.call(call, lent),
             }
         }

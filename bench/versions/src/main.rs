@@ -2,10 +2,11 @@
 //! compared, and a difference stops the benchmark with the case printed (where one of the two does
 //! not know node kind 6, calls that speak of it are left out; where one knows no index of mentions,
 //! the other one is lent a right one, and what it leaves there is held to plain Rust's count; where
-//! one is asked with the sheet alone whether an order is complete, the other is held to plain
-//! Rust's answer, and what is complete for the one must be so for the other); then every call is
-//! timed, the two in turn, with a copy of the earlier one as a third, whose time tells the noise,
-//! and each at several places in memory.
+//! one imports no clause files, the other one's imports are held to plain Rust's; where one is asked
+//! with the sheet alone whether an order is complete, the other is held to plain Rust's answer, and
+//! what is complete for the one must be so for the other); then every call is timed, the two in
+//! turn, with a copy of the earlier one as a third, whose time tells the noise, and each at several
+//! places in memory.
 //!
 //!     tools/build-library                                         at the repository's top
 //!     bench/before COMMIT [FLAGS]                                 runs this with the first four
@@ -19,8 +20,8 @@
 //!                         of its own is named as in the tables: 1.1,step=2,keying=2. Where the
 //!                         two are asked differently whether an order is complete, this call has
 //!                         no bar but its own
-//!     --only TEXT         time only the families whose names hold this text
-//!     --seed NUMBER       of the random books, sheets and orders (1)
+//!     --only TEXT         time only the families and clause files whose names hold this text
+//!     --seed NUMBER       of the random books, sheets, orders and clause files (1)
 
 #[path = "../../sheets/src/answers.rs"]
 #[allow(dead_code)]
@@ -36,6 +37,12 @@ mod books;
 mod calls;
 mod cases;
 mod changes;
+#[path = "../../../tests/rust/src/clause_files.rs"]
+#[allow(dead_code)]
+mod clause_files;
+#[path = "../../sheets/src/clause_texts.rs"]
+#[allow(dead_code)]
+mod clause_texts;
 mod comparing;
 mod completes;
 mod damage;
@@ -44,6 +51,7 @@ mod damage;
 mod families;
 #[path = "../../sheets/src/figures.rs"]
 mod figures;
+mod imports;
 mod library;
 mod limits;
 #[path = "../../sheets/src/marks.rs"]
@@ -75,8 +83,9 @@ mod timing;
 use bars::Bars;
 use calls::Call;
 use cases::Case;
+use clause_texts::ClauseText;
 use comparing::Comparing;
-use families::{families, Family};
+use families::families;
 use measure::Noise;
 use places::placed;
 use random::Random;
@@ -142,8 +151,8 @@ fn opened(flags: &Flags) -> Sides {
     sides
 }
 
-/// Compares every call on random books, sheets and orders, on those of the families, and at the
-/// limits; what was seen, as a sentence.
+/// Compares every call on random books, sheets, orders and clause files, on those of the families,
+/// and at the limits; what was seen, as a sentence.
 fn compared(sides: &Sides, seed: u64) -> String {
     let random = &mut Random::new(seed);
     let comparing = &mut Comparing::new(&sides.before[0], &sides.after[0]);
@@ -154,6 +163,7 @@ fn compared(sides: &Sides, seed: u64) -> String {
         }
     }
     limits::random_weights(comparing, random, 300);
+    imports::weights(comparing, random, 300);
     for family in families() {
         limits::sizes(comparing, random, &family);
         limits::weights(comparing, random, &family);
@@ -165,16 +175,33 @@ fn compared(sides: &Sides, seed: u64) -> String {
     comparing.said()
 }
 
-/// Times some cases of a family.
-fn cells(sides: &Sides, bars: &Bars, family: &Family, cases: Vec<Case>) -> Vec<Cell> {
+/// Times some cases of a family, or of a clause file.
+fn cells(sides: &Sides, bars: &Bars, family: &str, cases: Vec<Case>) -> Vec<Cell> {
     let cell = |case: Case| Cell {
         call: case.name,
-        family: family.name.clone(),
+        family: family.to_string(),
         refusal: case.refusal,
         times: timing::times(sides, case.call, &case.lent, bars.of(case.name)),
     };
-    eprintln!("{}: {} calls", family.name, cases.len());
+    eprintln!("{family}: {} calls", cases.len());
     cases.into_iter().map(cell).collect()
+}
+
+/// Times imports, if both sides have them.
+fn imports_measured(sides: &Sides, flags: &Flags, noise: &mut Noise) -> Vec<Cell> {
+    let library = &sides.before[0];
+    if !library.has_import() || !sides.after[0].has_import() {
+        return Vec::new();
+    }
+    let mut texts = clause_texts::all();
+    texts.retain(|text| text.name.contains(&flags.only));
+    let of_text = |text: ClauseText| {
+        noise.sample();
+        let name = text.name;
+        let case = cases::of_clause_text(library, text);
+        cells(sides, &flags.bars, name, vec![case])
+    };
+    texts.into_iter().flat_map(of_text).collect()
 }
 
 fn measured(sides: &Sides, flags: &Flags, noise: &mut Noise) -> Measured {
@@ -185,23 +212,25 @@ fn measured(sides: &Sides, flags: &Flags, noise: &mut Noise) -> Measured {
         noise.sample();
         if family.name.contains(&flags.only) {
             let cases = cases::of_family(library, &family, with_index);
-            in_families.extend(cells(sides, &flags.bars, &family, cases));
+            in_families.extend(cells(sides, &flags.bars, &family.name, cases));
         }
         if TOO_HEAVY.contains(&family.name.as_str()) {
             let cases = cases::refused_for_weight(library, &family);
-            refused.extend(cells(sides, &flags.bars, &family, cases));
+            refused.extend(cells(sides, &flags.bars, &family.name, cases));
         }
     }
     noise.sample();
     assert!(!in_families.is_empty(), "no family is named so");
-    let is_timed = |call: &str| in_families.iter().any(|cell: &Cell| cell.call == call);
-    for call in flags.bars.named() {
-        assert!(is_timed(call), "no call {call:?} has a time");
-    }
-    Measured {
+    let measured = Measured {
         families: in_families,
+        imports: imports_measured(sides, flags, noise),
         refused,
+    };
+    for call in flags.bars.named() {
+        let is_timed = measured.calls().contains(&call);
+        assert!(is_timed, "no call {call:?} has a time");
     }
+    measured
 }
 
 /// Frees the "complete" question of the usual bar where the two sides are asked it differently:

@@ -5,6 +5,7 @@ use crate::at_leasts::with_at_leasts;
 use crate::books;
 use crate::calls::{Call, Lent};
 use crate::damage::{damage_sheet, damaged_book};
+use crate::imports;
 use crate::nodes::{value, LENGTH};
 use crate::orders::{Line, SLOTS};
 use crate::plain::flat::{fill_sizes, is_sheet, used, Flat, MOST};
@@ -63,24 +64,28 @@ pub fn index(random: &mut Random, sheet: &[u16]) -> Vec<u16> {
     index
 }
 
-/// A book and a sheet, with lines, an index, a code and an output that go with them or do not.
+/// The length of an output: what a report, a writing or an import needs, or less, or more.
+fn out_length(random: &mut Random, sheet: &[u16], text: &[u8]) -> usize {
+    let (options, written) = (options(sheet), written_length(sheet));
+    let imported = imports::book_length(text);
+    let [before_end, before_book] = [options, imported].map(|length| length.saturating_sub(1));
+    let short = random.pick(&[0, before_end, written - 1, before_book]);
+    let more = random.pick(&[512, options + 1, written + 1, imported + 1]);
+    random.pick(&[short, more, options, written, written, written, imported])
+}
+
+/// A book, a sheet and a clause file, with lines, an index, a code and an output that go with them
+/// or do not.
 pub fn lent(random: &mut Random, book: Vec<u8>, sheet: Vec<u16>) -> Lent {
-    let (options, written) = (options(&sheet), written_length(&sheet));
-    let short = random.pick(&[0, options.saturating_sub(1), written - 1]);
-    let length = random.pick(&[
-        short,
-        options,
-        options + 1,
-        512,
-        written,
-        written,
-        written + 1,
-    ]);
+    let options = options(&sheet);
+    let text = imports::text(random);
+    let length = out_length(random, &sheet, &text);
     let (lines, count) = lines(random, options);
     Lent {
         code: code(random, &book),
         out: vec![random.byte(); length],
         index: index(random, &sheet),
+        text,
         book,
         sheet,
         lines,
@@ -151,8 +156,8 @@ pub fn random_lent(random: &mut Random, weight: usize, at_leasts: bool) -> Lent 
 
 /// The calls on what is lent: every one, and several of those that are given numbers.
 pub fn calls(random: &mut Random, lent: &Lent) -> Vec<Call> {
-    use Call::{Check, Complete, Index, Load, Lookup, Report, Run, Write};
-    let mut calls = vec![Check, Lookup, Load, Write, Index, Report, Complete];
+    use Call::{Check, Complete, Import, Index, Load, Lookup, Report, Run, Write};
+    let mut calls = vec![Check, Lookup, Load, Write, Index, Report, Complete, Import];
     for _ in 0..2 {
         calls.push(keying(random, lent));
         calls.push(withdrawal(random, lent));

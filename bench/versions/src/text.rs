@@ -30,7 +30,10 @@ const TABLES: [&[&str]; 2] = [
     ],
 ];
 
-/// The times of one call on one family's book.
+/// Imports have a table of their own, since clause files are no books of families.
+const IMPORT: &str = "import";
+
+/// The times of one call on one family's book, or of the import of one clause file.
 pub struct Cell {
     pub call: &'static str,
     pub family: String,
@@ -51,8 +54,24 @@ impl Cell {
 /// All that was timed.
 pub struct Measured {
     pub families: Vec<Cell>,
+    /// Imports, where both libraries have them.
+    pub imports: Vec<Cell>,
     /// Calls that are refused for a weight.
     pub refused: Vec<Cell>,
+}
+
+impl Measured {
+    /// The calls that were timed, those refused for a weight apart.
+    pub fn calls(&self) -> Vec<&'static str> {
+        let mut calls = timed(&self.families, &TABLES.concat());
+        calls.extend(timed(&self.imports, &[IMPORT]));
+        calls
+    }
+
+    /// The times of all calls but those refused for a weight.
+    fn cells(&self) -> impl Iterator<Item = &Cell> {
+        self.families.iter().chain(&self.imports)
+    }
 }
 
 /// Which of a call's two pairs of times is meant.
@@ -90,8 +109,8 @@ fn timed(cells: &[Cell], calls: &[&'static str]) -> Vec<&'static str> {
 
 /// Whether any call is slower than its bar allows: a paragraph for each bar.
 fn bars_said(measured: &Measured, bars: &Bars) -> String {
-    let cells: Vec<&Cell> = measured.families.iter().chain(&measured.refused).collect();
-    let calls = timed(&measured.families, &TABLES.concat());
+    let cells: Vec<&Cell> = measured.cells().chain(&measured.refused).collect();
+    let calls = measured.calls();
     let mut limits: Vec<f64> = calls.iter().map(|call| bars.of(call)).collect();
     limits.sort_by(f64::total_cmp);
     limits.dedup();
@@ -159,9 +178,9 @@ fn calls_table(measured: &Measured) -> String {
         "| call | mean | worst | family | before → after | copy: mean | worst | family |\n\
          |---|--:|--:|---|--:|--:|--:|---|\n",
     );
-    for name in timed(&measured.families, &TABLES.concat()) {
+    for name in measured.calls() {
         let is_of_call = |cell: &&Cell| cell.call == name;
-        let cells: Vec<&Cell> = measured.families.iter().filter(is_of_call).collect();
+        let cells: Vec<&Cell> = measured.cells().filter(is_of_call).collect();
         text += &call_row(name, &cells, |cell| cell.family.clone());
     }
     let refused: Vec<&Cell> = measured.refused.iter().collect();
@@ -198,7 +217,8 @@ fn steps_said(cells: &[Cell]) -> String {
     )
 }
 
-fn refused_table(cells: &[Cell]) -> String {
+/// A row a call: both times, the ratio, and the copy's.
+fn cells_table(name: &str, cells: &[Cell]) -> String {
     let rows = cells.iter().map(|cell| {
         let pair = after(cell);
         format!(
@@ -210,8 +230,8 @@ fn refused_table(cells: &[Cell]) -> String {
             copy(cell).ratio
         )
     });
-    let head = "| refused for a weight | before → after | ratio | copy |\n|---|--:|--:|--:|";
-    head.to_string() + &rows.collect::<String>()
+    let head = format!("| {name} | before → after | ratio | copy |\n|---|--:|--:|--:|");
+    head + &rows.collect::<String>()
 }
 
 /// The whole part of the document.
@@ -232,7 +252,10 @@ pub fn whole(
     ];
     let families = &measured.families;
     parts.extend(TABLES.map(|calls| families_table(families, &timed(families, calls))));
-    parts.push(refused_table(&measured.refused));
+    if !measured.imports.is_empty() {
+        parts.push(cells_table(IMPORT, &measured.imports));
+    }
+    parts.push(cells_table("refused for a weight", &measured.refused));
     let parts = parts.iter().map(|part| part.trim_end());
     parts.collect::<Vec<&str>>().join("\n\n")
 }

@@ -16,7 +16,7 @@ use Rattle.model.specs.Literal.{literal}
 use Rattle.model.specs.Results.{appended}
 use Rattle.calls.specs.Refusals.{Refusal, refusal-number, length-refused, head-refused, code-refused, contents-refused, body-refused}
 use Rattle.calls.specs.Refusals.{weight-refused, option-refused, full-refused, rule-refused, step-refused, sheet-refused, output-refused}
-use Rattle.calls.specs.Refusals.{line-refused, list-refused}
+use Rattle.calls.specs.Refusals.{line-refused, list-refused, text-refused, size-refused}
 use Rattle.calls.specs.Outcomes.{Outcome, outcome}
 use Rattle.calls.specs.Lines as calls
 use Rattle.calls.specs.Lines.{most-lines, State, without}
@@ -55,6 +55,8 @@ some-number sheet-refused = omega arith
 some-number output-refused = omega arith
 some-number line-refused = omega arith
 some-number list-refused = omega arith
+some-number text-refused = omega arith
+some-number size-refused = omega arith
 
 none-packed : (o : Option Refusal) (kept filled : Indexed State) → packedDone (outcome o tt kept filled .answer) ≡ 0 → o ≡ none
 unfolding outcome

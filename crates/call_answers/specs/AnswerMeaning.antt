@@ -28,6 +28,8 @@ refusalOf V₁.Sheet = M.sheet-refused
 refusalOf V₁.Output = M.output-refused
 refusalOf V₁.Line = M.line-refused
 refusalOf V₁.List = M.list-refused
+refusalOf V₁.Text = M.text-refused
+refusalOf V₁.Size = M.size-refused
 
 -- The refusal that is due, if any.
 abbrev pub dueOf : D.Done → Option M.Refusal

@@ -3,7 +3,7 @@ ghost use mathlib.Core.Path.{_≡_};
 ghost use Rattle.calls.specs.Refusals.{«refusal-number»};
 ghost use Rattle.call_answers.specs.AnswerMeaning.{refusalOf};
 
-// Why a call is refused, in the order of the numbers 1 to 14.
+// Why a call is refused, in the order of the numbers 1 to 16.
 pub enum Refusal {
     Length,
     Head,
@@ -19,6 +19,8 @@ pub enum Refusal {
     Output,
     Line,
     List,
+    Text,
+    Size,
 }
 
 // The answer of a call that has no value to give.
@@ -52,5 +54,7 @@ pub fn number(r: Refusal) -> u8
         Refusal::Output => 12,
         Refusal::Line => 13,
         Refusal::List => 14,
+        Refusal::Text => 15,
+        Refusal::Size => 16,
     }
 }

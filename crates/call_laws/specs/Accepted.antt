@@ -1,27 +1,31 @@
 -- What is known where a call is accepted: none of its refusals is due.
-use mathlib.Core.Bool.{true, not, _&&_}
-use mathlib.Core.List.{List}
+use mathlib.Core.Bool.{true, false, not, _&&_}
+use mathlib.Core.List.{List, []}
 use mathlib.Core.Option.{Option, none, some}
-use mathlib.Core.Path.{_≡_, refl}
+use mathlib.Core.Path.{_≡_, refl, sym, ap, _∙_}
 use Prim.Native.Nat.{ℕ, _+_, _-_, _*_, _≤_, _<_}
 use native.Mathlib.Omega.{arith}
 use borrow.Author.Tests.{eqb-true, eqb-false, eq-eqb, leb-true, le-leb, ltb-true, ltb-false, not-false}
 use lib.Dec.{eqb, leb}
 use lib.ListN.{length}
-use Rattle.model.specs.Base.{all}
+use Rattle.model.specs.Base.{all, maybe}
 use Rattle.model.specs.Literal.{option}
 use Rattle.model.specs.Code.{weight}
 use Rattle.model.specs.Limits.{most-weight, literal-weight}
 use Rattle.model.specs.Rules.{is-rule}
 use Rattle.model.specs.Sheet.{options-in, nodes-in, is-sheet}
 use Rattle.model.specs.Book.{options-of, book-nodes, written}
+use Rattle.texts.specs.ClauseFile.{File, file-of}
+use Rattle.texts.specs.ClauseBook.{book-of-file, is-too-large}
 use Rattle.calls.specs.Refusals.{Refusal, sheet-refused, output-refused, option-refused, full-refused, rule-refused, step-refused}
-use Rattle.calls.specs.Refusals.{line-refused, list-refused}
+use Rattle.calls.specs.Refusals.{line-refused, list-refused, text-refused, size-refused}
 use Rattle.calls.specs.Outcomes.{accepted, outcome}
 use Rattle.calls.specs.Lines.{most-lines, State, counted}
 use Rattle.calls.specs.Conditions.{has-option, is-book-of, is-shorter, applies, has-lines-in-order, has-line, has-full-list}
+use Rattle.calls.specs.Conditions.{is-clause-file, gives-too-much, imported}
 use Rattle.calls.specs.Chains.{book-refusal, write-refusal, key-refusal, order-refusal, withdraw-refusal, step-refusal, run-refusal}
-use Rattle.theory_forms.specs.Logic.{and-split, and-join, first-none, only-none, none-due}
+use Rattle.calls.specs.Chains.{import-refusal}
+use Rattle.theory_forms.specs.Logic.{and-split, and-join, first-none, only-none, none-due, is-some-of}
 
 -- An accepted outcome: nothing was due, and the value is the one given.
 pub accepted-due :
@@ -161,3 +165,24 @@ step-accepted s r p i j e =
 pub run-accepted : (s : List ℕ) → run-refusal s ≡ none → is-sheet s ≡ true
 unfolding run-refusal
 run-accepted s e = not-false (is-sheet s) (only-none _ sheet-refused e)
+
+-- An import.
+pub record Importable (text out : List ℕ) : Type 0 where
+  pub file : File
+  pub read : file-of text ≡ some file
+  pub small : is-too-large file ≡ false
+  pub room : length (book-of-file file) ≤ length out
+
+pub import-accepted : (text out : List ℕ) → import-refusal text out ≡ none → Importable text out
+unfolding import-refusal maybe
+import-accepted text out e =
+    let a = none-due (not (is-clause-file text)) text-refused _ e in
+    let b = none-due (gives-too-much text) size-refused _ (a .1) in
+    let c = only-none (is-shorter out (length (imported text))) output-refused (b .1) in
+    let (f, g) = is-some-of (file-of text) (not-false (is-clause-file text) (a .0)) in
+    record {
+      file = f;
+      read = g;
+      small = sym (ap (maybe false is-too-large) g) ∙ b .0;
+      room = ltb-false (length out) (length (book-of-file f)) (sym (ap (λ o. is-shorter out (length (maybe [] book-of-file o))) g) ∙ c);
+    }

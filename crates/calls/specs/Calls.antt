@@ -12,7 +12,8 @@ use Rattle.model.specs.Book.{options-of, codes-of, book-nodes, written, option-
 use Rattle.calls.specs.Outcomes.{Answer, answer, Outcome, outcome, refusal-in, unless}
 use Rattle.calls.specs.Chains.{book-refusal, lookup-refusal, load-refusal, write-refusal, report-refusal}
 use Rattle.calls.specs.Chains.{complete-refusal, key-refusal, withdraw-refusal, step-refusal, run-refusal}
-use Rattle.calls.specs.Chains.{fill-refusal, index-refusal}
+use Rattle.calls.specs.Chains.{fill-refusal, index-refusal, import-refusal}
+use Rattle.calls.specs.Conditions.{imported}
 use Rattle.calls.specs.Lines.{State, counted, without, moved-up, with-marks}
 use Rattle.calls.specs.Index.{fresh-count, Indexed}
 use Rattle.calls.specs.Named.{is-named, complete-among}
@@ -47,6 +48,11 @@ completeOf t book =
     answer
     (complete-refusal t book)
     (complete-among (is-named book (counted t)) (options-in (t .sheet)) (report-in (t .sheet)))
+
+-- Document 02, U7: the import of a clause file. It "fills from the start and returns the length; bytes beyond stay", as the writer does.
+unfoldable pub importOf : List ℕ → List ℕ → Outcome (List ℕ) ℕ
+importOf text out =
+    outcome (import-refusal text out) (length (imported text)) out (placed (imported text) out)
 
 -- The next four are without an index, as the desk program makes them; with one they stand at the end. A keying. Document 02, U2: "keying
 -- adds a line and the mark".

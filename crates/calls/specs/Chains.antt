@@ -15,11 +15,11 @@ use Rattle.calls.specs.Refusals.{Refusal, due, _or-else_}
 use Rattle.calls.specs.Refusals.{length-refused, head-refused, code-refused, contents-refused, body-refused, weight-refused}
 use Rattle.calls.specs.Refusals.{option-refused, full-refused, rule-refused, step-refused, sheet-refused, output-refused}
 use Rattle.calls.specs.Conditions.{lacks-head, is-length-due, has-good-codes, has-good-contents, has-good-bodies, is-light}
-use Rattle.calls.specs.Refusals.{line-refused, list-refused, refusal-number}
+use Rattle.calls.specs.Refusals.{line-refused, list-refused, text-refused, size-refused, refusal-number}
 use Rattle.calls.specs.Lines.{State}
 use Rattle.calls.specs.Conditions.{has-option, has-code, is-full, applies, is-book-of, is-long-enough, is-shorter}
 use Rattle.calls.specs.Conditions.{leaves-too-much, has-lines-in-order, has-line, has-full-list}
-use Rattle.calls.specs.Conditions.{has-short-index, has-stale-index}
+use Rattle.calls.specs.Conditions.{has-short-index, has-stale-index, is-clause-file, gives-too-much, imported}
 
 -- What is tested of a book once its head and its length are right.
 unfoldable pub part-refusal : List ℕ → Option Refusal
@@ -94,6 +94,13 @@ run-refusal s = due (not (is-sheet s)) sheet-refused
 unfoldable pub fill-refusal : List ℕ → List ℕ → Option Refusal
 fill-refusal s index =
     due (not (is-sheet s)) sheet-refused or-else due (has-short-index s index) output-refused
+
+-- Document 02, U7: "15 goes first, 12 last."
+unfoldable pub import-refusal : List ℕ → List ℕ → Option Refusal
+import-refusal text out =
+    due (not (is-clause-file text)) text-refused
+    or-else due (gives-too-much text) size-refused
+    or-else due (is-shorter out (length (imported text))) output-refused
 
 -- The refusals that come before the 11 of an index: a book's, 1 to 6, and every other 11.
 unfoldable pub is-early : Refusal → Bool

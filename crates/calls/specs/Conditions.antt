@@ -1,10 +1,10 @@
 -- The conditions that the refusals are due on, each by its name.
-use mathlib.Core.Bool.{Bool, not, _&&_}
-use mathlib.Core.List.{List}
+use mathlib.Core.Bool.{Bool, false, not, _&&_}
+use mathlib.Core.List.{List, []}
 use Prim.Native.Nat.{ℕ, _+_, _-_, _*_}
 use lib.Dec.{eqb, leb, ltb}
 use lib.ListN.{length, take}
-use Rattle.model.specs.Base.{all, is-some, same-list}
+use Rattle.model.specs.Base.{all, is-some, maybe, same-list}
 use Rattle.model.specs.Literal.{option}
 use Rattle.model.specs.Code.{weight}
 use Rattle.model.specs.Rules.{step}
@@ -12,6 +12,8 @@ use Rattle.model.specs.Limits.{usual, sheet-length, head-length, literal-weight
 use Rattle.model.specs.Sheet.{options-in, nodes-in}
 use Rattle.model.specs.Book.{options-of, size-of, length-due, codes-of, codes-ok, contents-of, in-line, bodies-of, body-ok}
 use Rattle.model.specs.Book.{book-nodes, option-of-code}
+use Rattle.texts.specs.ClauseFile.{file-of}
+use Rattle.texts.specs.ClauseBook.{book-of-file, is-too-large}
 use Rattle.calls.specs.Lines.{most-lines, State, counted}
 use Rattle.calls.specs.Index.{fresh-count}
 
@@ -93,3 +95,14 @@ has-short-index s index = is-shorter index (index-length s)
 abbrev pub has-stale-index : List ℕ → List ℕ → Bool
 has-stale-index s index =
     not (has-short-index s index) && not (same-list (take (index-length s) index) (fresh-count s))
+
+-- Document 02, U7: "15 text of any other form; 16 V over 512, C or the body nodes over 4,095, or weight over 4,096."
+abbrev pub is-clause-file : List ℕ → Bool
+is-clause-file text = is-some (file-of text)
+
+abbrev pub gives-too-much : List ℕ → Bool
+gives-too-much text = maybe false is-too-large (file-of text)
+
+-- The book that a text gives; none where it is no clause file.
+abbrev pub imported : List ℕ → List ℕ
+imported text = maybe [] book-of-file (file-of text)

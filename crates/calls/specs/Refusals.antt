@@ -4,13 +4,15 @@ use mathlib.Core.Option.{Option}
 use Prim.Native.Nat.{ℕ}
 use Rattle.model.specs.Base.{only-if, first-of}
 
--- "Who can cause which refusal." Document 02, U2: "13 no such line; 14 list full."
+-- "Who can cause which refusal." Document 02, U2: "13 no such line; 14 list full." U7: "15 text of any other form", 16 one that is too
+-- large for a book.
 pub data Refusal : Type 0 where
   length-refused head-refused code-refused contents-refused body-refused weight-refused : Refusal
   option-refused full-refused : Refusal
   rule-refused step-refused : Refusal
   sheet-refused output-refused : Refusal
   line-refused list-refused : Refusal
+  text-refused size-refused : Refusal
 
 -- "A refusal is its number alone."
 unfoldable pub refusal-number : Refusal → ℕ
@@ -28,6 +30,8 @@ refusal-number sheet-refused = 11
 refusal-number output-refused = 12
 refusal-number line-refused = 13
 refusal-number list-refused = 14
+refusal-number text-refused = 15
+refusal-number size-refused = 16
 
 -- A refusal where its condition holds, and the first of several that are due.
 abbrev pub due : Bool → Refusal → Option Refusal

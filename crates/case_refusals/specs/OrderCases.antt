@@ -9,7 +9,7 @@ use Prim.Native.String.{String}
 use lib.ListN.{replicate, take}
 use Rattle.model.specs.Literal.{pos}
 use Rattle.calls.specs.Calls.{checkOf, lookupOf, loadOf, writeOf, reportOf, completeOf, keyOf, withdrawOf, stepOf, runOf}
-use Rattle.calls.specs.Calls.{fillOf, keyWith, withdrawWith, stepWith, runWith}
+use Rattle.calls.specs.Calls.{importOf, fillOf, keyWith, withdrawWith, stepWith, runWith}
 use Rattle.case_samples.specs.Opened.{definitions}
 use Rattle.case_samples.specs.Samples.{P, True, plain, any-of, root, text, codes, book-of, book, sheet, lined, said, samples}
 
@@ -138,6 +138,21 @@ questioning =
 pub questioning-in-order : questioning ≡ (11, 1) ∷ (6, 11) ∷ (6, 11) ∷ (6, 11) ∷ (0, 0) ∷ []
 unfolding definitions samples heavy questioning
 questioning-in-order = refl
+
+-- Document 02, U7: "15 goes first, 12 last". Importing: 15 before 16, where the last clause is not closed; 16 before 12; 15 before 12.
+unfoldable pub imports : String → ℕ → ℕ
+imports t room = said (importOf (text t) (replicate room 0) .answer)
+
+unfoldable pub importing : List (ℕ × ℕ)
+importing =
+    (imports "p cnf 513 1\n1" 7000, imports "p cnf 513 1\n1 0" 7000)
+    ∷ (imports "p cnf 513 0" 0, imports "p cnf 1 0" 20)
+    ∷ (imports "p cnf 1" 0, imports "p cnf 1 0" 0)
+    ∷ []
+
+pub importing-in-order : importing ≡ (15, 16) ∷ (16, 12) ∷ (15, 12) ∷ []
+unfolding definitions samples imports importing
+importing-in-order = refl
 
 -- Document 02, U5: a call with an index. What it answers to one that is right, to one that is long enough but not the fresh count, and to
 -- one that is too short: 11 with the other 11s, so after a book's numbers and before 14, 13, 7, 8, 9 and 10; 12 after all of them.

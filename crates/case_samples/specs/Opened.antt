@@ -88,9 +88,9 @@ of-calls : Unit {0}
 unfolding Refusals.refusal-number Outcomes.answer Outcomes.if-accepted Outcomes.outcome Chains.part-refusal Chains.book-refusal
     Chains.lookup-refusal Chains.load-refusal Chains.write-refusal Chains.report-refusal Chains.complete-refusal
     Chains.key-refusal Chains.order-refusal Chains.withdraw-refusal Chains.step-refusal Chains.run-refusal
-    Calls.checkOf Calls.lookupOf Calls.loadOf Calls.writeOf
+    Chains.import-refusal Calls.checkOf Calls.lookupOf Calls.loadOf Calls.writeOf
     Calls.reportOf Calls.completeOf Calls.keyOf Calls.withdrawOf Calls.stepOf Calls.runOf
-    Lines.without Lines.moved-up Lines.with-marks
+    Calls.importOf Lines.without Lines.moved-up Lines.with-marks
 of-calls = tt
 
 of-indexes : Unit {0}

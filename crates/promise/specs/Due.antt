@@ -15,15 +15,15 @@ use Rattle.model.specs.Book.{head-in-limits, written}
 use Rattle.calls.specs.Refusals.{length-refused, head-refused, code-refused, contents-refused, body-refused, weight-refused}
 use Rattle.calls.specs.Refusals.{option-refused, full-refused, rule-refused, step-refused, sheet-refused, output-refused}
 use Rattle.calls.specs.Conditions.{lacks-head, is-length-due, has-good-codes, has-good-contents, has-good-bodies, is-light}
-use Rattle.calls.specs.Refusals.{due, _or-else_, line-refused, list-refused, refusal-number}
+use Rattle.calls.specs.Refusals.{due, _or-else_, line-refused, list-refused, text-refused, size-refused, refusal-number}
 use Rattle.calls.specs.Lines.{State}
 use Rattle.calls.specs.Conditions.{has-option, has-code, is-full, applies, is-book-of, is-long-enough, is-shorter}
 use Rattle.calls.specs.Conditions.{leaves-too-much, has-lines-in-order, has-line, has-full-list}
-use Rattle.calls.specs.Conditions.{has-short-index, has-stale-index}
+use Rattle.calls.specs.Conditions.{has-short-index, has-stale-index, is-clause-file, gives-too-much, imported}
 use Rattle.calls.specs.Chains.{part-refusal, book-refusal, lookup-refusal, load-refusal, write-refusal, report-refusal}
-use Rattle.calls.specs.Chains.{complete-refusal, key-refusal, order-refusal, withdraw-refusal, step-refusal, run-refusal, fill-refusal, is-early}
+use Rattle.calls.specs.Chains.{complete-refusal, key-refusal, order-refusal, withdraw-refusal, step-refusal, run-refusal, fill-refusal, import-refusal, is-early}
 use Rattle.calls.specs.Calls.{checkOf, lookupOf, loadOf, writeOf, reportOf, completeOf, keyOf, withdrawOf, stepOf, runOf}
-use Rattle.calls.specs.Calls.{fillOf, keyWith, withdrawWith, stepWith, runWith}
+use Rattle.calls.specs.Calls.{importOf, fillOf, keyWith, withdrawWith, stepWith, runWith}
 use Rattle.call_laws.specs.RefusalChains.{Test, _on_, first-due, By-chain, first-append, first-last, answered, answered-lent, answered-with}
 
 -- "The book as 1 (under 8), 2, 1, 3, 4, 5, 6."
@@ -72,6 +72,16 @@ pub record First-due : Type 0 where
       (reportOf s out .answer)
       (of-sheet s
       ∷ output-refused on is-shorter out (options-in s)
+      ∷ [])
+  -- Document 02, U7: "15 text of any other form; 16 V over 512, C or the body nodes over 4,095, or weight over 4,096; 15 goes first, 12
+  -- last".
+  pub import :
+      (text out : List ℕ) →
+      By-chain
+      (importOf text out .answer)
+      (text-refused on not (is-clause-file text)
+      ∷ size-refused on gives-too-much text
+      ∷ output-refused on is-shorter out (length (imported text))
       ∷ [])
   -- Document 02, U6: "both are lent with the sheet, and checked by 1 to 6 and 11 as for a withdrawal, by no others".
   pub complete :
@@ -189,9 +199,9 @@ withdraw-chain order b k =
     ap₂ _or-else_ (order-chain order b) (line-chain order b k) ∙ sym (first-append (of-order order b) (after-index order b k))
 
 pub first-due-refused : First-due
-unfolding checkOf lookupOf loadOf writeOf reportOf completeOf keyOf withdrawOf stepOf runOf keyWith withdrawWith stepWith runWith fillOf
+unfolding checkOf lookupOf loadOf writeOf reportOf importOf completeOf keyOf withdrawOf stepOf runOf keyWith withdrawWith stepWith runWith fillOf
     lookup-refusal load-refusal write-refusal report-refusal complete-refusal key-refusal withdraw-refusal step-refusal run-refusal
-    fill-refusal is-early refusal-number all first-due
+    fill-refusal import-refusal is-early refusal-number all first-due
 first-due-refused =
     record {
       check = λ b. answered _ _ (book-chain b);
@@ -199,6 +209,7 @@ first-due-refused =
       load = λ b target. answered-lent _ _ _ _ (simp book-chain);
       write = λ s b out. answered-lent _ _ _ _ (simp (first-append, first-last, book-chain));
       report = λ s out. answered-lent _ _ _ _ (simp first-last);
+      import = λ text out. answered-lent _ _ _ _ (simp first-last);
       complete = λ order b. answered _ _ (order-chain order b);
       key = λ order index v negative.
           answered-with (λ u. u .sheet) order index tt _ (key-refusal order v)

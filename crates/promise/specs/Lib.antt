@@ -4,6 +4,7 @@ pub mod Due
 pub mod Reports
 pub mod Complete
 pub mod RoundTrips
+pub mod Imports
 pub mod Lists
 pub mod Order
 pub mod Withdrawals

@@ -10,18 +10,18 @@ use Prim.Native.Nat.{ℕ, _≤_}
 use native.Mathlib.Omega.{arith}
 use Rattle.calls.specs.Refusals.{Refusal, length-refused, head-refused, code-refused, contents-refused, body-refused, weight-refused}
 use Rattle.calls.specs.Refusals.{option-refused, full-refused, rule-refused, step-refused, sheet-refused, output-refused}
-use Rattle.calls.specs.Refusals.{line-refused, list-refused, refusal-number}
+use Rattle.calls.specs.Refusals.{line-refused, list-refused, text-refused, size-refused, refusal-number}
 use Rattle.calls.specs.Outcomes.{refused, accepted, answer, Outcome, outcome}
 use Rattle.calls.specs.Chains.{book-refusal, key-refusal, withdraw-refusal, step-refusal, run-refusal}
 use Rattle.calls.specs.Lines.{State}
 use Rattle.calls.specs.Calls.{checkOf, loadOf, writeOf, reportOf, keyOf, withdrawOf, stepOf, runOf}
-use Rattle.calls.specs.Calls.{fillOf, with-index, keyWith, withdrawWith, stepWith, runWith}
+use Rattle.calls.specs.Calls.{importOf, fillOf, with-index, keyWith, withdrawWith, stepWith, runWith}
 use Rattle.theory_formats.specs.Loading.{Accepted}
 use Rattle.theory_index.specs.WithIndex.{with-cases}
 use Rattle.call_laws.specs.Books.{accepted-book, book-accepted}
 
--- "A result or one refusal numbered 1 to 12"; with 13 and 14 since document 02, U2.
-pub numbered : (r : Refusal) → (1 ≤ refusal-number r) × (refusal-number r ≤ 14)
+-- "A result or one refusal numbered 1 to 12"; with 13 and 14 since document 02, U2, and 15 and 16 since U7.
+pub numbered : (r : Refusal) → (1 ≤ refusal-number r) × (refusal-number r ≤ 16)
 unfolding refusal-number
 numbered length-refused = omega arith
 numbered head-refused = omega arith
@@ -37,6 +37,8 @@ numbered sheet-refused = omega arith
 numbered output-refused = omega arith
 numbered line-refused = omega arith
 numbered list-refused = omega arith
+numbered text-refused = omega arith
+numbered size-refused = omega arith
 
 -- An outcome whose answer is a refusal has left what was lent as it was.
 abbrev pub Keeps : {L A : Type 0} → Outcome L A → L → Type 0
@@ -66,6 +68,7 @@ pub record Nothing-written : Type 0 where
   pub load : (book target : List ℕ) → Keeps (loadOf book target) target
   pub write : (sheet book out : List ℕ) → Keeps (writeOf sheet book out) out
   pub report : (sheet out : List ℕ) → Keeps (reportOf sheet out) out
+  pub import : (text out : List ℕ) → Keeps (importOf text out) out
   pub fill : (sheet index : List ℕ) → Keeps (fillOf sheet index) index
   pub key :
       (order : State) (index : List ℕ) (v : ℕ) (negative : Bool) →
@@ -82,12 +85,13 @@ pub record Nothing-written : Type 0 where
   pub desk-run : (sheet : List ℕ) (b : ℕ) → Keeps (runOf sheet b) sheet
 
 pub nothing-written : Nothing-written
-unfolding loadOf writeOf reportOf fillOf keyOf withdrawOf stepOf runOf keyWith withdrawWith stepWith runWith
+unfolding loadOf writeOf reportOf importOf fillOf keyOf withdrawOf stepOf runOf keyWith withdrawWith stepWith runWith
 nothing-written =
     record {
       load = λ b t. outcome-keeps _ _ _ _;
       write = λ s b o. outcome-keeps _ _ _ _;
       report = λ s o. outcome-keeps _ _ _ _;
+      import = λ text o. outcome-keeps _ _ _ _;
       fill = λ s x. outcome-keeps _ _ _ _;
       key = λ t x v n. with-keeps (λ u. u .sheet) t x (key-refusal t v) tt _;
       withdraw = λ t b x k. with-keeps (λ u. u .sheet) t x (withdraw-refusal t b k) tt _;

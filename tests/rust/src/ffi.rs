@@ -1,6 +1,6 @@
 //! The two functions of `include/nibdrumlin.h`, and of `include/nibdrumlin_sheets.h` the
-//! one that fills an index and the run, with safe wrappers.  None has a condition that a
-//! slice does not meet.
+//! one that fills an index, the run and the import, with safe wrappers.  None has a
+//! condition that a slice does not meet.
 
 use std::ptr;
 
@@ -15,6 +15,7 @@ extern "C" {
         index_len: usize,
         budget: u64,
     ) -> u64;
+    fn nd_import(text: *const u8, text_len: usize, out: *mut u8, out_len: usize) -> u64;
 }
 
 /// The library's book check.
@@ -74,6 +75,19 @@ pub fn run(sheet: &mut [u16], index: &mut [u16], budget: u64) -> u64 {
             budget,
         )
     }
+}
+
+/// The library's import of a clause file.
+pub fn import(text: &[u8], out: &mut [u8]) -> u64 {
+    // SAFETY: the pointers are good for as many bytes as the slices have, of which the
+    // library writes the output's alone, and the two do not overlap.
+    unsafe { nd_import(text.as_ptr(), text.len(), out.as_mut_ptr(), out.len()) }
+}
+
+/// The same into no bytes, by a null pointer, and with one for a text that is empty.
+pub fn import_null(text: &[u8]) -> u64 {
+    // SAFETY: as above; no byte of an output of length 0 is read or written.
+    unsafe { nd_import(null_if_empty(text), text.len(), ptr::null_mut(), 0) }
 }
 
 fn null_if_empty(slice: &[u8]) -> *const u8 {

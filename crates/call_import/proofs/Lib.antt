@@ -1,0 +1,2 @@
+mod LimitTests
+mod ImportAnswers

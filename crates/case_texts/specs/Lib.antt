@@ -1,0 +1,2 @@
+-- Computed cases of the form of clause files.
+pub mod TextCases
