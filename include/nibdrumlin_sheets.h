@@ -21,10 +21,10 @@
  *
  * An order keeps its choices as lines, so that one can be taken back: 64 slots of struct nd_line
  * and a count, of which the first count slots are the lines.  Whoever begins an order sets the
- * count to 0.  A slot past the count may hold any option number: it is not looked at, and what it
- * held stays until a line is keyed into it.  negative must be true or false, 1 or 0, in every
- * slot, past the count too, as C's bool demands: set the slots to zeros once.  The byte that
- * fills a line up to four is nobody's: it may hold anything, and may change with its line.
+ * count to 0.  A slot past the count may hold any bytes, or ones that nobody has set: it is not
+ * looked at, and what it held stays until a line is keyed into it.  In a line, a slot below the
+ * count, negative must be true or false, 1 or 0, as C's bool demands.  The byte that fills a line
+ * up to four is nobody's: it may hold anything, and may change with its line.
  *
  * A list is in order where there are exactly 64 slots, the count is at most 64, and the option of
  * every line below the count is below the sheet's N.  The lines are what a withdrawal keys again:
