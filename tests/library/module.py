@@ -188,8 +188,8 @@ def check_kept_orders():
     for numbers in NO_SHEETS:
         expect(number_of(Order.from_numbers, Book(BOOK), numbers) == 11, "Order: no sheet")
     expect(number_of(Order.from_numbers, Book(OTHER_BOOK), SHEET) == 11, "Order: another N")
-    for lines in ([(2, True)], [(0, True)] * 65, [(65_536, False)], [(-1, False)], [(0, 1), (9, 0)],
-                  [(0, True)] * 65_536):
+    for lines in ([(2, True)], [(0, True)] * 65, [(65_536, False)], [(-1, False)],
+                  [(0, True), (9, False)], [(0, True)] * 65_536):
         expect(number_of(Order.from_numbers, Book(BOOK), SHEET, lines) == 11, "Order: bad lines")
     kept = Order.from_numbers(Book(BOOK), SHEET, LINES)
     expect(kept.lines == tuple(LINES) and kept.numbers.tolist() == SHEET, "Order: kept elsewhere")
