@@ -219,28 +219,29 @@ def check_lookups():
 
 
 def check_written():
-    """One thread writes any numbers to the sheet while others make calls: these are answered or
-    refused, and with the right sheet back all is as it was."""
-    order, rng, end = Order(Book(SAMPLE)), random.Random(3), threading.Event()
-    right, numbers, before = order.numbers.tobytes(), order.numbers, state(order)
+    """One thread writes any numbers to the sheet while others make calls, long ones among them:
+    these are answered or refused, and with the right sheet back all is as it was."""
+    order, rng, end = Order(Book(LONG)), random.Random(3), threading.Event()
+    right, numbers, before = order.numbers[:], order.numbers, state(order)
 
     def spoil():
-        for _ in range(20_000):
-            numbers[rng.choice((0, 1, 2, rng.randrange(len(numbers))))] = rng.choice(
-                (0, 1, rng.randrange(65_536)))
+        for _ in range(150):
+            numbers[:] = right
+            number_of(order.refill)
+            time.sleep(0.001)
+            for _ in range(40):
+                numbers[rng.randrange(400)] = rng.choice((0x4FFF, 0x3FFF, rng.randrange(65_536)))
 
     def call():
-        for work in (lambda: order.run(9), order.report, order.is_complete, order.write,
-                     lambda: order.key(3), lambda: order.withdraw(0), lambda: order.step(9, 4),
-                     order.refill):
+        for work in (lambda: order.run(9000), order.report, order.is_complete, order.write,
+                     lambda: order.key(3), lambda: order.withdraw(0), lambda: order.step(9, 4)):
             expect(number_of(work) in (0, 7, 8, 10, 11, 12, 13, 14), "another refusal")
     together(ending(end, spoil), until(end, call), until(end, call))
-    order.numbers = right
-    order.refill()
-    for _ in order.lines:
-        order.withdraw(0)
-    order.numbers = right
-    order.refill()
+    for _ in (*order.lines, None):
+        numbers[:] = right
+        order.refill()
+        if order.lines:
+            order.withdraw(0)
     expect(state(order) == before, "the right sheet is answered otherwise")
 
 
