@@ -520,9 +520,9 @@ class _Held:
         want = "the code or the number of an option"
         if hasattr(type(option), "__index__"):
             return _whole("option", option, want)
-        code = _code("option", want, option)
+        _code("option", want, option)
         try:
-            return self.book.lookup(code)
+            return self.book.lookup(option)
         except Refused:  # 7: the book was checked when it was made
             return NO_NUMBER
 
