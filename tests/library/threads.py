@@ -263,7 +263,7 @@ def check_each():
     long, short, end = Order(Book(LONG)), Order(book), threading.Event()
     ran, count = together(ending(end, lambda: long.run(100_000)), until(end, short.report))
     expect(ran.steps == 100_000, "the long run")
-    expect(count > 20, "%d calls of another order during a long run" % count)
+    expect(count > 5, "%d calls of another order during a long run" % count)
 
 
 def check_signals():
