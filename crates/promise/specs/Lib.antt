@@ -9,6 +9,7 @@ pub mod Lists
 pub mod Order
 pub mod Withdrawals
 pub mod Runs
+pub mod HouseSteps
 pub mod Weights
 pub mod Indexes
 pub mod Desk
