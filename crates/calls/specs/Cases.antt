@@ -270,8 +270,8 @@ unfolding Base.pick Base.only-if Base.first-of Base.is-some Base.all Base.any Ba
     Literal.complement Literal.option Literal.same Literal.has
     Forest.same-conn Forest._⊕_ Forest.size Forest.first Forest.after Forest.kids Forest.literal-at Forest.conjunction-at
     Forest.constant-at Forest.literals-only Forest.has-unit Forest.mentions Forest.members Forest.seated Forest.all-seated
-    Code.encode Code.push Code.decode Code.joined Code.trees Code.exactly-one Code.one-tree Code.literals Code.weight Code.kind
-    Code.value Code.number Code.conn-kind Code.conn-value Code.children Code.number-of Code.node-of
+    Code.encode Code.push Code.decode Code.joined Code.trees Code.exactly-one Code.one-tree Code.literals Code.least-count
+    Code.leasts Code.weight Code.kind Code.value Code.number Code.conn-kind Code.conn-value Code.children Code.number-of Code.node-of
     Clauses.unions Clauses.need Clauses.no-tree Clauses.one-tree-more Clauses.some-of Clauses.clauses
     Propagation.others Propagation.refuted Propagation.forced-in Propagation.forced Propagation.propagate Propagation.facts-of
     Propagation.conflict Propagation.mark Propagation.count-from Propagation.report-by Propagation.report

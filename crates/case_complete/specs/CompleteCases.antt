@@ -72,6 +72,18 @@ pub by-lines-so :
 unfolding definitions samples asked by-lines
 by-lines-so = refl
 
+-- However far off it is named: by the 64th line, by the last of 300 rules, by the last of 300 nodes of a rule.
+unfoldable pub far-off : List (Answer Bool)
+far-off =
+    asked (root 1 ∷ P ∷ []) [] (replicate 63 (neg 0) ++ (pos 2 ∷ [])) 64
+    ∷ asked (root 1 ∷ P ∷ []) (replicate 299 (P ∷ []) ++ ((R ∷ []) ∷ [])) [] 0
+    ∷ asked (root 1 ∷ P ∷ []) ((any-of 299 ∷ replicate 298 P ++ (not-R ∷ [])) ∷ []) [] 0
+    ∷ []
+
+pub far-off-so : far-off ≡ replicate 3 (accepted false)
+unfolding definitions samples asked far-off
+far-off-so = refl
+
 -- "The mention is judged on the book and the choices, since a step can remove the last mark of an option": P takes the rule "P or Q" off the
 -- sheet, and Q is still waited for. What the sheet alone names is not.
 unfoldable pub not-by-sheets : List (Answer Bool)

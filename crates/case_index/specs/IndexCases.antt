@@ -12,7 +12,8 @@ use Rattle.calls.specs.Lines.{State}
 use Rattle.calls.specs.Index.{fresh-count, Indexed}
 use Rattle.calls.specs.Calls.{Ran, fillOf, keyWith, withdrawWith, stepWith, runWith}
 use Rattle.case_samples.specs.Opened.{definitions}
-use Rattle.case_samples.specs.Samples.{P, Q, R, not-P, not-Q, True, all-of, any-of, root, at-least, book, sheet, lined, samples}
+use Rattle.case_samples.specs.Samples.{P, Q, R, not-P, not-Q, True, plain, barred, all-of, any-of, root, at-least, joined, book, sheet}
+use Rattle.case_samples.specs.Samples.{lined, samples}
 
 -- "Not P or (R and P)", and R, of P, Q and R: P is named barred and plain, Q not at all, and the first R stands inside a nest.
 unfoldable pub nested : List ℕ
@@ -43,6 +44,25 @@ pub counted-so :
     ∷ []
 unfolding definitions samples nested of-nested counted
 counted-so = refl
+
+-- Counts, places and options past 256: P stands 300 times from place 300 on, Q once at place 600; of 512 options one mark names the one after
+-- the first 300, another the last.
+unfoldable pub counted-far : List (List ℕ)
+counted-far =
+    fresh-count (sheet 2 (root 600 ∷ replicate 299 True ++ replicate 300 P ++ (not-Q ∷ [])))
+    ∷ fresh-count (sheet 512 (root 2 ∷ barred 511 ∷ plain 300 ∷ []))
+    ∷ []
+
+abbrev pub unnamed : ℕ → List ℕ
+unnamed many = joined (replicate many (0 ∷ 65535 ∷ []))
+
+pub counted-far-so :
+    counted-far
+    ≡ (300 ∷ 300 ∷ 1 ∷ 600 ∷ [])
+    ∷ (unnamed 300 ++ (1 ∷ 2 ∷ []) ++ unnamed 210 ++ (1 ∷ 1 ∷ []))
+    ∷ []
+unfolding definitions samples counted-far
+counted-far-so = refl
 
 -- "One call fills it from any sheet, whatever it held": six numbers, or more, of which the others stay; one fewer is 12, and no sheet 11.
 unfoldable pub fills : List (Outcome (List ℕ) (Unit {0}))

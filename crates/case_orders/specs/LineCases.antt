@@ -1,8 +1,8 @@
 -- Document 02, U2: one keying and one withdrawal, slot by slot.
 use mathlib.Core.Bool.{true, false}
-use mathlib.Core.List.{List, [], _∷_, map}
+use mathlib.Core.List.{List, [], _∷_, _++_, map}
 use mathlib.Core.Path.{_≡_, refl}
-use Prim.Native.Nat.{ℕ}
+use Prim.Native.Nat.{ℕ, _+_, _/_, _%_}
 use lib.ListN.{replicate}
 use Rattle.model.specs.Literal.{Literal, pos, neg}
 use Rattle.calls.specs.Refusals.{full-refused}
@@ -10,7 +10,7 @@ use Rattle.calls.specs.Outcomes.{Outcome, refused, accepted}
 use Rattle.calls.specs.Lines.{State}
 use Rattle.calls.specs.Calls.{keyOf, withdrawOf}
 use Rattle.case_samples.specs.Opened.{definitions}
-use Rattle.case_samples.specs.Samples.{P, Q, not-P, not-Q, any-of, root, book, sheet, lined, said, samples}
+use Rattle.case_samples.specs.Samples.{P, Q, not-P, not-Q, plain, any-of, root, numbers, joined, book-of, book, sheet, lined, said, samples}
 
 -- "P or Q", and its sheet.
 unfoldable pub P-or-Q : List ℕ
@@ -28,6 +28,13 @@ pub keyed-so :
     }
 unfolding definitions samples one-keyed
 keyed-so = refl
+
+-- The last of the 64 slots.
+pub last-keyed-so :
+    keyOf (lined (sheet 2 (root 0 ∷ [])) (replicate 63 (pos 0)) 63) 1 true
+    ≡ record { answer = accepted tt; lent = lined (sheet 2 (root 1 ∷ not-Q ∷ [])) (replicate 63 (pos 0) ++ (neg 1 ∷ [])) 64 }
+unfolding definitions samples
+last-keyed-so = refl
 
 -- "After a refusal each lent buffer holds what it held before": a full sheet, and room for its line.
 unfoldable pub full : State
@@ -55,8 +62,29 @@ pub taken-back-so :
 unfolding definitions samples P-or-Q three taken-back
 taken-back-so = refl
 
+-- Line 40 of 64: the lines 0 to 39, then 41 to 63, and the last slot as it was. Line v names option v, plain.
+unfoldable pub line-40-taken-back : Outcome State (Unit {0})
+line-40-taken-back =
+    withdrawOf
+    (lined (sheet 64 (root 0 ∷ [])) (map (λ v. pos v) (numbers 0 64)) 64)
+    (book-of (64 ∷ 0 ∷ 0 ∷ 0 ∷ []) (joined (map (λ v. (65 + v % 26) ∷ (65 + v / 26) ∷ replicate 11 0) (numbers 0 64))) [] [])
+    40
+
+pub line-40-taken-back-so :
+    line-40-taken-back
+    ≡ record {
+      answer = accepted tt;
+      lent =
+          lined
+          (sheet 64 (root 63 ∷ map (λ v. plain v) (numbers 0 40 ++ numbers 41 23)))
+          (map (λ v. pos v) (numbers 0 40 ++ numbers 41 23 ++ (63 ∷ [])))
+          63;
+    }
+unfolding definitions samples line-40-taken-back
+line-40-taken-back-so = refl
+
 -- "A count over 64, another number of slots, a counted line naming no option .. is refused 11"; the last line of "64 slots" may be
--- counted, and what stands past the count is not looked at.
+-- counted, and what stands past the count is not looked at. A count that 8 or 16 bits would take for 0 is over 64 too.
 unfoldable pub slots : ℕ → ℕ → Literal → List ℕ
 slots many count l =
     let s = sheet 1 (root 0 ∷ []) in
@@ -73,6 +101,8 @@ lines-judged =
     ∷ slots 0 0 (pos 0)
     ∷ slots 64 1 (pos 1)
     ∷ slots 64 0 (neg 65535)
+    ∷ slots 64 256 (pos 0)
+    ∷ slots 64 65536 (pos 0)
     ∷ []
 
 pub lines-judged-so :
@@ -85,9 +115,24 @@ pub lines-judged-so :
     ∷ (11 ∷ 11 ∷ [])
     ∷ (11 ∷ 11 ∷ [])
     ∷ (0 ∷ 13 ∷ [])
+    ∷ (11 ∷ 11 ∷ [])
+    ∷ (11 ∷ 11 ∷ [])
     ∷ []
 unfolding definitions samples slots lines-judged
 lines-judged-so = refl
+
+-- Whichever counted line it is that names no option, plain or barred: neither of two; the first; the second; the last of 64, by a number
+-- that 8 bits would take for 0.
+unfoldable pub each-line-judged : List ℕ
+each-line-judged =
+    let s = sheet 1 (root 0 ∷ []) in
+    map (λ ls. said (keyOf (lined s ls 2) 0 false .answer))
+    ((pos 0 ∷ neg 0 ∷ []) ∷ (neg 1 ∷ pos 0 ∷ []) ∷ (pos 0 ∷ pos 1 ∷ []) ∷ (pos 0 ∷ neg 1 ∷ []) ∷ [])
+    ++ (said (withdrawOf (lined s (replicate 63 (pos 0) ++ (neg 256 ∷ [])) 64) (book ("P" ∷ []) []) 0 .answer) ∷ [])
+
+pub each-line-judged-so : each-line-judged ≡ 0 ∷ replicate 4 11
+unfolding definitions samples each-line-judged
+each-line-judged-so = refl
 
 -- "Refusal 8 applies if book weight plus twice the remaining lines is over 4,096": 4,094 with one line left, and with two.
 unfoldable pub room-left : List ℕ

@@ -1,6 +1,6 @@
 -- Texts, books and sheets for the computed cases, spelled as documents 01 and 02 spell them and by none of the definitions under test.
 use mathlib.Core.List.{List, [], _∷_, _++_}
-use Prim.Native.Nat.{ℕ, _+_, _-_, _*_, _/_, _%_}
+use Prim.Native.Nat.{ℕ, zero, suc, _+_, _-_, _*_, _/_, _%_}
 use Prim.Native.Char
 use Prim.Native.String
 use Prim.Native.String.{String}
@@ -9,6 +9,15 @@ use Rattle.model.specs.Literal.{Literal, pos}
 use Rattle.calls.specs.Refusals.{refusal-number}
 use Rattle.calls.specs.Outcomes.{Answer, refused, accepted}
 use Rattle.calls.specs.Lines.{State}
+
+-- So many numbers, from one on.
+unfoldable pub numbers : ℕ → ℕ → List ℕ
+numbers n zero = []
+numbers n (suc many) = n ∷ numbers (suc n) many
+
+-- Numbers that 8, 16, 32 and 64 bits take for 0.
+unfoldable pub wide : List ℕ
+wide = 256 ∷ 65536 ∷ 4294967296 ∷ 18446744073709551616 ∷ []
 
 -- The bytes of a text.
 unfoldable pub text : String → List ℕ
@@ -92,6 +101,10 @@ unfoldable pub book : List String → List (List ℕ) → List ℕ
 book cs rs =
     book-of (length cs ∷ length rs ∷ length (joined rs) ∷ 0 ∷ []) (codes cs) (pairs 0 rs) (joined rs)
 
+-- A book of weight 4,097: one any-of with 2,047 marks, and a rule more.
+unfoldable pub heavy : ℕ → List ℕ
+heavy node = book ("P" ∷ []) ((any-of 2047 ∷ replicate 2047 P) ∷ (node ∷ []) ∷ [])
+
 -- "The first case's book (codes P, Q; bytes in hexadecimal 02 00 01 00 05 00 00 00, 50 and 12 zeros, 51 and 12 zeros, 00 00 05 00,
 -- 02 40 00 10 02 30 00 10 01 10)."
 unfoldable pub first-book : List ℕ
@@ -117,5 +130,5 @@ said (accepted a) = 0
 
 -- What all of these see through, by one name.
 unfoldable pub samples : Unit {0}
-unfolding text low-first codes book-of pairs joined book first-book sheet lined said
+unfolding numbers wide text low-first codes book-of pairs joined book heavy first-book sheet lined said
 samples = tt

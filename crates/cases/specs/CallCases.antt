@@ -1,10 +1,10 @@
 -- Document 01's starred cases by the calls, and cases of document 02, U4: each is loaded from its book's bytes, chosen on, run and
 -- reported. (What is said of its sheet before the run is computed in `Cases`.) Then reports on sheets with kind 6 before any step, the
--- outputs of a report, budgets, and the last choice that fits.
+-- outputs of a report, budgets, runs whose step is far off, high options, and the last choice that fits.
 use mathlib.Core.Bool.{Bool, true, false}
 use mathlib.Core.List.{List, [], _∷_, _++_, map}
 use mathlib.Core.Path.{_≡_, refl}
-use Prim.Native.Nat.{ℕ}
+use Prim.Native.Nat.{ℕ, _+_}
 use Prim.Native.String.{String}
 use lib.ListN.{length, replicate}
 use Rattle.calls.specs.Refusals.{output-refused}
@@ -13,7 +13,7 @@ use Rattle.calls.specs.Lines.{State}
 use Rattle.calls.specs.Calls.{Ran, loadOf, keyOf, runOf, reportOf}
 use Rattle.case_samples.specs.Opened.{definitions}
 use Rattle.case_samples.specs.Samples.{P, Q, R, S, not-P, not-Q, not-R, True, False, all-of, any-of, root, at-least, book, sheet}
-use Rattle.case_samples.specs.Samples.{lined, said, samples}
+use Rattle.case_samples.specs.Samples.{plain, barred, numbers, wide, joined, lined, said, samples}
 
 -- A case: its codes, its rules, its choices (the option, and whether it is barred).
 pub record Order : Type 0 where
@@ -221,6 +221,15 @@ pub least-reports-told :
 unfolding definitions samples least-reports
 least-reports-told = refl
 
+-- "Facts are the least set such that a mark of a clause is a fact when the opposite of every other mark in that clause is a fact": a chain of
+-- 20 options, each of which the one before forces.
+unfoldable pub chain : List ℕ
+chain = sheet 20 (root 20 ∷ joined (map (λ v. any-of 2 ∷ barred v ∷ plain (v + 1) ∷ []) (numbers 0 19)) ++ (P ∷ []))
+
+pub chain-told : reportOf chain (replicate 20 7) ≡ tells false (replicate 20 1)
+unfolding definitions samples chain
+chain-told = refl
+
 -- Document 02, U1: "A report shall accept any output of at least N bytes, fill the first N and keep the rest. Calls with exactly N
 -- bytes answer as before. Refusal 12 is now for a shorter output only." P in, Q out, into outputs about the two bytes due; a
 -- contradiction of one option; no option, consistent and not.
@@ -249,11 +258,12 @@ pub outputs-filled :
 unfolding definitions samples outputs
 outputs-filled = refl
 
--- The first case with budgets about its 5 steps, and what is left with a budget for 0. "It says settled when no rule applies; it
--- says stopped when the budget's steps are done and a rule still applies."
+-- The first case with budgets about its 5 steps and with budgets that fewer bits would take for 0, and what is left with a budget for 0.
+-- "A run has a 64-bit budget. It says settled when no rule applies; it says stopped when the budget's steps are done and a rule still
+-- applies."
 unfoldable pub budgets : List (Outcome (List ℕ) Ran)
 budgets =
-    map (runOf (sheet 2 (root 1 ∷ any-of 2 ∷ P ∷ all-of 2 ∷ P ∷ Q ∷ []))) (0 ∷ 4 ∷ 5 ∷ [])
+    map (runOf (sheet 2 (root 1 ∷ any-of 2 ∷ P ∷ all-of 2 ∷ P ∷ Q ∷ []))) (0 ∷ 4 ∷ 5 ∷ 256 ∷ 65536 ∷ 4294967296 ∷ [])
     ++ (runOf (sheet 2 (root 1 ∷ P ∷ [])) 0 ∷ [])
 
 abbrev pub stopped : ℕ → ℕ → List ℕ → Outcome (List ℕ) Ran
@@ -263,11 +273,55 @@ pub budgets-kept :
     budgets
     ≡ stopped 2 0 (root 1 ∷ any-of 2 ∷ P ∷ all-of 2 ∷ P ∷ Q ∷ [])
     ∷ stopped 2 4 (root 1 ∷ any-of 1 ∷ P ∷ [])
-    ∷ settled 2 5 (root 1 ∷ P ∷ [])
-    ∷ settled 2 0 (root 1 ∷ P ∷ [])
-    ∷ []
+    ∷ replicate 4 (settled 2 5 (root 1 ∷ P ∷ []))
+    ++ (settled 2 0 (root 1 ∷ P ∷ []) ∷ [])
 unfolding definitions samples budgets
 budgets-kept = refl
+
+-- "The house step is the applicable one with lowest rule, then place, i, j", and it is found far off too: at place 21, at child 20, at inner
+-- child 20.
+unfoldable pub far-runs : List (Outcome (List ℕ) Ran)
+far-runs =
+    let marks = map (λ v. plain v) (numbers 0 20) in
+    let rules = joined (replicate 20 (any-of 2 ∷ P ∷ Q ∷ [])) in
+    runOf (sheet 21 (root 21 ∷ marks ++ (any-of 1 ∷ plain 20 ∷ []))) 1
+    ∷ runOf (sheet 20 (root 21 ∷ marks ++ (True ∷ []))) 1
+    ∷ runOf (sheet 3 (root 1 ∷ all-of 21 ∷ rules ++ (R ∷ []))) 1
+    ∷ []
+
+pub far-runs-done :
+    let marks = map (λ v. plain v) (numbers 0 20) in
+    let rules = joined (replicate 20 (any-of 2 ∷ P ∷ Q ∷ [])) in
+    far-runs
+    ≡ settled 21 1 (root 21 ∷ marks ++ (plain 20 ∷ []))
+    ∷ settled 20 1 (root 20 ∷ marks)
+    ∷ settled 3 1 (root 2 ∷ R ∷ all-of 20 ∷ rules)
+    ∷ []
+unfolding definitions samples far-runs
+far-runs-done = refl
+
+-- "7 no such option number": on a sheet of one option, its own, the next, and numbers that fewer bits would take for 0.
+unfoldable pub options-keyed : List ℕ
+options-keyed = map (λ v. said (keyOf (lined (sheet 1 (root 0 ∷ [])) [] 0) v false .answer)) (0 ∷ 1 ∷ wide)
+
+pub options-keyed-so : options-keyed ≡ 0 ∷ replicate 5 7
+unfolding definitions samples options-keyed
+options-keyed-so = refl
+
+-- Of 512 options, 300 and the last: keyed, and reported.
+unfoldable pub high-options : List (List ℕ)
+high-options =
+    map (λ v. keyOf (lined (sheet 512 (root 0 ∷ [])) [] 0) v true .lent .sheet) (300 ∷ 511 ∷ [])
+    ++ (reportOf (sheet 512 (root 2 ∷ plain 300 ∷ barred 511 ∷ [])) (replicate 512 7) .lent ∷ [])
+
+pub high-options-so :
+    high-options
+    ≡ sheet 512 (root 1 ∷ barred 300 ∷ [])
+    ∷ sheet 512 (root 1 ∷ barred 511 ∷ [])
+    ∷ (replicate 300 0 ++ (1 ∷ []) ++ replicate 210 0 ++ (2 ∷ []))
+    ∷ []
+unfolding definitions samples high-options
+high-options-so = refl
 
 -- "8 sheet full: weight + 2 is over 4,096." Of an any-of with 2,046 marks the weight is 4,094 with the root, so a choice still fits;
 -- "one any-of with 2,047 marks is accepted and a choice is then refused 8".

@@ -6,7 +6,7 @@ use Prim.Native.Nat.{ℕ}
 use Prim.Native.String.{String}
 use lib.ListN.{replicate}
 use Rattle.model.specs.Literal.{pos}
-use Rattle.calls.specs.Desk.{lines, all-keyed, with-no-lines, first-line, deskOf}
+use Rattle.calls.specs.Desk.{lines, all-keyed, with-no-lines, first-line, desk-budget, screen-length, deskOf}
 use Rattle.case_samples.specs.Opened.{definitions}
 use Rattle.case_samples.specs.Samples.{text, P, Q, R, True, any-of, root, at-least, book, first-book, sheet, lined, said, samples}
 
@@ -38,12 +38,32 @@ unfolding definitions samples keyed-on orders
 orders-printed = refl
 
 -- "Any other line, an empty one too, is 7": an unknown code; an empty line, alone and after a good one; no sign; another sign; a
--- sign alone; a carriage return. "Ends the program": what follows the first refusal is not looked at.
+-- sign alone; two signs; a blank before the sign, after it and after the code; a carriage return. "Ends the program": what follows the
+-- first refusal is not looked at. Nothing but byte 10 ends a line: not 13, nor 0, be the rest a line by itself or nothing.
 unfoldable pub bad-lines : List (List ℕ)
 bad-lines =
-    map (keyed-on first-book) ("+X\n" ∷ "\n" ∷ "+Q\n\n" ∷ "Q\n" ∷ "*Q\n" ∷ "+\n" ∷ "+Q\r\n" ∷ "+X\n-Q\n" ∷ [])
+    map
+    (keyed-on first-book)
+    ("+X\n"
+    ∷ "\n"
+    ∷ "+Q\n\n"
+    ∷ "Q\n"
+    ∷ "*Q\n"
+    ∷ "+\n"
+    ∷ "++Q\n"
+    ∷ " +Q\n"
+    ∷ "+ Q\n"
+    ∷ "- Q\n"
+    ∷ "+Q \n"
+    ∷ "+Q\r\n"
+    ∷ "+X\n-Q\n"
+    ∷ "+Q\r"
+    ∷ "+Q\r-P"
+    ∷ "+Q\0"
+    ∷ "+Q\0-P"
+    ∷ [])
 
-pub bad-lines-refused : bad-lines ≡ replicate 8 (text "refused 7\n")
+pub bad-lines-refused : bad-lines ≡ replicate 17 (text "refused 7\n")
 unfolding definitions samples keyed-on bad-lines
 bad-lines-refused = refl
 
@@ -76,11 +96,18 @@ first-lines =
     first-line false (record { settled = true; count = 12 })
     ∷ first-line false (record { settled = false; count = 305 })
     ∷ first-line true (record { settled = false; count = 99 })
+    ∷ first-line false (record { settled = false; count = 100000 })
     ∷ []
 
-pub first-lines-printed : first-lines ≡ map text ("settled 12\n" ∷ "stopped 305\n" ∷ "contradiction 99\n" ∷ [])
+pub first-lines-printed :
+    first-lines ≡ map text ("settled 12\n" ∷ "stopped 305\n" ∷ "contradiction 99\n" ∷ "stopped 100000\n" ∷ [])
 unfolding definitions samples first-lines
 first-lines-printed = refl
+
+-- "Then makes one run with a budget of 100,000." Document 02, U1: "The desk's screen has one fixed buffer of 512 bytes".
+pub numbers-of-the-desk : desk-budget ∷ screen-length ∷ [] ≡ 100000 ∷ 512 ∷ []
+unfolding definitions
+numbers-of-the-desk = refl
 
 -- Document 02, U2: "The desk program begins with an empty list; its 65th line is 14 whatever it holds". With 62 lines keyed: two good
 -- lines, with and without the last line end; a third that is good, empty, of no option; an earlier refusal ends the program first.

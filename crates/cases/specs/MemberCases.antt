@@ -2,13 +2,13 @@
 use mathlib.Core.Bool.{true, false}
 use mathlib.Core.List.{List, [], _∷_, _++_, map}
 use mathlib.Core.Path.{_≡_, refl}
-use Prim.Native.Nat.{ℕ, zero, suc}
+use Prim.Native.Nat.{ℕ, _+_}
 use lib.ListN.{replicate}
 use Rattle.model.specs.Sheet.{is-sheet}
 use Rattle.calls.specs.Calls.{checkOf}
 use Rattle.case_samples.specs.Opened.{definitions}
 use Rattle.case_samples.specs.Samples.{P, Q, R, not-P, not-Q, True, False, plain, all-of, any-of, root, at-least, book, sheet}
-use Rattle.case_samples.specs.Samples.{said, samples}
+use Rattle.case_samples.specs.Samples.{numbers, joined, said, samples}
 
 -- "Its members are true, false, or marks, the marks of distinct options." Plain and barred ones; constants, each twice; no members;
 -- k over the members; below other nodes and beside a mark of the same option; "both 0 to 63".
@@ -57,15 +57,26 @@ pub sheets-judged : map (λ ns. is-sheet (sheet 3 (root 1 ∷ ns))) (good ++ bad
 unfolding definitions samples good bad
 sheets-judged = refl
 
--- The marks of so many options, from one on; 63 members of distinct options, and with the last the same as the first.
-unfoldable pub marks-from : ℕ → ℕ → List ℕ
-marks-from v zero = []
-marks-from v (suc n) = plain v ∷ marks-from (suc v) n
-
+-- 63 members of distinct options, and with the last the same as the first.
 pub most-members :
-    is-sheet (sheet 63 (root 1 ∷ at-least 63 63 ∷ marks-from 0 63))
-    ∷ is-sheet (sheet 63 (root 1 ∷ at-least 63 63 ∷ marks-from 0 62 ++ (P ∷ [])))
+    is-sheet (sheet 63 (root 1 ∷ at-least 63 63 ∷ map (λ v. plain v) (numbers 0 63)))
+    ∷ is-sheet (sheet 63 (root 1 ∷ at-least 63 63 ∷ map (λ v. plain v) (numbers 0 62) ++ (P ∷ [])))
     ∷ []
     ≡ true ∷ false ∷ []
-unfolding definitions samples marks-from
+unfolding definitions samples
 most-members = refl
+
+-- "The weight is nodes plus marks (root counted)": a node of kind 6 is one node. With an any-of of 2,046 marks the root makes 4,094, so two
+-- of them still fit, and three do not.
+unfoldable pub with-leasts : ℕ → List (List ℕ)
+with-leasts n = (any-of 2046 ∷ replicate 2046 P) ∷ replicate n (at-least 0 0 ∷ [])
+
+pub weights-judged :
+    map (λ n. said (checkOf (book ("P" ∷ []) (with-leasts n)))) (2 ∷ 3 ∷ []) ≡ 0 ∷ 6 ∷ []
+unfolding definitions samples with-leasts
+weights-judged = refl
+
+pub weights-of-sheets :
+    map (λ n. is-sheet (sheet 1 (root (1 + n) ∷ joined (with-leasts n)))) (2 ∷ 3 ∷ []) ≡ true ∷ false ∷ []
+unfolding definitions samples with-leasts
+weights-of-sheets = refl

@@ -1,17 +1,19 @@
 -- Steps of every rule, with the nodes before and after; steps that do not apply; the refusals of a step.
-use mathlib.Core.List.{List, [], _∷_, map}
+use mathlib.Core.List.{List, [], _∷_, _++_, map}
 use mathlib.Core.Option.{Option, none, some}
 use mathlib.Core.Path.{_≡_, refl}
-use Prim.Native.Nat.{ℕ}
+use Prim.Native.Nat.{ℕ, _+_}
 use lib.ListN.{replicate}
 use Rattle.model.specs.Base.{maybe}
 use Rattle.model.specs.Code.{node-of, number-of}
 use Rattle.model.specs.Rules.{step}
+use Rattle.model.specs.Strategy.{Redex, redex, next}
 use Rattle.calls.specs.Refusals.{rule-refused, step-refused}
 use Rattle.calls.specs.Outcomes.{refused, accepted, Outcome}
 use Rattle.calls.specs.Calls.{stepOf}
 use Rattle.case_samples.specs.Opened.{definitions}
-use Rattle.case_samples.specs.Samples.{P, Q, R, not-P, not-R, True, False, all-of, any-of, root, at-least, sheet, samples}
+use Rattle.case_samples.specs.Samples.{P, Q, R, S, not-P, not-R, True, False, all-of, any-of, root, at-least, wide, sheet}
+use Rattle.case_samples.specs.Samples.{said, samples}
 
 -- The nodes after a step (rule, place, i, j), if it applies.
 unfoldable pub turned : ℕ → ℕ → ℕ → ℕ → List ℕ → Option (List ℕ)
@@ -37,9 +39,10 @@ steps =
     -- 9: "in the others the same mark becomes false, its opposite true", at any depth, before and behind, and nowhere else.
     ∷ turned 9 1 0 0 (root 2 ∷ any-of 3 ∷ P ∷ all-of 2 ∷ P ∷ any-of 2 ∷ not-P ∷ Q ∷ P ∷ P ∷ [])
     ∷ turned 9 1 1 0 (root 1 ∷ any-of 3 ∷ P ∷ not-P ∷ not-P ∷ [])
-    -- 10: "likewise, but the same mark becomes true, its opposite false".
+    -- 10: "likewise, but the same mark becomes true, its opposite false"; the only other one deep inside.
     ∷ turned 10 0 1 0 (root 3 ∷ all-of 2 ∷ P ∷ any-of 2 ∷ not-P ∷ Q ∷ not-P ∷ P ∷ [])
     ∷ turned 10 0 0 0 (root 2 ∷ P ∷ P ∷ [])
+    ∷ turned 10 0 0 0 (root 2 ∷ P ∷ any-of 2 ∷ Q ∷ all-of 2 ∷ R ∷ not-P ∷ [])
     -- 11, 12: "that mark moves to just before child i."
     ∷ turned 11 1 1 1 (root 1 ∷ all-of 3 ∷ Q ∷ all-of 3 ∷ True ∷ P ∷ R ∷ R ∷ [])
     ∷ turned 11 1 0 0 (root 1 ∷ all-of 1 ∷ all-of 1 ∷ P ∷ [])
@@ -51,10 +54,12 @@ steps =
     ∷ turned 13 1 1 0 (root 1 ∷ all-of 2 ∷ P ∷ True ∷ [])
     ∷ turned 13 1 0 0 (root 1 ∷ all-of 1 ∷ True ∷ [])
     -- 14: "the marks, then all-of(a, any-of(the all-ofs, each without its first a))"; here a stands among the marks too and twice in
-    -- the first all-of. Then two all-ofs that share both their marks: j says which is a.
+    -- the first all-of. Then two all-ofs that share both their marks: j says which is a. A second a stays where it was; three all-ofs.
     ∷ turned 14 1 1 1 (root 2 ∷ any-of 4 ∷ P ∷ all-of 3 ∷ Q ∷ P ∷ P ∷ not-R ∷ all-of 1 ∷ P ∷ R ∷ [])
     ∷ turned 14 1 0 0 (root 1 ∷ any-of 2 ∷ all-of 2 ∷ P ∷ Q ∷ all-of 2 ∷ Q ∷ P ∷ [])
     ∷ turned 14 1 0 1 (root 1 ∷ any-of 2 ∷ all-of 2 ∷ P ∷ Q ∷ all-of 2 ∷ Q ∷ P ∷ [])
+    ∷ turned 14 1 0 0 (root 1 ∷ any-of 2 ∷ all-of 3 ∷ P ∷ Q ∷ P ∷ all-of 1 ∷ P ∷ [])
+    ∷ turned 14 1 0 0 (root 1 ∷ any-of 3 ∷ all-of 1 ∷ P ∷ all-of 2 ∷ P ∷ Q ∷ all-of 2 ∷ R ∷ P ∷ [])
     -- Kind 6 is a child like any other: 7 and 8 put it in its parent's place, 9 and 10 put constants in place of its marks, and 13 and 14
     -- move it with the others.
     ∷ turned 7 1 0 0 (root 1 ∷ all-of 1 ∷ at-least 2 3 ∷ P ∷ Q ∷ R ∷ [])
@@ -104,6 +109,7 @@ pub steps-turn :
     ∷ (root 1 ∷ any-of 3 ∷ True ∷ not-P ∷ False ∷ [])
     ∷ (root 3 ∷ all-of 2 ∷ False ∷ any-of 2 ∷ True ∷ Q ∷ not-P ∷ False ∷ [])
     ∷ (root 2 ∷ P ∷ True ∷ [])
+    ∷ (root 2 ∷ P ∷ any-of 2 ∷ Q ∷ all-of 2 ∷ R ∷ False ∷ [])
     ∷ (root 1 ∷ all-of 4 ∷ Q ∷ P ∷ all-of 2 ∷ True ∷ R ∷ R ∷ [])
     ∷ (root 1 ∷ all-of 2 ∷ P ∷ True ∷ [])
     ∷ (root 4 ∷ Q ∷ P ∷ all-of 2 ∷ True ∷ R ∷ R ∷ [])
@@ -115,6 +121,8 @@ pub steps-turn :
     ∷ (root 2 ∷ any-of 3 ∷ P ∷ not-R ∷ all-of 2 ∷ P ∷ any-of 2 ∷ all-of 2 ∷ Q ∷ P ∷ True ∷ R ∷ [])
     ∷ (root 1 ∷ any-of 1 ∷ all-of 2 ∷ P ∷ any-of 2 ∷ all-of 1 ∷ Q ∷ all-of 1 ∷ Q ∷ [])
     ∷ (root 1 ∷ any-of 1 ∷ all-of 2 ∷ Q ∷ any-of 2 ∷ all-of 1 ∷ P ∷ all-of 1 ∷ P ∷ [])
+    ∷ (root 1 ∷ any-of 1 ∷ all-of 2 ∷ P ∷ any-of 2 ∷ all-of 2 ∷ Q ∷ P ∷ True ∷ [])
+    ∷ (root 1 ∷ any-of 1 ∷ all-of 2 ∷ P ∷ any-of 3 ∷ True ∷ all-of 1 ∷ Q ∷ all-of 1 ∷ R ∷ [])
     ∷ (root 1 ∷ at-least 2 3 ∷ P ∷ Q ∷ R ∷ [])
     ∷ (root 1 ∷ at-least 2 3 ∷ P ∷ Q ∷ R ∷ [])
     ∷ (root 1 ∷ any-of 3 ∷ at-least 2 3 ∷ False ∷ Q ∷ R ∷ P ∷ at-least 1 2 ∷ True ∷ Q ∷ [])
@@ -141,6 +149,37 @@ pub steps-turn :
     ∷ [])
 unfolding definitions samples turned steps
 steps-turn = refl
+
+-- "Place (nodes counted from the root, 0), child i and inner child j, from 0", each past 256.
+unfoldable pub far-steps : List (Option (List ℕ))
+far-steps =
+    turned 7 300 0 0 (root 300 ∷ replicate 299 P ++ (all-of 1 ∷ Q ∷ []))
+    ∷ turned 4 1 299 0 (root 1 ∷ all-of 300 ∷ replicate 299 P ++ (True ∷ []))
+    ∷ turned 12 0 0 299 (root 1 ∷ all-of 300 ∷ replicate 299 True ++ (P ∷ []))
+    ∷ []
+
+pub far-steps-turn :
+    far-steps
+    ≡ map some
+    ((root 300 ∷ replicate 299 P ++ (Q ∷ []))
+    ∷ (root 1 ∷ all-of 299 ∷ replicate 299 P)
+    ∷ (root 2 ∷ P ∷ all-of 299 ∷ replicate 299 True)
+    ∷ [])
+unfolding definitions samples turned far-steps
+far-steps-turn = refl
+
+-- Numbers that fewer bits would take for the right one: the place, child i, inner child j, an i and a j that must be 0.
+unfoldable pub wide-steps : List (Option (List ℕ))
+wide-steps =
+    map (λ n. turned 7 (1 + n) 0 0 (root 1 ∷ all-of 1 ∷ P ∷ [])) wide
+    ++ map (λ n. turned 4 1 n 0 (root 1 ∷ all-of 1 ∷ True ∷ [])) wide
+    ++ map (λ n. turned 12 0 0 n (root 1 ∷ all-of 1 ∷ P ∷ [])) wide
+    ++ map (λ n. turned 7 1 n 0 (root 1 ∷ all-of 1 ∷ P ∷ [])) wide
+    ++ map (λ n. turned 7 1 0 n (root 1 ∷ all-of 1 ∷ P ∷ [])) wide
+
+pub wide-steps-none : wide-steps ≡ replicate 20 none
+unfolding definitions samples turned wide-steps
+wide-steps-none = refl
 
 -- Steps that do not apply, each next to one that does.
 unfoldable pub idle-steps : List (Option (List ℕ))
@@ -301,6 +340,27 @@ pub idle-steps-none : idle-steps ≡ replicate 137 none
 unfolding definitions samples turned idle-steps
 idle-steps-none = refl
 
+-- "The house step is the applicable one with lowest rule, then place, i, j." Of several that apply: rule 4, though at a later place than 5;
+-- place 1, though at a later child than the next; child 0; inner child 1 of child 0, though there is an inner child 0 of child 1; inner child
+-- 0. Where none applies, there is none.
+unfoldable pub house-steps : List (Option Redex)
+house-steps =
+    map
+    (λ ns. next (map node-of ns))
+    ((root 2 ∷ any-of 2 ∷ P ∷ False ∷ all-of 2 ∷ Q ∷ True ∷ [])
+    ∷ (root 2 ∷ all-of 2 ∷ P ∷ True ∷ all-of 2 ∷ True ∷ Q ∷ [])
+    ∷ (root 1 ∷ all-of 3 ∷ True ∷ P ∷ True ∷ [])
+    ∷ (root 2 ∷ all-of 2 ∷ any-of 2 ∷ P ∷ Q ∷ R ∷ all-of 2 ∷ S ∷ any-of 2 ∷ P ∷ Q ∷ [])
+    ∷ (root 1 ∷ all-of 2 ∷ P ∷ Q ∷ [])
+    ∷ (root 1 ∷ P ∷ [])
+    ∷ [])
+
+pub house-steps-so :
+    house-steps
+    ≡ map some (redex 4 4 1 0 ∷ redex 4 1 1 0 ∷ redex 4 1 0 0 ∷ redex 12 0 0 1 ∷ redex 12 0 0 0 ∷ []) ++ (none ∷ [])
+unfolding definitions samples house-steps
+house-steps-so = refl
+
 -- By the call: accepted, with the used count and the zeros; "10 the step does not apply", for an index without use and for a place at the
 -- used count; document 02, U4: "refusal 9 is for rules outside 1 to 17", though the rest would do for 7. The last rule is 17.
 unfoldable pub answers : List (Outcome (List ℕ) (Unit {0}))
@@ -319,3 +379,11 @@ pub steps-answered :
     ∷ []
 unfolding definitions samples answers
 steps-answered = refl
+
+-- "9 rule not 1 to 14", and since document 02, U4 not 1 to 17: rule 7 applies, and no number that fewer bits would take for 7 is a rule.
+unfoldable pub wide-rules : List ℕ
+wide-rules = map (λ n. said (stepOf (sheet 1 (root 1 ∷ all-of 1 ∷ P ∷ [])) (7 + n) 1 0 0 .answer)) (0 ∷ wide)
+
+pub wide-rules-refused : wide-rules ≡ 0 ∷ replicate 4 9
+unfolding definitions samples wide-rules
+wide-rules-refused = refl
