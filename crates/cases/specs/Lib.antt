@@ -1,4 +1,5 @@
 -- Computed cases beside the starred ones, one subject each.
+pub mod OneCallCases
 pub mod CallCases
 pub mod DeskCases
 pub mod BookCases

@@ -12,8 +12,8 @@ use Rattle.calls.specs.Refusals.{rule-refused, step-refused}
 use Rattle.calls.specs.Outcomes.{refused, accepted, Outcome}
 use Rattle.calls.specs.Calls.{stepOf}
 use Rattle.case_samples.specs.Opened.{definitions}
-use Rattle.case_samples.specs.Samples.{P, Q, R, S, not-P, not-R, True, False, all-of, any-of, root, at-least, wide, sheet}
-use Rattle.case_samples.specs.Samples.{said, samples}
+use Rattle.case_samples.specs.Samples.{P, Q, R, S, not-P, not-R, True, False, plain, all-of, any-of, root, at-least, numbers, wide}
+use Rattle.case_samples.specs.Samples.{joined, sheet, said, samples}
 
 -- The nodes after a step (rule, place, i, j), if it applies.
 unfoldable pub turned : ℕ → ℕ → ℕ → ℕ → List ℕ → Option (List ℕ)
@@ -342,7 +342,7 @@ idle-steps-none = refl
 
 -- "The house step is the applicable one with lowest rule, then place, i, j." Of several that apply: rule 4, though at a later place than 5;
 -- place 1, though at a later child than the next; child 0; inner child 1 of child 0, though there is an inner child 0 of child 1; inner child
--- 0. Where none applies, there is none.
+-- 0. It is found far off too: at place 21, at child 20, at inner child 20. Where none applies, there is none.
 unfoldable pub house-steps : List (Option Redex)
 house-steps =
     map
@@ -352,12 +352,17 @@ house-steps =
     ∷ (root 1 ∷ all-of 3 ∷ True ∷ P ∷ True ∷ [])
     ∷ (root 2 ∷ all-of 2 ∷ any-of 2 ∷ P ∷ Q ∷ R ∷ all-of 2 ∷ S ∷ any-of 2 ∷ P ∷ Q ∷ [])
     ∷ (root 1 ∷ all-of 2 ∷ P ∷ Q ∷ [])
+    ∷ (root 21 ∷ map (λ v. plain v) (numbers 0 20) ++ (all-of 1 ∷ plain 20 ∷ []))
+    ∷ (root 21 ∷ map (λ v. plain v) (numbers 0 20) ++ (True ∷ []))
+    ∷ (root 1 ∷ all-of 21 ∷ joined (replicate 20 (any-of 2 ∷ P ∷ Q ∷ [])) ++ (R ∷ []))
     ∷ (root 1 ∷ P ∷ [])
     ∷ [])
 
 pub house-steps-so :
     house-steps
-    ≡ map some (redex 4 4 1 0 ∷ redex 4 1 1 0 ∷ redex 4 1 0 0 ∷ redex 12 0 0 1 ∷ redex 12 0 0 0 ∷ []) ++ (none ∷ [])
+    ≡ map some (redex 4 4 1 0 ∷ redex 4 1 1 0 ∷ redex 4 1 0 0 ∷ redex 12 0 0 1 ∷ redex 12 0 0 0 ∷ [])
+    ++ map some (redex 7 21 0 0 ∷ redex 6 0 20 0 ∷ redex 12 0 0 20 ∷ [])
+    ++ (none ∷ [])
 unfolding definitions samples house-steps
 house-steps-so = refl
 
