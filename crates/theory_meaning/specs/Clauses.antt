@@ -4,7 +4,7 @@ use mathlib.Core.Bool.{Bool, true, false, _&&_, _||_, or-true, or-false}
 use mathlib.Core.List.{List, [], _∷_, _++_, append-nil, append-assoc, List·Memᴰ, List·Memᴰ·head, List·Memᴰ·tail, Memᴰ·append-right, List·Memᴰ·eq-of-singleton}
 use mathlib.Core.Logic.{⊎-elim, _↔_}
 use mathlib.Core.Path.{_≡_, refl, sym, ap, ap₂, _∙_}
-use Prim.Native.Nat.{ℕ, zero, suc, _<_}
+use Prim.Native.Nat.{suc}
 use native.Mathlib.Omega.{arith}
 use Rattle.model.specs.Base.{pick, all}
 use Rattle.model.specs.Literal.{Literal, same}
@@ -14,15 +14,10 @@ use Rattle.model.specs.Propagation.{others}
 use Rattle.theory_forms.specs.Logic.{true-false, either, or-split, or-left, or-right}
 use Rattle.theory_forms.specs.Lists.{all-at, all-from}
 use Rattle.theory_forms.specs.Literals.{same-is, same-sym, not-same}
+use Rattle.theory_forms.specs.Taken.{from-none, from-too-many}
 use Rattle.theory_meaning.specs.Evaluation.{Set, with-one}
 
 -- "Of an all-of or root, those of all children": from one child a clause is taken, and nothing joined to it.
-none-of : (f : Forest) → some-of f 0 ≡ [] ∷ []
-unfolding some-of no-tree one-tree-more
-none-of nil = refl
-none-of (lit l f) = refl
-none-of (node c k f) = refl
-
 unions-none : (cs : List Clause) → unions cs ([] ∷ []) ≡ cs
 unfolding unions
 unions-none [] = refl
@@ -30,7 +25,7 @@ unions-none (c ∷ cs) = ap₂ _∷_ (append-nil c) (unions-none cs)
 
 root-more : (cs : List Clause) (f : Forest) → one-tree-more cs (some-of f) 1 ≡ cs ++ clauses root f
 unfolding one-tree-more clauses need
-root-more cs f = ap (λ ds. ds ++ some-of f 1) (ap (unions cs) (none-of f) ∙ unions-none cs)
+root-more cs f = ap (λ ds. ds ++ some-of f 1) (ap (unions cs) (from-none f) ∙ unions-none cs)
 
 pub root-nil : clauses root nil ≡ []
 unfolding clauses need some-of no-tree
@@ -49,28 +44,10 @@ unfolding clauses need
 and-clauses f = refl
 
 -- "Of an any-of, every union that takes one clause from each child": from more trees than there are none is taken.
-unions-empty : (cs : List Clause) → unions cs [] ≡ []
-unfolding unions
-unions-empty [] = refl
-unions-empty (c ∷ cs) = unions-empty cs
-
-more-empty : (cs : List Clause) (later : ℕ → List Clause) (r : ℕ) → later r ≡ [] → later (suc r) ≡ [] → one-tree-more cs later (suc r) ≡ []
-unfolding one-tree-more
-more-empty cs later r p q = rw (p, q, unions-empty cs)
-
-too-many : (f : Forest) (r : ℕ) → size f < r → some-of f r ≡ []
-unfolding some-of no-tree size
-too-many f zero h = absurd (omega arith)
-too-many nil (suc r) h = refl
-too-many (lit l f) (suc r) h =
-    more-empty ((l ∷ []) ∷ []) (some-of f) r (too-many f r (omega arith)) (too-many f (suc r) (omega arith))
-too-many (node c k f) (suc r) h =
-    more-empty (some-of k (need c (size k))) (some-of f) r (too-many f r (omega arith)) (too-many f (suc r) (omega arith))
-
 or-more : (cs : List Clause) (f : Forest) → one-tree-more cs (some-of f) (suc (size f)) ≡ unions cs (clauses or f)
 unfolding one-tree-more clauses need
 or-more cs f =
-    ap (λ ds. unions cs (some-of f (size f)) ++ ds) (too-many f (suc (size f)) (omega arith)) ∙ append-nil (unions cs (some-of f (size f)))
+    ap (λ ds. unions cs (some-of f (size f)) ++ ds) (from-too-many f (suc (size f)) (omega arith)) ∙ append-nil (unions cs (some-of f (size f)))
 
 pub or-nil : clauses or nil ≡ [] ∷ []
 unfolding clauses need some-of no-tree size
