@@ -5,7 +5,7 @@ use mathlib.Core.List.{List·Memᴰ, List·Memᴰ·head, List·Memᴰ·not-nil, 
 use mathlib.Core.List.{Memᴰ·append-left, Memᴰ·append-right, Memᴰ·map, Memᴰ·of-map}
 use mathlib.Core.Logic.{_↔_, ⊎-elim}
 use mathlib.Core.Path.{_≡_, refl, sym, ap, subst, _∙_}
-use Prim.Native.Nat.{ℕ, zero, suc, _+_, _-_, _≤_, _<_}
+use Prim.Native.Nat.{ℕ, zero, suc, _+_, _≤_, _<_}
 use native.Mathlib.Omega.{arith}
 use lib.ListN.{length}
 use Rattle.model.specs.Literal.{Literal}
@@ -16,12 +16,14 @@ use Rattle.theory_forms.specs.Taken.{from-none, from-too-many}
 -- "None if k is 0."
 pub no-clause : (members : Forest) → clauses (at-least 0) members ≡ []
 unfolding clauses need
-no-clause members = from-too-many members (suc (size members) - 0) (omega arith)
+no-clause members = from-too-many members (need (at-least 0) (size members)) (omega arith)
 
 -- "The empty clause if k exceeds the members", and no other.
 pub empty-clause : (k : ℕ) (members : Forest) → size members < k → clauses (at-least k) members ≡ [] ∷ []
 unfolding clauses need
-empty-clause k members h = let e : suc (size members) - k ≡ 0 = omega arith in ap (some-of members) e ∙ from-none members
+empty-clause k members h =
+    let e : need (at-least k) (size members) ≡ 0 = omega arith in
+    ap (some-of members) e ∙ from-none members
 
 -- Members that are marks, and some of them, as they stand.
 abbrev pub marks : List Literal → Forest
@@ -85,8 +87,8 @@ pub of-marks :
     List·Memᴰ c (clauses (at-least k) (marks ls)) ↔ (Some c ls × (length c + k ≡ length ls + 1))
 unfolding clauses need
 of-marks k ls c h = (
-  λ m. let w = some-are ls (suc (size (marks ls)) - k) c m in (w .0, omega (arith, w .1, size-marks ls)),
+  λ m. let w = some-are ls (need (at-least k) (size (marks ls))) c m in (w .0, omega (arith, w .1, size-marks ls)),
   λ w.
-      let e : suc (size (marks ls)) - k ≡ length c = omega (arith, w .1, size-marks ls) in
-      rw e (are-some (w .0)),
+      let e : length c ≡ need (at-least k) (size (marks ls)) = omega (arith, w .1, size-marks ls) in
+      subst (λ r. List·Memᴰ c (some-of (marks ls) r)) e (are-some (w .0)),
 )
