@@ -114,7 +114,7 @@ module _ (book l s : List ℕ) (ls : List Line) (c : ℕ) where
     unfolding lineKeyed with-option key-found pick
     line-unknown e = rw (keyed-is, ne-eqb c most-lines free, e)
 
-    line-key :
+    pub line-key :
         {v : ℕ} {a : Answer (Unit {0})} {u : List ℕ} →
         asked book l ≡ accepted v →
         afterCall a u ≡ onSheet (keyOf (order s ls c) v (negative-of l)) →
@@ -123,21 +123,14 @@ module _ (book l s : List ℕ) (ls : List Line) (c : ℕ) where
     line-key {v} e k =
         rw (keyed-is, ne-eqb c most-lines free, e) (ap (λ o. record { answer = with-option (accepted v) (o .answer); lent = o .lent }) k)
 
-    module _ {v : ℕ} {a : Answer (Unit {0})} {u : List ℕ} (e : asked book l ≡ accepted v) where
-      pub key-refused :
-          {r : Refusal} →
-          a ≡ refused r →
-          afterCall a u ≡ onSheet (keyOf (order s ls c) v (negative-of l)) →
-          afterCall (refused r) u ≡ lineKeyed book l (order s ls c)
-      unfolding with-option
-      key-refused f k = line-key e (rw f at k)
-
-      pub key-taken :
-          a ≡ accepted tt →
-          afterCall a u ≡ onSheet (keyOf (order s ls c) v (negative-of l)) →
-          afterCall (accepted v) u ≡ lineKeyed book l (order s ls c)
-      unfolding with-option
-      key-taken f k = line-key e (rw f at k)
+    pub key-taken :
+        {v : ℕ} {a : Answer (Unit {0})} {u : List ℕ} →
+        asked book l ≡ accepted v →
+        a ≡ accepted tt →
+        afterCall a u ≡ onSheet (keyOf (order s ls c) v (negative-of l)) →
+        afterCall (accepted v) u ≡ lineKeyed book l (order s ls c)
+    unfolding with-option
+    key-taken e f k = line-key e (rw f at k)
 
   -- What such an answer says of the whole state: a refusal leaves its sheet, an option that was keyed is the last line.
   pub line-stopped :

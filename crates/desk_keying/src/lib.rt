@@ -4,10 +4,11 @@ ghost use mathlib.Core.Bool.{_||_};
 ghost use Prim.Native.Nat.{_≤_};
 ghost use lib.Dec.{eqb};
 ghost use lib.ListN.{length};
+ghost use Rattle.calls.specs.Outcomes.{accepted};
 ghost use Rattle.calls.specs.Desk.{lines, «all-keyed», «with-no-lines»};
 ghost use Rattle.call_answers.specs.AnswerMeaning.{doneOf, foundOf, afterCall, onSheet};
 ghost use Rattle.order_lines.specs.LineMeaning.{order};
-ghost use Rattle.desk_keying.specs.Endings.{ending, asked, lineKeyed, dropped};
+ghost use Rattle.desk_keying.specs.Endings.{ending, asked, «with-option», lineKeyed, dropped};
 use call_answers::Done;
 use call_answers::Found;
 use call_answers::Refusal;
@@ -19,10 +20,20 @@ use order_lines::SLOTS;
 fn without_number(found: Found) -> Done
     ensures { λ r. ⌜ doneOf r ≡ dropped (foundOf found) ⌝ }
 {
-    if let Found::Refused(r) = found {
-        return Done::Refused(r);
-    }
-    Done::Accepted
+    let Found::Refused(r) = found else {
+        return Done::Accepted;
+    };
+    Done::Refused(r)
+}
+
+// The option of a line that is keyed, or why it is not: by the choice's answer.
+fn with_option(v: usize, answer: Done) -> Found
+    ensures { λ r. ⌜ foundOf r ≡ «with-option» (accepted v) (doneOf answer) ⌝ }
+{
+    let Done::Refused(r) = answer else {
+        return Found::Value(v);
+    };
+    Found::Refused(r)
 }
 
 // A plus or a minus.
@@ -68,9 +79,9 @@ pub fn key_line(
         return found;
     };
     let answer = call_keying::key(sheet, lines, count, v as u64, line[0] == 45);
-    if let Done::Refused(r) = answer {
-        return Found::Refused(r);
-    }
+    let Done::Accepted = answer else {
+        return with_option(v, answer);
+    };
     Found::Value(v)
 }
 

@@ -5,7 +5,7 @@ use borrow.Author.Needs.{needs}
 use Rattle.calls.specs.Outcomes.{accepted}
 use Rattle.call_answers.specs.AnswerMeaning.{doneOf, foundOf}
 use Rattle.desk_keying.specs.Endings.{asked}
-use Rattle.desk_keying.proofs.KeyedLines.{asked-small, line-full, line-unknown, key-refused, key-taken}
+use Rattle.desk_keying.proofs.KeyedLines.{asked-small, line-full, line-unknown, line-key, key-taken}
 use Rattle.desk_keying.proofs.key_line.Statement.{statement}
 use Rattle.desk_keying.proofs.key_line.Tie as tie
 
@@ -36,8 +36,9 @@ returns-3 : tie.Need-returns-3
 returns-3 c =
     let named = c .before .before .before .before .before .before .before .before in
     let a = named .before .before .before .before .before .before .before .before .args in
-    key-refused (a .book .now) (a .line .now) (a .sheet .now) (a .lines) (a .count) (named .before .before .before .before .if1 .left) (asks named)
-    (ap doneOf (c .before .answer .given .1)) (c .before .before .before .before .before .key .ensures)
+    rw (c .with-option .ensures)
+    (line-key (a .book .now) (a .line .now) (a .sheet .now) (a .lines) (a .count) (named .before .before .before .before .if1 .left) (asks named)
+    (c .before .before .before .before .before .key .ensures))
 
 returns-4 : tie.Need-returns-4
 returns-4 c =
@@ -59,7 +60,8 @@ key-line-spec =
     (λ c κs. search needs)
     (λ c. search needs)
     (λ c. search needs)
-    returns-3
+    (λ c κs. search needs)
     (λ c. search needs)
+    returns-3
     (λ c. search needs)
     returns-4)
