@@ -17,7 +17,7 @@ use common_weight::MOST_WEIGHT;
 use import_judge::Judged;
 
 // Whether so many options, told by their digits, clauses and marks are too many for a book. The nodes are known to be few before a
-// weight is summed.
+// weight is summed: the root and the nodes, then each mark once more.
 fn is_too_large(options: &[u8], clauses: usize, marks: usize) -> bool
     requires { ⌜ («is-decimal» (now options) ≡ true) × (clauses + marks < 18446744073709551616) ⌝ }
     ensures { λ r. ⌜ r ≡ «over-limits» («number-in» (now (options .entry))) clauses marks ⌝ }
@@ -35,7 +35,8 @@ fn is_too_large(options: &[u8], clauses: usize, marks: usize) -> bool
     if MOST_NODES < nodes {
         return true;
     }
-    MOST_WEIGHT < common_weight::add_weights(1 + nodes as u16, marks as u16)
+    let weight = common_weight::add_weights(1, nodes as u16);
+    MOST_WEIGHT < common_weight::add_weights(weight, marks as u16)
 }
 
 // The book of a file that is not too large, where the output has room for it.

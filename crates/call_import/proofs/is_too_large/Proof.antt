@@ -33,7 +33,10 @@ returns-4 : tie.Need-returns-4
 returns-4 c = over-nodes _ _ _ (few (c .before .before)) (c .before .if3 .left) (c .if4 .taken)
 
 returns-5 : tie.Need-returns-5
-returns-5 c = by-weight _ _ _ (few (c .before .before .before)) (c .before .before .if3 .left) (c .before .if4 .left) (c .add-weights .ensures .0)
+returns-5 c =
+    let sum = c .before in
+    by-weight _ _ _ (few (sum .before .before .before)) (sum .before .before .if3 .left) (sum .before .if4 .left) {w = c .add-weights2 .result}
+    (omega (arith, sum .add-weights .ensures .0, c .add-weights2 .ensures .0))
 
 pub is-too-large-spec : {M : Type 1} → statement M
 is-too-large-spec =
@@ -46,7 +49,7 @@ is-too-large-spec =
     (λ c. omega (arith, c .before .before .before .before .before .pre .1))
     returns-4
     (λ c. omega (arith, c .if4 .left))
-    (λ c. omega (arith, c .if4 .left))
-    (λ c. omega (arith, c .if4 .left))
     (λ c κs. omega (arith, c .if4 .left))
+    (λ c. omega (arith, c .before .if4 .left))
+    (λ c κs. omega (arith, c .before .if4 .left, c .add-weights .ensures .0))
     returns-5)
