@@ -1,4 +1,4 @@
--- The limits and sizes of books and sheets, in one place. Code has them by the same names (crate `limits`).
+-- The limits and sizes of books and sheets, in one place. Code has them by the same names (crate `common_limits`).
 use Prim.Native.Nat.{ℕ, suc, _+_, _*_}
 
 pub record Limits : Type 0 where
