@@ -1,8 +1,8 @@
 -- "A code has 1 to 13 characters from A-Z, a-z, 0-9 and hyphen, then zero bytes. All 13 bytes are compared." Refusal 3: "a malformed code,
 -- or one equal to an earlier." Cases have a few codes; here the book is any.
-use mathlib.Core.Bool.{Bool, true, false, not, _&&_, _||_}
+use mathlib.Core.Bool.{Bool, true, false, not, _&&_}
 use mathlib.Core.List.{List, [], _∷_}
-use mathlib.Core.Logic.{_⊎_, inl, inr, _↔_, ⊎-elim}
+use mathlib.Core.Logic.{_⊎_, _↔_, ⊎-elim}
 use mathlib.Core.Path.{_≡_, refl, sym, ap, subst, _∙_}
 use Prim.Native.Nat.{ℕ, zero, suc, _+_, _*_, _≤_, _<_}
 use native.Mathlib.Omega.{arith}
@@ -15,11 +15,11 @@ use Rattle.model.specs.Book.{word, options-of, pieces, codes-of, between, chara
 use Rattle.calls.specs.Conditions.{has-good-codes}
 use Rattle.theory_forms.specs.Logic.{true-false, and-split, and-join, or-split, or-left, or-right, fails-if, pick-true, pick-false}
 use Rattle.theory_forms.specs.Placed.{same-list-is}
-use Rattle.case_theorems.specs.Places.{all-place, one-more}
+use Rattle.case_theorems.specs.Places.{or-exactly, all-place, one-more}
 
 -- "Characters from A-Z, a-z, 0-9 and hyphen", by their bytes.
 abbrev pub Is-character : ℕ → Type 0
-Is-character x = ((65 ≤ x) × (x ≤ 90)) ⊎ ((97 ≤ x) × (x ≤ 122)) ⊎ ((48 ≤ x) × (x ≤ 57)) ⊎ (x ≡ 45)
+Is-character x = ((((65 ≤ x) × (x ≤ 90)) ⊎ ((97 ≤ x) × (x ≤ 122))) ⊎ ((48 ≤ x) × (x ≤ 57))) ⊎ (x ≡ 45)
 
 between-exactly : (lo hi x : ℕ) → (between lo hi x ≡ true) ↔ ((lo ≤ x) × (x ≤ hi))
 unfolding between
@@ -30,28 +30,12 @@ between-exactly lo hi x = (
 
 character-exactly : (x : ℕ) → (character x ≡ true) ↔ Is-character x
 unfolding character
-character-exactly x = (
-  λ e.
-      ⊎-elim
-      (λ p.
-      ⊎-elim
-      (λ q.
-      ⊎-elim
-      (λ r. inl (between-exactly 65 90 x .0 r))
-      (λ r. inr (inl (between-exactly 97 122 x .0 r)))
-      (or-split (between 65 90 x) (between 97 122 x) q))
-      (λ q. inr (inr (inl (between-exactly 48 57 x .0 q))))
-      (or-split (between 65 90 x || between 97 122 x) (between 48 57 x) p))
-      (λ p. inr (inr (inr (eqb-true x 45 p))))
-      (or-split (between 65 90 x || between 97 122 x || between 48 57 x) (eqb x 45) e),
-  from,
-)
-  where
-    from : Is-character x → character x ≡ true
-    from (inl w) = or-left (eqb x 45) (or-left (between 48 57 x) (or-left (between 97 122 x) (between-exactly 65 90 x .1 w)))
-    from (inr (inl w)) = or-left (eqb x 45) (or-left (between 48 57 x) (or-right (between 65 90 x) (between-exactly 97 122 x .1 w)))
-    from (inr (inr (inl w))) = or-left (eqb x 45) (or-right (between 65 90 x || between 97 122 x) (between-exactly 48 57 x .1 w))
-    from (inr (inr (inr e))) = or-right (between 65 90 x || between 97 122 x || between 48 57 x) (eq-eqb x 45 e)
+character-exactly x =
+    or-exactly _ _
+    (or-exactly _ _
+    (or-exactly _ _ (between-exactly 65 90 x) (between-exactly 97 122 x))
+    (between-exactly 48 57 x))
+    (eqb-true x 45, eq-eqb x 45)
 
 no-character : character 0 ≡ false
 unfolding character between

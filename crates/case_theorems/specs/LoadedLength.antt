@@ -10,25 +10,21 @@ use lib.ListN.{length, replicate, length-append, length-map, length-replicate}
 use Rattle.model.specs.Code.{Node, weight, number-of}
 use Rattle.model.specs.Limits.{sheet-length, sheet-room, most-weight}
 use Rattle.model.specs.Sheet.{sheet-of}
-use Rattle.model.specs.Book.{options-of, head-in-limits, book-nodes}
+use Rattle.model.specs.Book.{options-of, book-nodes}
 use Rattle.calls.specs.Refusals.{Refusal}
 use Rattle.calls.specs.Outcomes.{outcome}
-use Rattle.calls.specs.Conditions.{lacks-head, is-length-due, has-good-codes, has-good-contents, has-good-bodies, is-light, is-long-enough}
+use Rattle.calls.specs.Conditions.{is-light, is-long-enough}
 use Rattle.calls.specs.Chains.{part-refusal, book-refusal, load-refusal}
 use Rattle.calls.specs.Calls.{loadOf}
-use Rattle.theory_forms.specs.Logic.{only-none, none-due}
+use Rattle.theory_forms.specs.Logic.{only-none, first-none, none-due}
 
 -- A book that is not refused has no more nodes than a sheet has room for.
 few-nodes : (b : List ℕ) → book-refusal b ≡ none → length (book-nodes b) ≤ sheet-room
 unfolding book-refusal part-refusal weight
 few-nodes b e =
-    let e1 = none-due (lacks-head b) _ _ e in
-    let e2 = none-due (not (head-in-limits b)) _ _ (e1 .1) in
-    let e3 = none-due (not (is-length-due b)) _ _ (e2 .1) in
-    let e4 = none-due (not (has-good-codes b)) _ _ (e3 .1) in
-    let e5 = none-due (not (has-good-contents b)) _ _ (e4 .1) in
-    let e6 = none-due (not (has-good-bodies b)) _ _ (e5 .1) in
-    let light = leb-true (weight (book-nodes b)) most-weight (not-false (is-light b) (only-none (not (is-light b)) _ (e6 .1))) in
+    let parts = first-none _ _ (first-none _ _ (first-none _ _ e .1) .1) .1 in
+    let last = first-none _ _ (first-none _ _ (first-none _ _ parts .1) .1) .1 in
+    let light = leb-true (weight (book-nodes b)) most-weight (not-false (is-light b) (only-none (not (is-light b)) _ last)) in
     omega arith
 
 sheet-filled : (n : ℕ) (ns : List Node) → length ns ≤ sheet-room → length (sheet-of n ns) ≡ sheet-length

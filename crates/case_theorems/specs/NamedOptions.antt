@@ -17,9 +17,8 @@ use Rattle.model.specs.Book.{bodies-of}
 use Rattle.calls.specs.Index.{names}
 use Rattle.calls.specs.Lines.{State, counted}
 use Rattle.calls.specs.Named.{is-named}
-use Rattle.theory_forms.specs.Logic.{or-split, or-left, or-right}
 use Rattle.theory_forms.specs.Lists.{any-map}
-use Rattle.case_theorems.specs.Places.{any-place}
+use Rattle.case_theorems.specs.Places.{or-exactly, any-place}
 use Rattle.case_theorems.specs.Marks.{Is-mark, mark-exactly}
 
 -- Some rule of the book names option v: node i of body r is a mark of it.
@@ -99,13 +98,4 @@ module _ (v : ℕ) (small : v < 4096) where
       (book : List ℕ) (order : State) →
       (is-named book (counted order) v ≡ true) ↔ (Rule-names book v ⊎ Choice-names order v)
   unfolding is-named
-  named-exactly book order = (
-    λ e. ⊎-elim (λ r. inl (rule-exactly book .0 r)) (λ c. inr (choice-exactly v order .0 c)) (or-split in-rules in-choices e),
-    ⊎-elim (λ r. or-left in-choices (rule-exactly book .1 r)) (λ c. or-right in-rules (choice-exactly v order .1 c)),
-  )
-    where
-      in-rules : Bool
-      in-rules = any (λ body. any (names v) (map node-of body)) (bodies-of book)
-
-      in-choices : Bool
-      in-choices = any (λ l. eqb v (option l)) (counted order)
+  named-exactly book order = or-exactly _ _ (rule-exactly book) (choice-exactly v order)

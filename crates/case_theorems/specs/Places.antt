@@ -1,7 +1,7 @@
--- Tests over a list, by its places.
-use mathlib.Core.Bool.{Bool, true}
+-- Tests by what they say: one of two; over a list, by its places.
+use mathlib.Core.Bool.{Bool, true, _||_}
 use mathlib.Core.List.{List, [], _∷_}
-use mathlib.Core.Logic.{_↔_, ⊎-elim}
+use mathlib.Core.Logic.{_⊎_, inl, inr, _↔_, ⊎-elim}
 use mathlib.Core.Path.{_≡_, refl, sym}
 use Prim.Native.Nat.{ℕ, zero, suc, _<_}
 use native.Mathlib.Omega.{arith}
@@ -9,6 +9,16 @@ use lib.ListN.{length, getD}
 use Rattle.model.specs.Base.{all, any}
 use Rattle.theory_forms.specs.Logic.{true-false, and-join, or-split, or-left, or-right}
 use Rattle.theory_forms.specs.Lists.{all-index}
+
+pub or-exactly :
+    {A B : Type 0} (a b : Bool) →
+    (a ≡ true) ↔ A →
+    (b ≡ true) ↔ B →
+    ((a || b) ≡ true) ↔ (A ⊎ B)
+or-exactly a b f g = (
+  λ e. ⊎-elim (λ p. inl (f .0 p)) (λ q. inr (g .0 q)) (or-split a b e),
+  ⊎-elim (λ x. or-left b (f .1 x)) (λ y. or-right a (g .1 y)),
+)
 
 module _ {A : Type 0} (p : A → Bool) (d : A) where
   -- A place of the list passes the test.
