@@ -3,7 +3,8 @@
 making: random books. round_trips: shown and made again. verdicts: damaged books, the library's refusal beside the tool's. messages:
 every mistake of the notation, with its line and column. mangled: texts with pieces lost. meanings: truth tables. nests: as deep as
 books allow. changes: what a comparison calls added, removed and moved. imports: clause files, the reader of the tool beside the proved
-import. verbs: the program as it is called, and the files that it leaves. `tests/book/run` runs all.
+import. program: the tool as a program. verbs: what each does. keeping: that no file is lost. telling: what is said of files of another
+kind, of names and lines that a terminal would act on. `tests/book/run` runs all.
 """
 import ctypes
 from pathlib import Path

@@ -2,6 +2,7 @@
 such a mistake is met by a case."""
 import ast
 import inspect
+import re
 
 from bookfile import grammar, notation, spelling, words
 from bookfile.words import NotationMistake
@@ -34,8 +35,19 @@ CASES = (
     ("option\nA", 1, 1, "no code follows `option` on its line"),
     ("option all", 1, 8, 'for a code of that name write "all"'),
     ("option (A)", 1, 8, "a code is missing before `(`"),
-    ("option A B", 1, 10, "only a comment may follow the code of an option"),
-    ("option A option B", 1, 10, "only a comment may follow"),
+    ("option A B", 1, 10, "each option has a line of its own: write `option B` on the next, or # before it if it is a comment"),
+    ('option A "all"', 1, 10, "a line of its own: write `option \"all\"` on the next"),
+    ("option A " + "B" * 5000, 1, 10, "a line of its own: write `option BBB"),
+    ("option A option B", 1, 10, "`option` begins a line of its own: break the line before it"),
+    ("option A rule A", 1, 10, "`rule` begins a line of its own: break the line before it"),
+    ("option A, B", 1, 9, "each option has a line of its own, and no comma: write `option B` on the next"),
+    ('option A,"B"', 1, 9, "each option has a line of its own, and no comma: write `option \"B\"` on the next"),
+    ("option A,\noption B", 1, 9, "each option has a line of its own, and no comma"),
+    ("option A,\nB", 1, 9, "each option has a line of its own, and no comma"),
+    ("option A (the small one)", 1, 10, "nothing but a comment, which begins with #, may follow the code of an option; this is `(`"),
+    (AB + "rule A rule B", 3, 8, "`rule` begins a line of its own: break the line before it"),
+    (AB + "rule A option C", 3, 8, "`option` begins a line of its own: break the line before it"),
+    (AB + "rule any(A, B rule B", 3, 15, "break the line before it, and close the parenthesis of `any` first"),
     (AB + "\n option A", 4, 9, "the code `A` is that of an option already, on line 1"),
     (MANY_OPTIONS, 513, 1, "one option too many: a book has at most 512"),
     (AB + "rule any(A, BODY-X)", 3, 13, "no option has the code `BODY-X`"),
@@ -116,7 +128,13 @@ CASES = (
     (AB + "rule any(" + "A, " * 2046 + "B)\nrule true", 4, 1, "weight (nodes and marks) is 4,097"),
     (AB + "rule true\n" * 4096, 4098, 1, "one rule too many: a book has at most 4,095"),
     (AB + "rule true\n" * 4094 + "rule all(true)", 4097, 1, "with this rule the book has 4,096 nodes; it has room for 4,095"))
-NO_TEXT = (b"option A\n# \xc3\xa4 \xff\n", 2, 5, "this byte is no UTF-8 text (value 255)")
+NO_TEXT = (
+    (b"option A\n# \xc3\xa4 \xff\n", 2, 5, "this byte is no UTF-8 text (value 255); save the text as UTF-8"),
+    ("option A\n".encode("utf-16"), 1, 1, "this text is in UTF-16, as some editors save it; save it as UTF-8"),
+    (b"\xfe\xff\0o", 1, 1, "this text is in UTF-16"),
+    (b"option A\roption B\r", 1, 9, "a carriage return without a line feed behind it ends no line"))
+# Texts that may mean two options: one who does as the message says has both.
+TWO_OPTIONS = ("option A option B", "option A, B", "option A,B", "option A B", 'option "A" "B"', "option A, B, C")
 
 
 def mistake_of(data):
@@ -139,9 +157,20 @@ def raising_places():
                 yield module.__file__, each.lineno, each.end_lineno
 
 
+def check_hints():
+    """A line is broken where the message stands, or the line that it spells out comes next; no option is lost in a comment."""
+    for text in TWO_OPTIONS:
+        mistake, _ = mistake_of(text.encode())
+        line = re.search("write `(option .*?)` on the next", str(mistake))
+        end = mistake.column - 1
+        mended = text[:end] + "\n" + (line.group(1) if line else text[end:])
+        check(notation.book_of(mended.encode()).codes == ["A", "B"], "as the message says, there is another book:", text, mistake, mended)
+
+
 def run(accepted):
+    check_hints()
     met = set()
-    for text, line, column, due in [*CASES, NO_TEXT]:
+    for text, line, column, due in [*CASES, *NO_TEXT]:
         mistake, place = mistake_of(text if isinstance(text, bytes) else text.encode())
         given = (mistake.line, mistake.column)
         check(given == (line, column), "a mistake at", (line, column), "is told at", given, repr(text[-60:]), mistake)
@@ -150,4 +179,4 @@ def run(accepted):
         met.add(place)
     for file, first, last in raising_places():
         check(any(file == where and first <= line <= last for where, line in met), "no case meets the mistake of", file, first)
-    return "%d mistakes" % (len(CASES) + 1)
+    return "%d mistakes" % len([*CASES, *NO_TEXT])

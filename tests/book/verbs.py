@@ -1,30 +1,14 @@
 """The program as it is called: its output, its status, and the files that it leaves."""
 import os
 import re
-import subprocess
-import sys
 import tempfile
 from itertools import combinations
 from pathlib import Path
 from xml.etree import ElementTree
 
-from bookfile import checking, files
-
-from book import LIBRARY, TOP, Failed, check
+from book import check
 from book.nests import DEEPEST, nest
-
-TOOL, EXAMPLES = str(TOP / "tools/book"), TOP / "examples"
-
-
-def call(*arguments, status=0, library=LIBRARY):
-    """What the program prints; where it fails, its one line of standard error."""
-    done = subprocess.run([sys.executable, TOOL, *map(str, arguments)], capture_output=True, check=False,
-                          env=dict(os.environ, NIBDRUMLIN_LIBRARY=str(library)))
-    printed, told = done.stdout.decode(), done.stderr.decode()
-    check(done.returncode == status, arguments, "ends with", done.returncode, told)
-    check("Traceback" not in told, arguments, told)
-    check(told.count("\n") == (1 if status and not printed else 0), arguments, "tells", repr(told))
-    return printed or told
+from book.program import EXAMPLES, call
 
 
 def sample_books(folder):
@@ -56,35 +40,21 @@ def refused_files(folder):
     for arguments, words in (
             (("make", folder / "none.txt", target), "none.txt: cannot be read: No such file or directory"),
             (("make", folder, target), "cannot be read: Is a directory"),
-            (("make", EXAMPLES / "meter.txt", folder / "no" / "book.bin"), "book.bin: cannot be written: No such file or directory"),
-            (("make", EXAMPLES / "meter.txt", folder), "cannot be written: it is no plain file"),
-            (("make", EXAMPLES / "meter.txt", "/dev/null"), "/dev/null: cannot be written: it is no plain file"),
+            (("make", EXAMPLES / "meter.txt", folder / "no" / "book.bin"), "book.bin: cannot be written: there is no folder "),
             (("show", target), "target.bin: refused 2: byte 0: the head says 29,537 options; 512 is the most"),
-            (("draw", target, "-o", target), "target.bin: refused 2"), (("diff", EXAMPLES / "book.bin", target), "refused 2"),
+            (("draw", target, "-o", folder / "x.svg"), "target.bin: refused 2"), (("diff", EXAMPLES / "book.bin", target), "refused 2"),
             (("import", folder / "none.cnf", target), "none.cnf: cannot be read: No such file or directory"),
             (("import", folder, target), "cannot be read: Is a directory"), (("import", text), "required: BOOK"),
-            (("import", EXAMPLES / "valves.cnf", folder / "no" / "book.bin"), "book.bin: cannot be written: No such file or directory"),
-            (("import", EXAMPLES / "valves.cnf", "/dev/null"), "/dev/null: cannot be written: it is no plain file"),
+            (("import", EXAMPLES / "valves.cnf", folder / "no" / "book.bin"), "book.bin: cannot be written: there is no folder "),
             (("check", folder / "none.bin"), "none.bin: cannot be read"), (("mkae", text, target), "invalid choice"),
-            (("make", text), "required: BOOK"), ((), "required: VERB")):
+            (("make", text), "required: BOOK"), ((), "required: VERB"),
+            (("make", text, target, "--forc"), "unrecognized arguments: --forc"),
+            (("diff", "-", "-"), "standard input can be one of the two books, not both")):
         told = call(*arguments, status=1)
         check(words in told, arguments, "tells", told)
     check(target.read_bytes() == b"as it was" and sorted(os.listdir(folder)) == before, "a refusal left its traces")
     bad.write_bytes(bytes(7))
     check("refused 1: the file has 7 bytes" in call("check", bad, status=1), "refusal 1 is not told")
-    refused_writing(folder, target)
-
-
-def refused_writing(folder, target):
-    """Bytes that are no book get no name, and a full disk is told."""
-    try:
-        files.write(str(target), bytes(7), checking.read)
-        raise Failed("seven bytes were written as a book")
-    except checking.Refused as refusal:
-        check(refusal.number == 1 and target.read_bytes() == b"as it was", "a refused book was written")
-    with open("/dev/full", "wb") as full:
-        done = subprocess.run([sys.executable, TOOL, "show", str(EXAMPLES / "book.bin")], stdout=full, stderr=subprocess.PIPE, check=False)
-    check((done.returncode, done.stderr) == (1, b"standard output: cannot be written: No space left on device\n"), done)
 
 
 def refused_clauses(folder):
@@ -110,7 +80,6 @@ def refused_clauses(folder):
 def imported_files(folder):
     """The sample of clauses: a book with a rule for each, which is shown, checked and made again like any other."""
     made, text = folder / "valves.bin", folder / "shown.txt"
-    made.write_bytes(b"old")
     call("import", EXAMPLES / "valves.cnf", made)
     shown = call("show", made)
     sizes = re.search(r"^p cnf (\d+) (\d+)$", (EXAMPLES / "valves.cnf").read_text(), re.M).groups()
@@ -123,16 +92,8 @@ def imported_files(folder):
         check(words in call("import", "--help"), "the help of import lacks:", words)
 
 
-def written_files(folder):
-    """The empty file is the empty book; rights and links stay."""
-    text, target, link = folder / "empty.txt", folder / "kept.bin", folder / "link.bin"
-    text.write_bytes(b"")
-    target.write_bytes(b"old")
-    os.chmod(target, 0o640)
-    link.symlink_to(target)
-    call("make", text, link)
-    check(target.read_bytes() == bytes(8), "the empty text is not the empty book")
-    check(link.is_symlink() and target.stat().st_mode & 0o777 == 0o640, "the link or the rights of the target are lost")
+def texts_of_other_systems(folder):
+    text, target = folder / "text.txt", folder / "book.bin"
     text.write_bytes(b"\xef\xbb\xbf# caf\xc3\xa9\r\noption A # the small one\r\n\trule A\r\n")
     call("make", text, target)
     check(call("show", target) == "option A\n\nrule A\n", "a text from another system is not read")
@@ -206,7 +167,7 @@ def deep_files(folder):
 
 def run(accepted):
     with tempfile.TemporaryDirectory() as name:
-        for part in (sample_books, refused_files, refused_clauses, imported_files, written_files, changes, pictures, deep_files):
+        for part in (sample_books, refused_files, refused_clauses, imported_files, texts_of_other_systems, changes, pictures, deep_files):
             folder = Path(name) / part.__name__
             folder.mkdir()
             part(folder)

@@ -2,6 +2,7 @@
 from typing import NamedTuple
 
 MOST_OPTIONS, MOST_RULES, MOST_NODES, MOST_WEIGHT = 512, 4095, 4095, 4096
+MOST_LINES = 64  # of an order, one for each choice
 HEAD_BYTES, CODE_BYTES, PAIR_BYTES, NODE_BYTES = 8, 13, 4, 2
 
 PLAIN, BARRED, ALL_OF, ANY_OF, AT_LEAST = 1, 2, 3, 4, 6  # 5 is the root of a sheet

@@ -1,10 +1,9 @@
 """The verbs of tools/book."""
 import argparse
-import os
-import sys
 
-from . import Mistake, books, checking, clause_text, comparing, drawing, files, importing, notation, showing
+from . import Mistake, books, checking, clause_text, comparing, drawing, files, importing, kinds, notation, showing
 from .checking import Refused, counted, in_thousands
+from .saying import put_text, tell, visible
 from .words import NotationMistake
 
 NOTATION = """\
@@ -41,8 +40,18 @@ the notation:
   keep the text; it is the source.
 
 Options, rules, nodes and bytes are counted from 0, as document 01 counts them.
+"""
+
+FILES = """\
+files:
+  `-` is standard input or standard output. make, import and draw -o never write the file
+  that they read. Another file that stands there is written over if it is of the kind that
+  they write (a book; of draw, an SVG) or empty, and any other with --force alone. A text
+  without an option or a rule is made a book of nothing with --force alone.
+
 Exit status: 0 done (of diff, whether or not there is a difference), 1 refused or not
-understood: one line says why and where, and every file is as it was."""
+understood: one line says why and where, and every file is as it was. Where a file is
+written, one line on standard error says what is in it."""
 
 CLAUSE_FILE = """\
 a clause file (DIMACS CNF):
@@ -63,10 +72,12 @@ a clause file (DIMACS CNF):
   a weight (1, the clauses and twice the marks) of 4,096.
 
 The book is made by the library's nd_import: run tools/build-library first. Lines and
-columns are counted from 1. Exit status: 0 done, 1 refused: one line says why and where,
-and every file is as it was."""
+columns are counted from 1.
+"""
 
-EPILOGS = {"make": NOTATION, "show": NOTATION, "import": CLAUSE_FILE}
+EPILOGS = {"make": [NOTATION], "show": [NOTATION], "import": [CLAUSE_FILE]}
+FORCE = "write over a file of another kind, too (never over the one that is read)"
+FORCE_EMPTY = "; make a book of nothing, too"
 
 
 class Parser(argparse.ArgumentParser):
@@ -74,32 +85,27 @@ class Parser(argparse.ArgumentParser):
         """One line, as for every other mistake."""
         raise Mistake("%s: %s (%s --help tells more)" % (self.prog, message, self.prog))
 
+    def print_help(self, file=None):
+        put_text(self.format_help())
+
 
 def main(arguments=None):
     """The exit status."""
     try:
         given = parser().parse_args(arguments)
-        status = given.work(given) or 0
-        sys.stdout.flush()
-        return status
+        return given.work(given) or 0
     except Mistake as mistake:
-        print(" ".join(str(mistake).split("\n")), file=sys.stderr)
-    except BrokenPipeError:  # whoever read the output has seen enough
-        drop_output()
-    except OSError as error:
-        print("standard output: cannot be written: %s" % files.reason(error), file=sys.stderr)
-        drop_output()
+        tell(str(mistake))
+    except BrokenPipeError:
+        pass  # whoever read the output has seen enough
+    except MemoryError:
+        tell("book: there is not enough memory for that")
     return 1
-
-
-def drop_output():
-    """What could not be written would be tried once more as the program ends."""
-    os.dup2(os.open(os.devnull, os.O_WRONLY), sys.stdout.fileno())
 
 
 def parser():
     top = Parser(prog="book", description="Option books: made from a text or from clauses, shown, checked, compared and drawn.",
-                 epilog=NOTATION, formatter_class=argparse.RawDescriptionHelpFormatter)
+                 epilog=NOTATION + "\n" + FILES, formatter_class=argparse.RawDescriptionHelpFormatter)
     verbs = top.add_subparsers(title="verbs", metavar="VERB", required=True)
     for name, work, names, words in (
             ("make", make, ("TEXT", "BOOK"), "write the book that a text describes"),
@@ -108,83 +114,106 @@ def parser():
             ("check", check, ("BOOK",), "say whether a file is a book, and if not, why and where; if so, the room used"),
             ("diff", diff, ("OLD", "NEW"), "say which options and rules were added, removed and moved"),
             ("draw", draw, ("BOOK",), "draw the rules as trees (SVG)")):
-        verb = verbs.add_parser(name, help=words, description=words, epilog=EPILOGS.get(name),
-                                formatter_class=argparse.RawDescriptionHelpFormatter)
+        verb = verbs.add_parser(name, help=words, description=words, epilog="\n".join([*EPILOGS.get(name, []), FILES]),
+                                formatter_class=argparse.RawDescriptionHelpFormatter, allow_abbrev=False)
         for each in names:
             verb.add_argument(each)
         if name == "draw":
-            verb.add_argument("-o", metavar="FILE", help="the file to write; without it, standard output")
+            verb.add_argument("-o", metavar="FILE", default=files.STANDARD, help="the file to write; without it, standard output")
+        if work in (make, import_clauses, draw):
+            verb.add_argument("--force", action="store_true", help=FORCE + (FORCE_EMPTY if work is make else ""))
         verb.set_defaults(work=work)
     return top
 
 
 def make(given):
+    files.check_apart(given.TEXT, given.BOOK)
+    data = files.read(given.TEXT)
+    name = files.input_name(given.TEXT)
     try:
-        book = notation.book_of(files.read(given.TEXT))
+        book = notation.book_of(data)
     except NotationMistake as mistake:
-        raise Mistake("%s:%d:%d: %s" % (given.TEXT, mistake.line, mistake.column, mistake)) from None
-    write_book(given.BOOK, books.to_bytes(book))
+        told = kinds.hint(data, kinds.RULES)
+        raise Mistake("%s: %s" % (name, told) if told else "%s:%d:%d: %s" % (name, mistake.line, mistake.column, mistake)) from None
+    if not (book.codes or book.bodies or given.force):
+        raise Mistake("%s: no option and no rule stands in it; --force makes a book of nothing" % name)
+    write_book(given, books.to_bytes(book))
 
 
 def import_clauses(given):
+    files.check_apart(given.CLAUSES, given.BOOK)
     text = files.read(given.CLAUSES)
+    name = files.input_name(given.CLAUSES)
     try:
         data = importing.book_of(text)
     except clause_text.Fault as fault:
         line, column = clause_text.place(text, fault.at)
-        raise Mistake("%s:%d:%d: %s" % (given.CLAUSES, line, column, Refused(importing.NO_CLAUSE_FILE, fault))) from None
+        told = Refused(importing.NO_CLAUSE_FILE, with_hint(fault, text, kinds.CLAUSES))
+        raise Mistake("%s:%d:%d: %s" % (name, line, column, told)) from None
     except Refused as refusal:
-        raise Mistake("%s: %s" % (given.CLAUSES, refusal)) from None
-    write_book(given.BOOK, data)
+        raise Mistake("%s: %s" % (name, refusal)) from None
+    write_book(given, data)
 
 
-def write_book(path, data):
-    try:
-        files.write(path, data, checking.read)
-    except Refused as refusal:  # the text was accepted, so this is a fault of the tool or of the disk
-        raise Mistake("%s: not written, since what was made is no book: %s" % (path, refusal)) from None
+def write_book(given, data):
+    """Writes a book, and says what is in it."""
+    book = checking.read(data)
+    files.write(given.BOOK, data, kinds.BOOK, given.force)
+    tell("%s, %s, weight %s of %s" % (counted(len(book.codes), "option"), counted(len(book.bodies), "rule"),
+                                      in_thousands(books.weight(book)), in_thousands(books.MOST_WEIGHT)))
 
 
 def show(given):
-    sys.stdout.write(showing.text_of(read_book(given.BOOK)))
+    put_text(showing.text_of(read_book(given.BOOK)))
 
 
 def check(given):
+    name = visible(files.input_name(given.BOOK))
+    data = files.read(given.BOOK)
     try:
-        book = checking.read(files.read(given.BOOK))
+        book = checking.read(data)
     except Refused as refusal:
-        print("%s: %s" % (printable(given.BOOK), refusal))
+        put_text("%s: %s\n" % (name, with_hint(refusal, data, kinds.BOOK)))
         return 1
-    weight = books.weight(book)
-    print("%s: accepted" % printable(given.BOOK))
+    lines = ["%s: accepted" % name]
     for what, used, most in (
             ("options", len(book.codes), books.MOST_OPTIONS), ("rules", len(book.bodies), books.MOST_RULES),
-            ("nodes", books.count_nodes(book), books.MOST_NODES), ("weight", weight, books.MOST_WEIGHT)):
-        print("%-8s%5s of %s" % (what, in_thousands(used), in_thousands(most)))
-    # each choice at the desk is one more mark, of weight 2
-    print("A sheet of this book takes %s." % counted((books.MOST_WEIGHT - weight) // 2, "choice"))
+            ("nodes", books.count_nodes(book), books.MOST_NODES), ("weight", books.weight(book), books.MOST_WEIGHT)):
+        lines.append("%-8s%5s of %s" % (what, in_thousands(used), in_thousands(most)))
+    put_text("\n".join([*lines, room_for_choices(book), ""]))
     return 0
 
 
+def room_for_choices(book):
+    """How many choices an order takes before a run: each is one more mark, of weight 2, and has a line of its own."""
+    room = (books.MOST_WEIGHT - books.weight(book)) // 2
+    if room >= books.MOST_LINES:
+        return "An order by this book takes %d choices, since it has %d lines." % (books.MOST_LINES, books.MOST_LINES)
+    return "An order by this book takes %s, since each adds 2 to the weight; a run may make room for more." % counted(room, "choice")
+
+
 def diff(given):
-    print("\n".join(comparing.report(read_book(given.OLD), read_book(given.NEW))))
+    if given.OLD == given.NEW == files.STANDARD:
+        raise Mistake("book diff: standard input can be one of the two books, not both")
+    put_text("\n".join([*comparing.report(read_book(given.OLD), read_book(given.NEW)), ""]))
 
 
 def draw(given):
-    drawn = drawing.picture(read_book(given.BOOK))
-    if given.o is None:
-        sys.stdout.write(drawn)
-    else:
-        files.write(given.o, drawn.encode("ascii"))
+    files.check_apart(given.BOOK, given.o)
+    book = read_book(given.BOOK)
+    files.write(given.o, drawing.picture(book).encode("ascii"), kinds.PICTURE, given.force)
+    if given.o != files.STANDARD:
+        tell("%s, %s drawn" % (counted(len(book.bodies), "rule"), counted(books.count_nodes(book), "node")))
 
 
 def read_book(path):
+    data = files.read(path)
     try:
-        return checking.read(files.read(path))
+        return checking.read(data)
     except Refused as refusal:
-        raise Mistake("%s: %s" % (path, refusal)) from None
+        raise Mistake("%s: %s" % (files.input_name(path), with_hint(refusal, data, kinds.BOOK))) from None
 
 
-def printable(path):
-    """A file's name may hold bytes that are no text."""
-    return path.encode("utf-8", "backslashreplace").decode("utf-8")
+def with_hint(refusal, data, due):
+    """A refusal of these bytes, with what they are where that is the reason."""
+    return "; ".join(filter(None, [str(refusal), kinds.hint(data, due)]))

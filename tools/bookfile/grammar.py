@@ -60,12 +60,34 @@ def option_code(statement):
     """The word with the code of an option's statement."""
     if not statement.words or statement.words[0].line != statement.start.line:
         raise NotationMistake(statement.start, "no code follows `option` on its line")
-    check_code(statement.words[0])
-    for word in statement.words[1:]:
-        if word.first:
-            raise no_start(word)
-        raise NotationMistake(word, "only a comment may follow the code of an option: put # before %s" % shown(word.text))
-    return statement.words[0]
+    code, *more = statement.words
+    check_code(code)
+    if more and more[0].first:
+        raise no_start(more[0])
+    if more:
+        raise NotationMistake(more[0], after_code(*more[:2]))
+    return code
+
+
+def after_code(word, following=None):
+    """What to do with a word behind the code of an option. It may be meant as an option too: then it must not become a comment."""
+    if word.is_bare(*STARTS):
+        return own_line(word)
+    if word.is_sign(","):
+        words = "each option has a line of its own, and no comma"
+        another = following is not None and following.sort != "sign" and not following.first
+        return words + ": write %s on the next" % option_line(following) if another else words
+    if word.sort == "sign":
+        return "nothing but a comment, which begins with #, may follow the code of an option; this is %s" % shown(word.text)
+    return "each option has a line of its own: write %s on the next, or # before it if it is a comment" % option_line(word)
+
+
+def option_line(word):
+    return shown("option " + as_written(word))
+
+
+def own_line(word):
+    return "%s begins a line of its own: break the line before it" % shown(word.text)
 
 
 def check_code(word):
@@ -180,14 +202,14 @@ def open_group(levels, word, following):
 def count_in(word, group):
     """The number that a group begins with."""
     if word.sort != "bare" or not (word.text.isascii() and word.text.isdigit()):
-        raise NotationMistake(word, "%s begins with a number, as in %s(2, A, B, C); this is %s" % (group, group, spelled_as(word)))
+        raise NotationMistake(word, "%s begins with a number, as in %s(2, A, B, C); this is %s" % (group, group, shown(as_written(word))))
     if len(word.text.lstrip("0")) > 2 or int(word.text) > MOST_MEMBERS:
         raise NotationMistake(word, "%s can ask for %d at most; this is %s" % (group, MOST_MEMBERS, shown(word.text)))
     return int(word.text)
 
 
-def spelled_as(word):
-    return shown('"%s"' % word.text if word.sort == "quoted" else word.text)
+def as_written(word):
+    return '"%s"' % word.text if word.sort == "quoted" else word.text
 
 
 def begin(level, word, following):
@@ -215,6 +237,9 @@ def join(level, word):
         level.parts.append(level.formula())
     elif word.is_sign(","):
         raise NotationMistake(word, "a comma stands only inside %s" % GROUPS_IN_WORDS)
+    elif word.is_bare(*STARTS):
+        raise NotationMistake(word, own_line(word) + ("" if level.form == "rule" else ", and close the parenthesis of %s first" % (
+            shown(level.start.text))))
     elif level.form == "rule" and word.first:
         raise no_start(word)
     elif level.form in GROUP_WORDS:

@@ -16,7 +16,7 @@ def book_of(text):
     try:
         return nibdrumlin.Book.from_clauses(text).data
     except nibdrumlin.LibraryMissing as missing:
-        raise Mistake(str(missing)) from None
+        raise Mistake(" ".join(str(missing).split())) from None
     except nibdrumlin.Refused as refusal:
         number, meaning = refusal.number, refusal.meaning
     explain(text, number)

@@ -3,6 +3,7 @@ import re
 from typing import NamedTuple
 
 from . import Mistake
+from .saying import visible
 
 # A hyphen right before `>` belongs to an arrow and never to a code, so that A->B needs no blanks: no text could mean A- there, since
 # `>` alone is no word.
@@ -11,6 +12,7 @@ PATTERN = re.compile(r"""(?P<blank>[ \t]+ | \#.*)
     | (?P<quoted>"[^"]*")
     | (?P<bare>(?:[^\s(),\#"<>-] | -(?!>))+)""", re.VERBOSE)
 LONGEST_SHOWN = 40
+MARKS_OF_UTF_16 = (b"\xff\xfe", b"\xfe\xff")
 
 
 class Word(NamedTuple):
@@ -38,12 +40,15 @@ class NotationMistake(Mistake):
 
 def decoded(data):
     """The text of a file. A mark of UTF-8 at its start, as some editors write it, is no part of it."""
+    if data.startswith(MARKS_OF_UTF_16):
+        raise NotationMistake((1, 1), "this text is in UTF-16, as some editors save it; save it as UTF-8")
     try:
         return data.decode("utf-8-sig")
     except UnicodeDecodeError as error:
         before = data[:error.start].split(b"\n")
         column = len(before[-1].decode("utf-8", "replace")) + 1
-        raise NotationMistake((len(before), column), "this byte is no UTF-8 text (value %d)" % data[error.start]) from None
+        raise NotationMistake((len(before), column), "this byte is no UTF-8 text (value %d); save the text as UTF-8" % (
+            data[error.start])) from None
 
 
 def cut(text):
@@ -70,6 +75,8 @@ def cut_line(line, number):
 def no_word(character):
     if character == '"':
         return "this quote is not closed on its line"
+    if character == "\r":
+        return "a carriage return without a line feed behind it ends no line; save the text with line ends of Unix or Windows"
     if character in "<>":
         return "%s alone means nothing; the arrows are -> and <->" % shown(character)
     return "the character %s means nothing here" % shown(character)
@@ -78,4 +85,4 @@ def no_word(character):
 def shown(text):
     """A piece of the text inside a message: short, on one line, and with nothing that a terminal would act on."""
     cut_off = text if len(text) <= LONGEST_SHOWN else text[:LONGEST_SHOWN] + "..."
-    return "`%s`" % "".join(each if each.isprintable() else "U+%04X" % ord(each) for each in cut_off)
+    return "`%s`" % visible(cut_off)
