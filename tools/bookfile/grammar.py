@@ -53,7 +53,13 @@ def statements(words):
 
 
 def no_start(word):
-    return NotationMistake(word, "a statement starts with `option` or `rule`, in small letters; this is %s" % shown(word.text))
+    return NotationMistake(word, "a statement starts with `option` or `rule`, in small letters%s; this is %s" % (
+        ", and a comment with #" if is_decoration(word) else "", shown(word.text)))
+
+
+def is_decoration(word):
+    """Whether a word is as // or --, by which other notations begin a comment, and nothing that could be meant as a code."""
+    return word.sort == "bare" and not any(character.isalnum() for character in word.text)
 
 
 def option_code(statement):
@@ -77,7 +83,7 @@ def after_code(word, following=None):
         words = "each option has a line of its own, and no comma"
         another = following is not None and following.sort != "sign" and not following.first
         return words + ": write %s on the next" % option_line(following) if another else words
-    if word.sort == "sign":
+    if word.sort == "sign" or is_decoration(word):
         return "nothing but a comment, which begins with #, may follow the code of an option; this is %s" % shown(word.text)
     return "each option has a line of its own: write %s on the next, or # before it if it is a comment" % option_line(word)
 
