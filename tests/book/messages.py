@@ -163,13 +163,27 @@ def raising_places():
 
 
 def check_hints():
-    """A line is broken where the message stands, or the line that it spells out comes next; no option is lost in a comment."""
+    """Whoever does what the message says has both options: none is lost in a comment."""
     for text in TWO_OPTIONS:
         mistake, _ = mistake_of(text.encode())
-        line = re.search("write `(option .*?)` on the next", str(mistake))
-        end = mistake.column - 1
-        mended = text[:end] + "\n" + (line.group(1) if line else text[end:])
-        check(notation.book_of(mended.encode()).codes == ["A", "B"], "as the message says, there is another book:", text, mistake, mended)
+        done = mended(text, mistake)
+        check(codes_of(done) == ["A", "B"], "of", repr(text), "is told:", mistake, "and that makes", repr(done))
+
+
+def mended(text, mistake):
+    """A text of one line after what its message says first: a line that it spells out, a line that is broken, or else a comment."""
+    at = mistake.column - 1
+    line = re.search("write `(option .*?)` on the next", str(mistake))
+    if line:
+        return text[:at] + "\n" + line.group(1)
+    return text[:at] + ("\n" if "break the line before it" in str(mistake) else "#") + text[at:]
+
+
+def codes_of(text):
+    try:
+        return notation.book_of(text.encode()).codes
+    except NotationMistake:
+        return None
 
 
 def run(accepted):
