@@ -236,7 +236,7 @@ def places(folder):
         told = quick("make", TEXT, target, "--force", status=1)
         check(told == "%s: cannot be written: %s\n" % (target or '""', words), target, "is told as", told)
     for source, words in ((folder / "none", "No such file or directory"), (folder, "Is a directory"), ("", "No such file or directory"),
-                          ("/dev/zero", "it has more than 268,435,456 bytes")):
+                          ("/dev/zero", "it has more than 4,194,304 bytes")):
         for verb in ("make", "import") if source == folder else ("make",):
             told = quick(verb, source, folder / "x.bin", status=1)
             check(told == "%s: cannot be read: %s\n" % (source or '""', words), source, "is told as", told)

@@ -128,7 +128,7 @@ def parser():
 
 def make(given):
     files.check_apart(given.TEXT, given.BOOK)
-    data = files.read(given.TEXT)
+    data = files.read(given.TEXT, files.MOST_TEXT)
     name = files.input_name(given.TEXT)
     try:
         book = notation.book_of(data)

@@ -10,10 +10,11 @@ from .checking import in_thousands
 from .saying import reason
 
 STANDARD = "-"  # names standard input or standard output
-MOST_BYTES, PIECE = 1 << 28, 1 << 20
+MOST_BYTES, MOST_TEXT = 1 << 28, 1 << 22  # to read a text takes up to 250 times its length of memory
+PIECE = 1 << 20
 
 
-def read(path):
+def read(path, most=MOST_BYTES):
     """The bytes of a file. One without an end, as some devices are, must not fill the memory."""
     pieces, length = [], 0
     try:
@@ -21,8 +22,8 @@ def read(path):
             for piece in iter(lambda: source.read(PIECE), b""):
                 pieces.append(piece)
                 length += len(piece)
-                if length > MOST_BYTES:
-                    raise Mistake("%s: cannot be read: it has more than %s bytes" % (input_name(path), in_thousands(MOST_BYTES)))
+                if length > most:
+                    raise Mistake("%s: cannot be read: it has more than %s bytes" % (input_name(path), in_thousands(most)))
     except (OSError, ValueError) as error:
         raise Mistake("%s: cannot be read: %s" % (input_name(path), reason(error))) from None
     return b"".join(pieces)

@@ -52,11 +52,10 @@ def decoded(data):
 
 
 def cut(text):
-    """The words of a text, without blanks and comments."""
-    found = []
+    """The words of a text, without blanks and comments, one after another: of a long file that is no such text, only the first is asked
+    for."""
     for number, line in enumerate(text.split("\n"), 1):
-        found += cut_line(line[:-1] if line.endswith("\r") else line, number)
-    return found
+        yield from cut_line(line[:-1] if line.endswith("\r") else line, number)
 
 
 def cut_line(line, number):
