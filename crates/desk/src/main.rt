@@ -90,6 +90,26 @@ fn refused_line(book: &[u8], input: &[u8]) -> Line
     }
 }
 
+// A byte that was typed. One that a terminal would act on, or that is no text, is said by its number behind a backslash.
+fn say_byte(byte: u8) {
+    if byte < 32 || byte > 126 {
+        io::write_all(STDERR_FILENO, b"\\");
+        io::print_decimal(STDERR_FILENO, byte as u64);
+    } else {
+        let shown = [byte];
+        io::write_all(STDERR_FILENO, &shown);
+    }
+}
+
+// A line that was typed, byte by byte.
+fn say_typed(line: &[u8]) {
+    let mut at = 0;
+    while at < line.len() {
+        say_byte(line[at]);
+        at += 1;
+    }
+}
+
 // The words for a refusal of a line by its last digit: 7, 8 or 14.
 fn say_line(book: &[u8], input: &[u8], digit: u8) {
     let line = refused_line(book, input);
@@ -98,7 +118,7 @@ fn say_line(book: &[u8], input: &[u8], digit: u8) {
     io::write_all(STDERR_FILENO, b"Line ");
     io::print_decimal(STDERR_FILENO, line.number);
     io::write_all(STDERR_FILENO, b", \"");
-    io::write_all(STDERR_FILENO, &input[from..to]);
+    say_typed(&input[from..to]);
     if digit == b'7' {
         io::write_all(
             STDERR_FILENO,
