@@ -1,6 +1,7 @@
 """Nothing is lost: the file that is read is never written, by whatever name; a file of another kind is written over with --force alone; an
 empty text is no book unasked; whatever fails midway, the target is as it was and nothing stands beside it."""
 import os
+import pty
 import resource
 import shutil
 import signal
@@ -115,6 +116,9 @@ def empty_texts(folder):
         check(target.read_bytes() == BOOK.read_bytes(), "an empty text was written over a book:", data)
         check(quick("make", "--force", text, target) == "0 options, 0 rules, weight 1 of 4,096\n", "an empty book is told otherwise")
         check(target.read_bytes() == bytes(8), "the book of nothing is no eight zero bytes:", data)
+    for data, due in ((b"option A\n", "1 option, 0 rules, weight 1"), (b"rule true\n", "0 options, 1 rule, weight 2")):
+        text.write_bytes(data)
+        check(quick("make", text, target) == due + " of 4,096\n", "options alone, or rules alone, are something")
     text.write_bytes(b"p cnf 0 0")
     check(quick("import", text, target) == "0 options, 0 rules, weight 1 of 4,096\n", "clauses that say that there are none")
 
@@ -184,6 +188,16 @@ def streams(folder):
     with open(folder / "new.bin", "wb") as output:  # as `>` in a shell
         check(call("make", TEXT, "/dev/stdout", stdout=output) == MADE, "/dev/stdout as a file")
     check((folder / "new.bin").read_bytes() == BOOK.read_bytes(), "the file behind /dev/stdout has another book")
+
+
+def no_room(folder):
+    """A terminal, which is no place for a book, and a full disk."""
+    ours, theirs = pty.openpty()
+    for name in ("-", "/dev/stdout"):
+        told = call("make", TEXT, name, status=1, stdout=theirs)
+        check(told.endswith(": not written: it is a terminal, and a book is no text; name a file\n"), "for a terminal:", told)
+    os.close(theirs)
+    os.close(ours)
     for arguments in (("make", TEXT, "/dev/full"), ("draw", BOOK, "-o", "/dev/full")):
         check(call(*arguments, status=1) == "/dev/full: cannot be written: No space left on device\n", "/dev/full")
     for arguments in (("show", BOOK), ("check", BOOK), ("draw", BOOK), ("diff", BOOK, BOOK), ("make", TEXT, "-"), ("--help",)):
@@ -296,7 +310,8 @@ def called_as_nobody(*arguments):
 def run(accepted):
     with tempfile.TemporaryDirectory() as name:
         os.chmod(name, 0o755)
-        for part in (own_input, other_kinds, same_kind, empty_texts, rights, failures_midway, streams, ended_early, places, protected):
+        for part in (own_input, other_kinds, same_kind, empty_texts, rights, failures_midway, streams, no_room, ended_early, places,
+                     protected):
             folder = Path(name) / part.__name__
             folder.mkdir()
             part(folder)
