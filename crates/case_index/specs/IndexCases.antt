@@ -45,8 +45,8 @@ pub counted-so :
 unfolding definitions samples nested of-nested counted
 counted-so = refl
 
--- Counts, places and options past 256: P stands 300 times from place 300 on, Q once at place 600; of 512 options one mark names the one after
--- the first 300, another the last.
+-- Counts, places and options past 256: P stands 300 times from place 300 on, Q once at place 600; of 512 options one mark names the one
+-- after the first 300, another the last.
 unfoldable pub counted-far : List (List ℕ)
 counted-far =
     fresh-count (sheet 2 (root 600 ∷ replicate 299 True ++ replicate 300 P ++ (not-Q ∷ [])))

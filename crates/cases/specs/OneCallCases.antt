@@ -1,5 +1,5 @@
--- One call at a time: reports on sheets with kind 6 before any step, of a chain, into outputs of any length; runs with any budget; choices of
--- high options, and the last that fits.
+-- One call at a time: reports on sheets with kind 6 before any step, of a chain, into outputs of any length; runs with any budget; choices
+-- of high options, and the last that fits.
 use mathlib.Core.Bool.{Bool, true, false}
 use mathlib.Core.List.{List, [], _∷_, _++_, map}
 use mathlib.Core.Path.{_≡_, refl}
@@ -10,8 +10,8 @@ use Rattle.calls.specs.Outcomes.{refused, accepted, Outcome}
 use Rattle.calls.specs.Lines.{State}
 use Rattle.calls.specs.Calls.{Ran, keyOf, runOf, reportOf}
 use Rattle.case_samples.specs.Opened.{definitions}
-use Rattle.case_samples.specs.Samples.{P, Q, R, not-P, not-Q, True, False, plain, barred, all-of, any-of, root, at-least, numbers, wide, joined}
-use Rattle.case_samples.specs.Samples.{sheet, lined, said, samples}
+use Rattle.case_samples.specs.Samples.{P, Q, R, not-P, not-Q, True, False, plain, barred, all-of, any-of, root, at-least, numbers, wide}
+use Rattle.case_samples.specs.Samples.{joined, sheet, lined, said, samples}
 
 -- What a run and a report answer and leave.
 abbrev pub settled : ℕ → ℕ → List ℕ → Outcome (List ℕ) Ran
@@ -74,8 +74,8 @@ pub least-reports-told :
 unfolding definitions samples least-reports
 least-reports-told = refl
 
--- "Facts are the least set such that a mark of a clause is a fact when the opposite of every other mark in that clause is a fact": a chain of
--- 20 options, each of which the one before forces.
+-- "Facts are the least set such that a mark of a clause is a fact when the opposite of every other mark in that clause is a fact": a
+-- chain of 20 options, each of which the one before forces.
 unfoldable pub chain : List ℕ
 chain = sheet 20 (root 20 ∷ joined (map (λ v. any-of 2 ∷ barred v ∷ plain (v + 1) ∷ []) (numbers 0 19)) ++ (P ∷ []))
 

@@ -340,9 +340,9 @@ pub idle-steps-none : idle-steps ≡ replicate 137 none
 unfolding definitions samples turned idle-steps
 idle-steps-none = refl
 
--- "The house step is the applicable one with lowest rule, then place, i, j." Of several that apply: rule 4, though at a later place than 5;
--- place 1, though at a later child than the next; child 0; inner child 1 of child 0, though there is an inner child 0 of child 1; inner child
--- 0. It is found far off too: at place 21, at child 20, at inner child 20. Where none applies, there is none.
+-- "The house step is the applicable one with lowest rule, then place, i, j." Of several that apply: rule 4, though at a later place than
+-- 5; place 1, though at a later child than the next; child 0; inner child 1 of child 0, though there is an inner child 0 of child 1; inner
+-- child 0. It is found far off too: at place 21, at child 20, at inner child 20. Where none applies, there is none.
 unfoldable pub house-steps : List (Option Redex)
 house-steps =
     map
