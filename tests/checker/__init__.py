@@ -6,13 +6,14 @@ really multiplied out, so it is for toy books. The papers' words and the field's
 literal (barred = negative), all-of = conjunction, any-of = disjunction; where a rule applies is a
 redex, what it leaves there the contractum.
 
-trees: node numbers to trees and back. books: the book file. clause_files: the books that clause
-files become. sheets: the order sheet. mentions: the index beside a sheet. keying: the lines of an
-order, keyed and taken back. meaning: clauses and facts, reports, and what is complete. counting:
-the same meaning, where the clauses are too many to build. models: what a step keeps. rules: the
-seventeen rules. calls: every call in one form. desk: the desk program. cases: the papers' cases as
-tables. demands: the parts of demand 3. naming: the kinds of answers to "complete". random_trees:
-marks and at-leasts for random books. selftest and its parts: all of it against the papers.
+trees: node numbers to trees and back. books: the book file. older: its check in a program from
+before kind 6. clause_files: the books that clause files become. sheets: the order sheet. mentions:
+the index beside a sheet. keying: the lines of an order, keyed and taken back. meaning: clauses and
+facts, reports, and what is complete. counting: the same meaning, where the clauses are too many to
+build. models: what a step keeps. rules: the seventeen rules. calls: every call in one form. desk:
+the desk program. cases: the papers' cases as tables. demands: the parts of demand 3. naming: the
+kinds of answers to "complete". random_trees: marks and at-leasts for random books. selftest and its
+parts: all of it against the papers.
 """
 
 

@@ -10,7 +10,7 @@ if not __package__:
     sys.path.insert(0, str(Path(__file__).resolve().parent.parent))
 from checker import (calls, desk, keying, meaning, rules, selftest_at_least, selftest_complete,
                      selftest_every, selftest_import, selftest_keying, selftest_lists,
-                     selftest_mentions, sheets)
+                     selftest_mentions, selftest_older, sheets)
 from checker.books import build
 from checker.cases import BAD, CASES, CODES, ORDERS, P, Q, STEPS
 from checker.expecting import BLANK, MOST, counted, done, expect, loaded
@@ -189,6 +189,7 @@ def main(books=3000, seed=1):
     asked = selftest_complete.all_of_them(rng, selftest_lists.random_tree)
     every = selftest_every.all_of_them(rng)
     imported = selftest_import.all_of_them(random.Random(seed))
+    for_older = selftest_older.all_of_them()
     for number in range(books):
         sheet = selftest_lists.check_book(rng, met)
         if number % 100 == 0 and sheet[1] < 12:
@@ -198,11 +199,12 @@ def main(books=3000, seed=1):
     print("selftest: %d books and %d orders to try, %d steps, the refusals, %d faults of an index "
           "beside them and %d calls with one and without, %d small sheets with every step from "
           "them (%d), %d sheets complete or not, %d clause files by hand, %d short and %d random "
-          "ones, and %d random books with %d steps (each rule %d times or more), %d keyings, %d "
-          "withdrawals and %d questions all held, %.0f s" % (
-              len(CASES) + 5, len(ORDERS), len(STEPS), *mentions, *every, asked, *imported, books,
-              sum(steps), min(steps), met["key", 0], met["withdraw", 0], met["complete", 0],
-              time.time() - start))
+          "ones, %d books for an older program and %d that one was given, and %d random books with "
+          "%d steps (each rule %d times or more), %d keyings, %d withdrawals and %d questions all "
+          "held, %.0f s" % (
+              len(CASES) + 5, len(ORDERS), len(STEPS), *mentions, *every, asked, *imported,
+              *for_older, books, sum(steps), min(steps), met["key", 0], met["withdraw", 0],
+              met["complete", 0], time.time() - start))
 
 
 if __name__ == "__main__":
