@@ -206,6 +206,11 @@ def no_room(folder):
         check(told == "standard output: cannot be written: No space left on device\n", arguments, "on a full disk tells", told)
 
 
+def heed_interrupts():
+    """As at a terminal: whoever starts these tests in the background lets them ignore Ctrl-C, and so what they start."""
+    signal.signal(signal.SIGINT, signal.SIG_DFL)
+
+
 def ended_early(folder):
     """Closed outputs, a reader that has seen enough, and Ctrl-C: no traceback, nothing made up, and no file left."""
     tool = '"%s" "%s"' % (sys.executable, TOOL)
@@ -230,11 +235,12 @@ def interrupted(folder):
     """Ctrl-C while the text is read: the pipe can be opened once the program waits for it."""
     pipe = folder / "pipe"
     os.mkfifo(pipe)
-    with subprocess.Popen([sys.executable, TOOL, "make", str(pipe), str(folder / "x")], stderr=subprocess.PIPE) as waiting:
+    with subprocess.Popen([sys.executable, TOOL, "make", str(pipe), str(folder / "x")], stderr=subprocess.PIPE,
+                          preexec_fn=heed_interrupts) as waiting:
         with open(pipe, "wb"):
             waiting.send_signal(signal.SIGINT)
-            told = waiting.stderr.read()
-        check((waiting.wait(), told) == (-signal.SIGINT, b""), "on Ctrl-C it ends with", waiting.returncode, told)
+            told = waiting.communicate(timeout=60)[1]
+        check((waiting.returncode, told) == (-signal.SIGINT, b""), "on Ctrl-C it ends with", waiting.returncode, told)
     pipe.unlink()
 
 
