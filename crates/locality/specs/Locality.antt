@@ -22,6 +22,11 @@ use Rattle.locality.specs.After.{moved, Ordered, ordered}
 use Rattle.locality.specs.Before.{above-place}
 use Rattle.locality.specs.Sides.{before-zone, tree-before-zone}
 
+-- Where the same nodes stand from two places on, the trees there are of one length.
+pub same-length : (q m : ℕ) (ns ms : List Node) → drop q ms ≡ drop m ns → tree-length q ms ≡ tree-length m ns
+unfolding tree-length
+same-length q m ns ms e = ap (λ xs. length (encode (first 1 (decode xs)))) e
+
 -- The nodes from a place on are its tree and the trees after it.
 tree-and-rest :
     (q : ℕ) (ns : List Node) {t : ℕ} →
@@ -82,8 +87,7 @@ module _ (r p i j : ℕ) (ns : List Node) {ms : List Node} {t : ℕ} (h : trees 
   -- The trees from the zone on, and those before it that do not hold the place, keep their lengths; the tree at the place and
   -- those that hold it grow as the nodes do.
   pub length-after : (q : ℕ) → its-zone .new ≤ q → tree-length q ms ≡ tree-length (its-zone .old + (q - its-zone .new)) ns
-  unfolding tree-length
-  length-after q le = ap (λ xs. length (encode (first 1 (decode xs)))) (step-after q le)
+  length-after q le = same-length q (its-zone .old + (q - its-zone .new)) ns ms (step-after q le)
 
   pub length-before : (q : ℕ) → q < its-zone .from → (q ≡ p → ⊥) → (Holds q p ns → ⊥) → tree-length q ms ≡ tree-length q ns
   unfolding tree-length

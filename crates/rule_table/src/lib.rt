@@ -9,9 +9,10 @@ ghost use Rattle.rule_table.specs.Headings.{headed};
 use common_limits::KIND_FACTOR;
 use common_limits::LAST_RULE;
 
-const KINDS: [usize; LAST_RULE] = [3, 4, 5, 3, 4, 5, 3, 4, 4, 5, 3, 5, 3, 4, 6, 6, 6];
+// The two columns in bytes, since an array that is read by an index is built at each call.
+const KINDS: [u8; LAST_RULE] = [3, 4, 5, 3, 4, 5, 3, 4, 4, 5, 3, 5, 3, 4, 6, 6, 6];
 
-const FEWEST: [usize; LAST_RULE] = [2, 2, 2, 1, 1, 1, 1, 1, 2, 2, 1, 1, 1, 2, 1, 0, 0];
+const FEWEST: [u8; LAST_RULE] = [2, 2, 2, 1, 1, 1, 1, 1, 2, 2, 1, 1, 1, 2, 1, 0, 0];
 
 // The kind of node that a rule is for.
 pub fn kind_for(rule: usize) -> usize
@@ -19,7 +20,7 @@ pub fn kind_for(rule: usize) -> usize
     ensures { λ r. ⌜ r ≡ kindFor rule ⌝ }
 {
     let row = rule - 1;
-    KINDS[row]
+    common_nodes::wide(KINDS[row])
 }
 
 // The fewest children that it wants.
@@ -28,7 +29,7 @@ pub fn fewest_for(rule: usize) -> usize
     ensures { λ r. ⌜ r ≡ fewestFor rule ⌝ }
 {
     let row = rule - 1;
-    FEWEST[row]
+    common_nodes::wide(FEWEST[row])
 }
 
 // The number is a rule's: it has a row in the table.

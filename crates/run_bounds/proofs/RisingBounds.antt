@@ -1,5 +1,5 @@
 -- Bounds that rise, and what all bounds together tell.
-use mathlib.Core.Bool.{true, false}
+use mathlib.Core.Bool.{true, false, _&&_}
 use mathlib.Core.List.{List}
 use mathlib.Core.Logic.{_⊎_, inl, inr, ⊎-elim}
 use mathlib.Core.Option.{none, some}
@@ -7,11 +7,11 @@ use mathlib.Core.Path.{_≡_, refl, sym, ap, subst, _∙_}
 use Prim.Native.Nat.{ℕ, zero, suc, _+_, _≤_, _<_}
 use native.Mathlib.Omega.{arith}
 use borrow.Author.Count.{below-more}
-use borrow.Author.Tests.{eqb-true, eqb-false, ltb-true, ltb-false}
-use lib.Dec.{eqb, ltb}
+use borrow.Author.Tests.{ne-eqb, eqb-true, eqb-false}
+use lib.Dec.{eqb, leb}
 use lib.ListN.{length, getD, drop, set, length-set}
 use lib.Seq.{getD-set-same, getD-set-other}
-use Rattle.model.specs.Code.{encode, decode, kind}
+use Rattle.model.specs.Code.{encode, decode, kind, children}
 use Rattle.model.specs.Base.{is-some}
 use Rattle.model.specs.Literal.{Literal}
 use Rattle.model.specs.Forest.{Forest, nil, lit, node, size, literal-at}
@@ -24,6 +24,11 @@ use Rattle.theory_reading.specs.Leaves.{head-inner}
 use Rattle.theory_reading.specs.Flat.{spell, Fits, fits-tree}
 use Rattle.theory_rewriting.specs.Children.{first-left}
 use Rattle.theory_forms.specs.Sheets.{Formed}
+use Rattle.theory_reading.specs.Stretches.{forest-in, sheet-stretch}
+use Rattle.rule_table.specs.Columns.{kindFor, fewestFor}
+use Rattle.rule_table.specs.Headings.{headed}
+use Rattle.rule_table.proofs.HeadTests.{head-wrong}
+use Rattle.search_sizes.specs.Ranges.{range-more, range-join}
 use Rattle.search_place.proofs.SearchLevels.{i-never, p-none}
 use Rattle.search_place.proofs.LentStretch.{sheet-spelled}
 use Rattle.run_bounds.specs.BoundTables.{High, Rises, Tabled, Raised, Come-to}
@@ -38,11 +43,10 @@ pub high-rises : {r from to : ℕ} (t u : List ℕ) → Rises t u → High r fro
 high-rises t u rises h q a b = let x = h q a b in let y = rises q in omega arith
 
 pub high-more : {r from : ℕ} (to : ℕ) (t : List ℕ) → High r from to t → r ≤ getD t to 0 → High r from (to + 1) t
-high-more {r} {from} to t h here q a b =
-    ⊎-elim
-    (λ e. h q a (ltb-true q to e))
-    (λ e. let same : to ≡ q = omega (arith, ltb-false q to e) in subst (λ k. r ≤ getD t k 0) same here)
-    (either (ltb q to))
+high-more {r} to t h here = range-more (λ q. r ≤ getD t q 0) to h here
+
+pub high-join : {r from : ℕ} (mid : ℕ) {to : ℕ} (t : List ℕ) → High r from mid t → High r mid to t → High r from to t
+high-join {r} mid t h g = range-join (λ q. r ≤ getD t q 0) mid h g
 
 -- A search that passes over places whose bounds are past its rule comes to a place further on.
 pub come-further :
@@ -52,14 +56,14 @@ pub come-further :
     next ≤ used-in s →
     High (rule + 1) place next low →
     Come-to rule next s sizes low
-come-further {place = place} w within high =
+come-further {place = place} {low = low} w within high =
     record {
       tables = w .tables;
       some-rule = w .some-rule;
       past-all = w .past-all;
       high = w .high;
       within = within;
-      past = λ q a b. ⊎-elim (λ e. w .past q a (ltb-true q place e)) (λ e. high q (ltb-false q place e) b) (either (ltb q place));
+      past = high-join place low (w .past) high;
     }
 
 -- One entry of a table, after a store.
@@ -153,6 +157,23 @@ literal-none {s} h p lt it r =
     let f = decode (drop p (nodes-in s)) in
     let here : is-literal (getD (spell f (w .0)) 0 0) ≡ true = ap (λ xs. is-literal (getD xs 0 0)) (sym (w .1)) ∙ ap is-literal (first-left (2 + p) s) ∙ it in
     literal-quiet r p f (first-is f (w .0) (w .2) here .1)
+
+-- A rule for another kind of node does not apply.
+pub kind-none :
+    {s : List ℕ} →
+    Formed s →
+    (p : ℕ) →
+    p < used-in s →
+    (r : ℕ) →
+    (kindFor r ≡ kind (getD s (2 + p) 0) → ⊥) →
+    none ≡ least-i r p (decode (drop p (nodes-in s)))
+unfolding headed
+kind-none {s} h p lt r other =
+    let l = drop (2 + p) s in
+    let w = sheet-stretch s p h (omega arith) in
+    let off : headed r l ≡ false =
+    ap (λ b. b && leb (fewestFor r) (children (getD l 0 0))) (ne-eqb (kind (getD l 0 0)) (kindFor r) (λ e. other (sym e ∙ ap kind (first-left (2 + p) s)))) in
+    i-never r p (forest-in l) (head-wrong r (w .0) off) ∙ ap (least-i r p) (w .1)
 
 -- Where the search has come to a rule and a place: before the place the rule applies nowhere, and no lower rule applies at all.
 module _ {rule place : ℕ} {s sizes low : List ℕ} (w : Come-to rule place s sizes low) where

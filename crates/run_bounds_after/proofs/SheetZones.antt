@@ -94,6 +94,7 @@ module _ (s : List ℕ) (h : Formed s) (x : Redex) (a : Applies x s) where
         before = omega (arith, f);
         after = λ q l m. let sum : own .old + (q - own .new) ≡ q + (z .old - z .new) = omega arith in
             (step-after (x .rule) (x .place) (x .i) (x .j) ns one did q (omega arith) ∙ ap (λ k. drop k ns) sum, omega (arith, w .moved-by));
+        shift = λ k. omega (arith, w .moved-by);
         level = λ l. omega (arith, level-zone (x .rule) (x .place) (x .i) (x .j) ns ms l);
         spread = λ low top. let its = sym e ∙ ap (λ k. zone k (x .place) (x .i) (x .j) ns ms) (family-9 (x .rule) low top) in (ap (λ k. k .from) its, ap (λ k. k .new) its);
       }
@@ -185,6 +186,7 @@ module _ (s : List ℕ) (h : Formed s) (x : Redex) (a : Applies x s) where
           old-within = omega arith;
           before = omega (arith, ap (λ k. k .from) (of-rule 14 r));
           after = λ q l m. absurd (omega arith);
+          shift = λ k. absurd (k r);
           level = λ l. omega arith;
           spread = λ low top. absurd (omega arith);
         }

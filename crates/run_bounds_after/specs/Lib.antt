@@ -1,3 +1,4 @@
 pub mod Zoned
 pub mod Renewed
 pub mod SetBack
+pub mod Resized

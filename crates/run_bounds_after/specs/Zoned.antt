@@ -22,7 +22,7 @@ abbrev pub own-zone : Redex → List Node → L.Zone
 own-zone x ns = L.zone (family-at (x .rule)) (x .place) (x .i) (x .j) ns (after-step x ns)
 
 -- The zone lies from the place on and within the step's own; from `new` on the nodes are the old ones from `old` on. Of rules 9
--- and 10 it is the tree at the place.
+-- and 10 it is the tree at the place. But for rule 14, `old` is past `new` by as many as there are nodes fewer.
 pub record Zoned (x : Redex) (ns : List Node) (z : Zone) : Type 0 where
   pub place-from : x .place ≤ z .from
   pub from-new : z .from ≤ z .new
@@ -32,6 +32,7 @@ pub record Zoned (x : Redex) (ns : List Node) (z : Zone) : Type 0 where
   pub after : (q : ℕ) → z .new ≤ q → q < length (after-step x ns) →
       (drop q (after-step x ns) ≡ drop (q + (z .old - z .new)) ns)
       × (q + (z .old - z .new) < length ns)
+  pub shift : (x .rule ≡ 14 → ⊥) → z .new + length ns ≡ z .old + length (after-step x ns)
   pub level : Level (x .rule) → z .old ≡ z .new
   pub spread : 9 ≤ x .rule → x .rule ≤ 10 →
       (z .from ≡ x .place)

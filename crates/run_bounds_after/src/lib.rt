@@ -1,9 +1,9 @@
-// The bounds after a step: which places the step changes (its zone) and how those after them move; the table of bounds with its
-// entries moved and those that may be too high back at 1; and, after a step of rule 9 or 10, those of the nodes that have got a constant
-// among their children back at 1.
+// The tables after a step: which places the step changes (its zone) and how those after them move; the table of bounds with its
+// entries moved and those that may be too high back at 1; after a step of rule 9 or 10, those of the nodes that have got a constant
+// among their children back at 1; and the table of sizes with its entries moved and those of the trees that lost nodes lower.
 ghost use mathlib.Core.Path.{_≡_};
 ghost use mathlib.Core.Bool.{false};
-ghost use Prim.Native.Nat.{ℕ, _+_, _≤_, _<_};
+ghost use Prim.Native.Nat.{ℕ, _+_, _-_, _≤_, _<_};
 ghost use lib.ListN.{length, getD, drop};
 ghost use Rattle.model.specs.Limits.{«sheet-room»};
 ghost use Rattle.model.specs.Forest.{size, kids};
@@ -16,6 +16,7 @@ ghost use Rattle.search_place.specs.Redexes.{Applies};
 ghost use Rattle.run_bounds_after.specs.Zoned.{Zoned};
 ghost use Rattle.run_bounds_after.specs.Renewed.{Planned, «close-up», Renewed};
 ghost use Rattle.run_bounds_after.specs.SetBack.{«Constant-free», «Set-back»};
+ghost use Rattle.run_bounds_after.specs.Resized.{«fallen-size», Falls, Shrunk, Resized};
 use common_limits::SHEET_ROOM;
 use search_place::Redex;
 
@@ -161,6 +162,47 @@ pub fn renew(low: &mut [u16], plan: Plan)
     low[outer] = 1;
 }
 
+// The size n of the tree at q after a step at a place that takes nodes away: less by so many where the tree reaches past the place.
+fn fallen(q: u16, n: u16, place: u16, by: u16) -> u16
+    requires { ⌜ (q + n ≤ «sheet-room») × (place < q + n → by ≤ n) ⌝ }
+    ensures { λ r. ⌜ r ≡ «fallen-size» place by q n ⌝ }
+{
+    if place < q + n {
+        return n - by;
+    }
+    n
+}
+
+// The sizes before `to`, fallen so. The loop has no way out and its numbers are narrow, so that the compiler does eight at a time.
+fn shrink(sizes: &mut [u16], to: usize, place: u16, by: u16)
+    requires { ⌜ (to ≤ length (now sizes)) × (to ≤ «sheet-room») ⌝ }
+    requires { ⌜ Falls to place by (now sizes) ⌝ }
+    ensures { λ r. ⌜ Shrunk to place by (now (sizes .entry)) (now (sizes .exit)) ⌝ }
+{
+    let mut q = 0;
+    while q < to {
+        sizes[q] = fallen(q as u16, sizes[q], place, by);
+        q += 1;
+    }
+}
+
+// The sizes after a step at a place that takes nodes away: what stood from `old` on stands from `new` on, ones follow, since zeros stand
+// there, and of the sizes before `to` those of the trees that reach past the place fall.
+pub fn resize_by(sizes: &mut [u16], to: usize, place: usize, new: usize, old: usize)
+    requires { ⌜ length (now sizes) ≡ «sheet-room» ⌝ }
+    requires { ⌜ (to ≤ new)
+        × (new ≤ old)
+        × (old ≤ «sheet-room»)
+        × (place < «sheet-room») ⌝ }
+    requires { ⌜ Falls to place (old - new) (now sizes) ⌝ }
+    ensures { λ r. ⌜ Resized to place new old (now (sizes .entry)) (now (sizes .exit)) ⌝ }
+{
+    let back = old - new;
+    close_up(sizes, new, old);
+    put_ones(sizes, SHEET_ROOM - back, SHEET_ROOM);
+    shrink(sizes, to, place as u16, back as u16);
+}
+
 // The node at a place has a constant among its children: the number of an empty conjunction (kind 3) or disjunction (kind 4).
 fn has_constant(sheet: &[u16], sizes: &[u16], place: usize) -> bool
     requires { ⌜ Measured (now sheet) (now sizes) ⌝ }
@@ -181,6 +223,19 @@ fn has_constant(sheet: &[u16], sizes: &[u16], place: usize) -> bool
     false
 }
 
+// Whether the bound of a place may be too high now: its node has a constant among its children. Most places are literals, which have no
+// children, and are passed over at once.
+fn may_wake(sheet: &[u16], sizes: &[u16], place: usize) -> bool
+    requires { ⌜ Measured (now sheet) (now sizes) ⌝ }
+    requires { ⌜ place < «used-in» (now sheet) ⌝ }
+    ensures { λ r. ⌜ (r ≡ false → «Constant-free» place («nodes-in» (now (sheet .entry)))) ⌝ }
+{
+    if common_nodes::is_literal(common_nodes::wide16(sheet[2 + place])) {
+        return false;
+    }
+    has_constant(sheet, sizes, place)
+}
+
 // The bounds of the places from one up to another that have a constant among their children go back to 1.
 pub fn set_back(sheet: &[u16], sizes: &[u16], low: &mut [u16], from: usize, to: usize)
     requires { ⌜ Measured (now sheet) (now sizes) ⌝ }
@@ -190,7 +245,7 @@ pub fn set_back(sheet: &[u16], sizes: &[u16], low: &mut [u16], from: usize, to: 
 {
     let mut place = from;
     while place < to {
-        if has_constant(sheet, sizes, place) {
+        if may_wake(sheet, sizes, place) {
             low[place] = 1;
         }
         place += 1;

@@ -2,7 +2,7 @@
 use mathlib.Core.List.{List}
 use mathlib.Core.Logic.{inl, inr, ⊎-elim}
 use mathlib.Core.Path.{_≡_, sym, ap, subst, _∙_}
-use Prim.Native.Nat.{ℕ, _+_, _≤_, _<_}
+use Prim.Native.Nat.{ℕ, _+_, _-_, _≤_, _<_}
 use native.Mathlib.Omega.{arith}
 use lib.ListN.{length}
 use Rattle.model.specs.Limits.{sheet-room}
@@ -27,6 +27,7 @@ use Rattle.run_one_step.specs.MovedOn.{Moved-on}
 use Rattle.run_one_step.proofs.Arities.{sizes-still}
 use Rattle.run_one_step.proofs.Bounding.{bounds-after, high-before, high-one, high-outside}
 use Rattle.run_one_step.proofs.Sizing.{sizes-past, sizes-outside}
+use Rattle.run_one_step.proofs.SizesMoved.{sizes-fall, sizes-moved}
 use Rattle.run_one_step.proofs.Stepping.{After, after}
 
 -- A step from one sheet to another, with what was seen ahead of it.
@@ -46,6 +47,10 @@ module _ {s t low : List ℕ} {x : Redex} (c : Come-to (x .rule) (x .place) s t 
   used : used-in u ≡ length (after-step x (nodes-in s))
   used = ap used-in e ∙ now .used
 
+  -- But for rule 14 the zone tells how many nodes fewer there are.
+  pub nodes-fewer : (x .rule ≡ 14 → ⊥) → used-in (stepped-by x s) + (p .zone .old - p .zone .new) ≡ used-in s
+  nodes-fewer other = omega (arith, now .used, f .zoned .shift other, f .zoned .new-old, h .count)
+
   pub planned : Planned p
   planned =
       let z = f .zoned in
@@ -59,16 +64,20 @@ module _ {s t low : List ℕ} {x : Redex} (c : Come-to (x .rule) (x .place) s t 
       }
 
   -- The sizes that are still right.
-  pub sizes-left : (most : ℕ) → used-in s ≤ most → used-in u ≤ most → most ≤ sheet-room → Sizes-left (x .rule) most (p .zone) u t
+  pub sizes-left : (most : ℕ) → used-in s ≤ most → used-in u ≤ most → most ≤ sheet-room → Sizes-left (x .rule) (x .place) most (p .zone) u t
   sizes-left most before behind few =
       let each = c .tables .measured .each in
       record {
         whole = formed-after .whole;
         long = c .tables .measured .long;
         order = f .zoned .from-new;
-        within = omega (arith, f .zoned .new-old, f .zoned .old-within);
+        new-old = f .zoned .new-old;
+        old-within = f .zoned .old-within;
+        place-within = omega (arith, O.within s h x a, h .used);
         same = λ low top. sizes-still s u h formed-after x a same low top t each;
         outside = λ even. sizes-outside s u h formed-after x a same (f .zoned) even t each;
+        falls = λ other. sizes-fall s u h formed-after x a same (f .zoned) other t each;
+        moved = λ other. sizes-moved s u h formed-after x a same (f .zoned) other t each;
         few = few;
         past = sizes-past s u h formed-after t each most before behind;
       }

@@ -9,8 +9,7 @@ use borrow.Author.Tests.{eqb-true, eqb-false, ltb-true, ltb-false, lt-ltb}
 use lib.Dec.{eqb, ltb}
 use lib.ListN.{length, getD, drop, replicate, length-append, length-drop, length-map, length-replicate, replicate-append-replicate}
 use lib.Seq.{drop-at}
-use Rattle.model.specs.Code.{Node, encode, decode, number-of}
-use Rattle.model.specs.Forest.{first}
+use Rattle.model.specs.Code.{number-of}
 use Rattle.model.specs.Limits.{sheet-room}
 use Rattle.model.specs.Sheet.{used-in, nodes-in}
 use Rattle.theory_forms.specs.Logic.{true-false, either, and-split, and-join}
@@ -18,7 +17,7 @@ use Rattle.theory_reading.specs.Spans.{span}
 use Rattle.theory_forms.specs.Sheets.{Formed}
 use Rattle.theory_reading.specs.Stretches.{stands}
 use Rattle.locality.specs.Zones.{tree-length, tree-end}
-use Rattle.locality.specs.Locality.{length-before, length-holding, length-at, Level, level-length}
+use Rattle.locality.specs.Locality.{same-length, length-before, length-holding, length-at, Level, level-length}
 use Rattle.search_sizes.specs.SizeTables.{Sizes-from}
 use Rattle.search_place.specs.declared.Redex.{Redex}
 use Rattle.search_place.specs.Redexes.{Applies}
@@ -35,7 +34,7 @@ zeros-left xs gone left q e =
     ∙ drop-at (xs ++ replicate gone 0) (replicate left 0) q (omega (arith, length-append xs (replicate gone 0), length-replicate {A = ℕ} gone 0))
 
 -- After the nodes stand zeros.
-zeros-here : (s : List ℕ) → Formed s → (q : ℕ) → used-in s ≤ q → q ≤ sheet-room → drop q (drop 2 s) ≡ replicate (sheet-room - q) 0
+pub zeros-here : (s : List ℕ) → Formed s → (q : ℕ) → used-in s ≤ q → q ≤ sheet-room → drop q (drop 2 s) ≡ replicate (sheet-room - q) 0
 zeros-here s h q le small =
     let numbers = map number-of (nodes-in s) in
     let sum : (q - used-in s) + (sheet-room - q) ≡ sheet-room - used-in s = omega arith in
@@ -58,10 +57,6 @@ sizes-past s u h k t sizes most a b q le l =
     let short : q < sheet-room = omega (arith, length-drop 2 u, k .whole) in
     let there : q < length (drop 2 s) = omega (arith, length-drop 2 s, h .whole) in
     sizes q (omega arith) there ∙ ap (span 1) (zeros-here s h q (omega arith) (omega arith) ∙ sym (zeros-here u k q (omega arith) (omega arith)))
-
-same-length : (q : ℕ) (ns ms : List Node) → drop q ms ≡ drop q ns → tree-length q ms ≡ tree-length q ns
-unfolding tree-length
-same-length q ns ms e = ap (λ xs. length (encode (first 1 (decode xs)))) e
 
 module _ (s u : List ℕ) (h : Formed s) (k : Formed u) (x : Redex) (a : Applies x s) (same : nodes-in u ≡ after-step x (nodes-in s)) {z : Zone} (w : Zoned x (nodes-in s) z) (even : Level (x .rule)) where
   level : length (after-step x (nodes-in s)) ≡ length (nodes-in s)
@@ -92,7 +87,7 @@ module _ (s u : List ℕ) (h : Formed s) (k : Formed u) (x : Redex) (a : Applies
       go (inr le) =
           let there = w .after q le (omega (arith, level, h .count)) .0 in
           let still : q + (z .old - z .new) ≡ q = omega (arith, w .level even) in
-          same-length q (nodes-in s) (after-step x (nodes-in s)) (there ∙ ap (λ n. drop n (nodes-in s)) still)
+          same-length q q (nodes-in s) (after-step x (nodes-in s)) (there ∙ ap (λ n. drop n (nodes-in s)) still)
 
   pub sizes-outside :
       (t : List ℕ) →

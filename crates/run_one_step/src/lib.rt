@@ -17,16 +17,46 @@ use run_bounds_after::Plan;
 use run_bounds_after::Zone;
 use search_place::Redex;
 
-// The sizes after a step. Rules 9 and 10 keep every size, rules 11, 12 and 17 those outside the zone; the others keep those past all
-// nodes, old and new.
-fn resize(sheet: &[u16], sizes: &mut [u16], rule: usize, zone: Zone, most: usize)
-    requires { ⌜ «Sizes-left» rule most zone (now sheet) (now sizes) ⌝ }
+// The greater of two numbers.
+fn greater(a: usize, b: usize) -> usize
+    ensures { λ r. ⌜ (a ≤ r)
+        × (b ≤ r)
+        × ((r ≡ a) ⊎ (r ≡ b)) ⌝ }
+{
+    if a < b {
+        return b;
+    }
+    a
+}
+
+// The lesser of two numbers.
+fn lesser(a: usize, b: usize) -> usize
+    ensures { λ r. ⌜ (r ≤ a)
+        × (r ≤ b)
+        × ((r ≡ a) ⊎ (r ≡ b)) ⌝ }
+{
+    if a < b {
+        return a;
+    }
+    b
+}
+
+// The sizes after a step of a rule at a place. Rules 9 and 10 keep every size, rules 11, 12 and 17 those outside the zone; rule 14 keeps
+// those past all nodes, old and new. After any other rule those behind the zone move with their nodes, those of the trees that hold the
+// place fall, and those of the zone, two at most, are made anew.
+fn resize(sheet: &[u16], sizes: &mut [u16], rule: usize, place: usize, zone: Zone, most: usize)
+    requires { ⌜ «Sizes-left» rule place most zone (now sheet) (now sizes) ⌝ }
     ensures { λ r. ⌜ «Sizes-from» 0 (drop 2 (now (sheet .entry))) (now (sizes .exit)) ⌝ }
 {
     match rule {
         9..=10 => {}
         11..=12 | 17 => search_sizes::refill(&sheet[2..], sizes, zone.from, zone.new),
-        _ => search_sizes::refill(&sheet[2..], sizes, 0, most),
+        14..=14 => search_sizes::refill(&sheet[2..], sizes, 0, most),
+        _ => {
+            let to = lesser(zone.from, place + 1);
+            run_bounds_after::resize_by(sizes, to, place, zone.new, zone.old);
+            search_sizes::refill(&sheet[2..], sizes, zone.from, zone.new);
+        }
     }
 }
 
@@ -83,30 +113,6 @@ fn follow(sheet: &[u16], sizes: &[u16], low: &mut [u16], rule: usize, plan: Plan
     }
 }
 
-// The greater of two numbers.
-fn greater(a: usize, b: usize) -> usize
-    ensures { λ r. ⌜ (a ≤ r)
-        × (b ≤ r)
-        × ((r ≡ a) ⊎ (r ≡ b)) ⌝ }
-{
-    if a < b {
-        return b;
-    }
-    a
-}
-
-// The lesser of two numbers.
-fn lesser(a: usize, b: usize) -> usize
-    ensures { λ r. ⌜ (r ≤ a)
-        × (r ≤ b)
-        × ((r ≡ a) ⊎ (r ≡ b)) ⌝ }
-{
-    if a < b {
-        return a;
-    }
-    b
-}
-
 // The places whose bounds a step has set back lie from one place up to another.
 struct Reach {
     from: usize,
@@ -125,9 +131,9 @@ fn move_on(sheet: &mut [u16], sizes: &mut [u16], low: &mut [u16], redex: Redex) 
     let plan = look_ahead(sheet, sizes, redex);
     let zone = plan.zone;
     let before = common_nodes::wide16(sheet[1]);
-    step::apply(sheet, rule, place, redex.i, redex.j);
+    step::apply_by(sheet, rule, place, redex.i, redex.j, zone.old - zone.new);
     let most = greater(before, common_nodes::wide16(sheet[1]));
-    resize(sheet, sizes, rule, zone, most);
+    resize(sheet, sizes, rule, place, zone, most);
     follow(sheet, sizes, low, rule, plan);
     let to = greater(place + 1, zone.new);
     Reach {

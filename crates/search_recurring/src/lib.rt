@@ -1,7 +1,9 @@
 // The first child that is a literal whose option occurs again in the tree, for rules 9 and 10.
+ghost use mathlib.Core.Bool.{false};
 ghost use mathlib.Core.Path.{_≡_};
 ghost use Prim.Native.Nat.{_≤_, _<_};
-ghost use lib.ListN.{length, replicate};
+ghost use lib.ListN.{length, getD, replicate};
+ghost use Rattle.model.specs.Code.{children};
 ghost use Rattle.model.specs.Limits.{«kind-factor», «sheet-room»};
 ghost use Rattle.theory_reading.specs.Stretches.{Stretch};
 ghost use Rattle.theory_rewriting.specs.Heads.{Headed};
@@ -68,9 +70,28 @@ fn first_among(part: &[u16], sizes: &[u16], end: usize, tally: &[u8]) -> usize
     k
 }
 
+// Whether one of the children of the first tree, which ends at a place, is a literal: where not, none recurs.
+fn has_literal(part: &[u16], sizes: &[u16], end: usize) -> bool
+    requires { ⌜ «Ends-at» end (now part) ⌝ }
+    requires { ⌜ «Sizes-of» (now part) (now sizes) ⌝ }
+    ensures { λ r. ⌜ (r ≡ false → «First-again» end (children (getD (now (part .entry)) 0 0)) (now (part .entry))) ⌝ }
+{
+    let k = common_nodes::children_of(common_nodes::wide16(part[0]));
+    let mut i = 0;
+    let mut at = 1;
+    while i < k {
+        if common_nodes::is_literal(common_nodes::wide16(part[at])) {
+            return true;
+        }
+        at += common_nodes::wide16(sizes[at]);
+        i += 1;
+    }
+    false
+}
+
 // The first child with which rule 9 or 10 applies to the first tree of a stretch, whose head is right for it; as many as there
 // are children where there is none. A look around each literal is short in a tree of few numbers; in one of many the literals
-// are counted, once, by their options.
+// are counted, once, by their options, but for a tree that has no literal among its children.
 pub fn first_recurring(part: &[u16], sizes: &[u16], rule: usize) -> usize
     requires { ⌜ (9 ≤ rule) × (rule ≤ 10) ⌝ }
     requires { ⌜ Stretch (now part) ⌝ }
@@ -81,6 +102,9 @@ pub fn first_recurring(part: &[u16], sizes: &[u16], rule: usize) -> usize
     let end = common_nodes::wide16(sizes[0]);
     if end < 24 {
         return first_among(part, sizes, end, &[]);
+    }
+    if !has_literal(part, sizes, end) {
+        return common_nodes::children_of(common_nodes::wide16(part[0]));
     }
     let mut tally = [0u8; KIND_FACTOR];
     count(part, end, &mut tally);

@@ -10,7 +10,7 @@ use lib.ListN.{length, getD, drop, set, length-drop}
 use lib.Seq.{drop-drop, getD-set-other, getD-set-same, getD-drop}
 use Rattle.theory_forms.specs.Logic.{either}
 use Rattle.theory_reading.specs.Spans.{span}
-use Rattle.search_sizes.specs.SizeTables.{Sizes-from, Sizes-of, Measured}
+use Rattle.search_sizes.specs.SizeTables.{Sizes-from, None-past, Sizes-of, Measured}
 
 -- One entry more, before those that are right.
 pub sized-more :
@@ -39,7 +39,7 @@ pub sheet-sizes : {s t : List ℕ} → Measured s t → Sizes-of (drop 2 s) t
 sheet-sizes {s} w = record { long = omega (arith, w .long, w .sheet .whole, length-drop 2 s); each = w .each }
 
 -- The nearest place before a bound whose tree reaches past another place.
-module _ (t : List ℕ) (below place from : ℕ) (none-later : (k : ℕ) → from ≤ k → k < below → place < k + getD t k 0 → ⊥) where
+module _ (t : List ℕ) (below place from : ℕ) (none-later : None-past place from below t) where
   pub nearest : (q : ℕ) → q < below → place < q + getD t q 0 → q ≤ from - 1
   nearest q l h =
       ⊎-elim
@@ -47,7 +47,7 @@ module _ (t : List ℕ) (below place from : ℕ) (none-later : (k : ℕ) → fro
       (λ e. absurd (none-later q (ltb-false q from e) l h))
       (either (ltb q from))
 
-  pub one-more : (place < from - 1 + getD t (from - 1) 0 → ⊥) → (k : ℕ) → from - 1 ≤ k → k < below → place < k + getD t k 0 → ⊥
+  pub one-more : (place < from - 1 + getD t (from - 1) 0 → ⊥) → None-past place (from - 1) below t
   one-more short k le l h =
       ⊎-elim
       (λ e. let same : k ≡ from - 1 = omega (arith, ltb-true k from e) in short (subst (λ x. place < x + getD t x 0) same h))

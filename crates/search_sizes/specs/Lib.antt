@@ -1,3 +1,4 @@
+pub mod Ranges
 pub mod SizeTables
 pub mod TreeHops
 pub mod FirstApplying

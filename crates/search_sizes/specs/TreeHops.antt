@@ -6,12 +6,12 @@ use native.Mathlib.Nat.{zero-add, suc-add}
 use native.Mathlib.Omega.{arith}
 use borrow.Author.Count.{below-more}
 use lib.Dec.{eqb}
-use lib.ListN.{length, getD, drop, length-drop}
+use lib.ListN.{length, getD, drop, replicate, length-drop}
 use lib.Seq.{drop-drop}
 use Rattle.model.specs.Code.{kind, value, children}
 use Rattle.theory_forms.specs.Logic.{pick-keeps}
 use Rattle.theory_forms.specs.Scan.{is-literal}
-use Rattle.theory_reading.specs.Spans.{arity, span, span-none, span-over, span-more, span-step, span-within, child-at}
+use Rattle.theory_reading.specs.Spans.{arity, arity-none, span, span-none, span-over, span-more, span-step, span-within, child-at}
 use Rattle.search_sizes.specs.SizeTables.{Sizes-of}
 
 -- Trees one after another take the sum of their numbers.
@@ -54,6 +54,11 @@ childless i s h e = span-tree i s h ∙ ap (λ k. i + 1 + span k (drop (i + 1) s
 pub span-one : (i : ℕ) (s : List ℕ) → i < length s → (1 ≤ span 1 (drop i s)) × (i + span 1 (drop i s) ≤ length s)
 span-one i s h =
     (omega (arith, span-tree i s h), omega (arith, span-within 1 (drop i s), length-drop i s))
+
+-- Among zeros each stands alone.
+pub span-zero : (n : ℕ) → 0 < n → span 1 (replicate n 0) ≡ 1
+span-zero zero h = absurd (omega arith)
+span-zero (suc n) h = rw (span-more 0 0 (replicate n 0), arity-none) (ap suc (span-none (replicate n 0)))
 
 -- The children of the tree at a place begin after its head.
 pub inner-at : (at j : ℕ) (l : List ℕ) → at + child-at j (drop at l) ≡ at + 1 + span j (drop (at + 1) l)

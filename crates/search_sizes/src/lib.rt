@@ -1,10 +1,15 @@
 // The sizes of all trees on a run of numbers, made in one pass from the right, so that children are found by hopping.
+ghost use mathlib.Core.Bool.{false};
 ghost use mathlib.Core.Path.{_≡_};
 ghost use Prim.Native.Nat.{ℕ, _+_, _≤_, _<_};
 ghost use lib.ListN.{length, getD, drop};
 ghost use Rattle.model.specs.Limits.{«sheet-room»};
 ghost use Rattle.theory_reading.specs.Spans.{span};
-ghost use Rattle.search_sizes.specs.SizeTables.{«Sizes-from»};
+ghost use Rattle.search_sizes.specs.Ranges.{block};
+ghost use Rattle.search_sizes.specs.SizeTables.{«Sizes-from», «None-past»};
+
+// So many places are looked at together.
+pub const BLOCK: usize = 32;
 
 // The end of the tree at a place, by the sizes of those after it. A literal has no children, and neither has a node of value 0.
 fn end_at(s: &[u16], sizes: &[u16], place: usize) -> usize
@@ -54,16 +59,50 @@ pub fn fill(s: &[u16], sizes: &mut [u16])
     refill(s, sizes, 0, s.len());
 }
 
-// The nearest place before another whose tree reaches past a place; that other place itself where there is none.
+// Whether the tree at one of a block of places, from one on, reaches past a later place: where not, none does. The loop has no way out and
+// its numbers are narrow, so that the compiler looks at eight at a time.
+fn some_reaching(sizes: &[u16], from: usize, place: usize) -> bool
+    requires { ⌜ (from + block ≤ length (now sizes))
+        × (from + block ≤ place)
+        × (place ≤ «sheet-room») ⌝ }
+    ensures { λ r. ⌜ (r ≡ false → «None-past» place from (from + block) (now (sizes .entry))) ⌝ }
+{
+    let gap = (place - from) as u16;
+    let mut some = false;
+    let mut k = 0;
+    while k < BLOCK {
+        some = some | (gap - (k as u16) < sizes[from + k]);
+        k += 1;
+    }
+    some
+}
+
+// Back from one place, block by block over those of which no tree reaches past a later place: the first place of these blocks.
+fn before_blocks(sizes: &[u16], below: usize, place: usize) -> usize
+    requires { ⌜ (below ≤ length (now sizes))
+        × (below ≤ place)
+        × (place ≤ «sheet-room») ⌝ }
+    ensures { λ r. ⌜ (r ≤ below)
+        × «None-past» place r below (now (sizes .entry)) ⌝ }
+{
+    let mut q = below;
+    while BLOCK <= q && !some_reaching(sizes, q - BLOCK, place) {
+        q -= BLOCK;
+    }
+    q
+}
+
+// The nearest place below another whose tree reaches past a later place; that other place itself where there is none.
 pub fn holder(sizes: &[u16], below: usize, place: usize) -> usize
     requires { ⌜ (below ≤ length (now sizes))
         × (length (now sizes) ≤ «sheet-room»)
+        × (below ≤ place)
         × (place ≤ «sheet-room») ⌝ }
     ensures { λ r. ⌜ (r ≤ below)
         × (r < below → place < r + getD (now (sizes .entry)) r 0) ⌝ }
     ensures { λ r. ⌜ ((q : ℕ) → q < below → place < q + getD (now (sizes .entry)) q 0 → (r < below) × (q ≤ r)) ⌝ }
 {
-    let mut q = below;
+    let mut q = before_blocks(sizes, below, place);
     while 0 < q {
         q -= 1;
         if place < q + common_nodes::wide16(sizes[q]) {

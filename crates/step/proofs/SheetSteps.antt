@@ -6,8 +6,8 @@ use mathlib.Core.Path.{_≡_, sym, ap, ap₂, _∙_}
 use Prim.Native.Nat.{ℕ, _+_, _-_, _≤_, _<_}
 use native.Mathlib.Omega.{arith}
 use borrow.Rule.Slice.PartMut.{midOf, putMid}
-use lib.ListN.{length, take, drop, set, replicate, length-append, length-map, length-drop}
-use lib.Seq.{length-take-le}
+use lib.ListN.{length, getD, take, drop, set, replicate, length-append, length-map, length-drop}
+use lib.Seq.{length-take-le, getD-set-same}
 use Rattle.common_lists.proofs.Lent.{lent-part, lent-back}
 use Rattle.model.specs.Base.{is-some, maybe, then}
 use Rattle.model.specs.Forest.{Forest}
@@ -144,3 +144,16 @@ module _ (s : List ℕ) (h : Formed s) (r p i j : ℕ) (t : is-some (M.step r p 
     -- Where the step keeps the number of nodes it is that as it is.
     pub back-level : Level r → putMid (2 + p) (length s - (2 + p)) s ys ≡ stepped s r p i j
     back-level level = back ∙ turned-level s h r p i j t level
+
+    -- The used count that the step leaves, where it is known without counting the live numbers.
+    pub back-count :
+        (n : ℕ) →
+        n ≡ used-in (stepped s r p i j) →
+        1 < length (putMid (2 + p) (length s - (2 + p)) s ys) →
+        set (putMid (2 + p) (length s - (2 + p)) s ys) 1 n ≡ stepped s r p i j
+    unfolding used-in
+    back-count n e inside =
+        let new = putMid (2 + p) (length s - (2 + p)) s ys in
+        let count = length (live (midOf 2 (length new - 2) new)) in
+        let same : n ≡ count = e ∙ ap (λ xs. getD xs 1 0) (sym back-sheet) ∙ getD-set-same new 1 count 0 inside in
+        ap (set new 1) same ∙ back-sheet

@@ -1,14 +1,14 @@
 // The core of a step: whether one rule applies at one place of a sheet, for child i and inner child j, and the sheet after it.
 ghost use mathlib.Core.Path.{_≡_};
 ghost use mathlib.Core.Bool.{true};
-ghost use Prim.Native.Nat.{_≤_, _<_};
+ghost use Prim.Native.Nat.{_+_, _≤_, _<_};
 ghost use lib.ListN.{length, getD};
 ghost use Rattle.model.specs.Base.{«is-some»};
 ghost use Rattle.model.specs.Code.{children};
 ghost use Rattle.model.specs.Limits.{«last-rule»};
 ghost use Rattle.model.specs.Rules as M;
 ghost use Rattle.model.specs.Rules.{rewrite};
-ghost use Rattle.model.specs.Sheet.{«nodes-in»};
+ghost use Rattle.model.specs.Sheet.{«used-in», «nodes-in»};
 ghost use Rattle.model.specs.Results.{stepped};
 ghost use Rattle.theory_reading.specs.Spans.{«child-at»};
 ghost use Rattle.theory_reading.specs.Stretches.{Stretch, «forest-in»};
@@ -85,5 +85,22 @@ pub fn apply(sheet: &mut [u16], rule: usize, place: usize, i: usize, j: usize)
         9..=12 => {}
         17..=17 => {}
         _ => sheet[1] = sheet_shifts::live_count(&sheet[2..]) as u16,
+    }
+}
+
+// The same, where it is known how many nodes fewer there will be, so that the used count is not counted anew. Rule 14 may leave more
+// nodes than there were: after it they are counted.
+pub fn apply_by(sheet: &mut [u16], rule: usize, place: usize, i: usize, j: usize, fewer: usize)
+    requires { ⌜ Formed (now sheet) ⌝ }
+    requires { ⌜ «is-some» (M.step rule place i j («nodes-in» (now sheet))) ≡ true ⌝ }
+    requires { ⌜ ((rule ≡ 14 → ⊥) → «used-in» (stepped (now sheet) rule place i j) + fewer ≡ «used-in» (now sheet)) ⌝ }
+    ensures { λ r. ⌜ now (sheet .exit) ≡ stepped (now (sheet .entry)) rule place i j ⌝ }
+{
+    let from = 2 + place;
+    let used = common_nodes::wide16(sheet[1]);
+    turn(&mut sheet[from..], rule, i, j);
+    match rule {
+        14..=14 => sheet[1] = sheet_shifts::live_count(&sheet[2..]) as u16,
+        _ => sheet[1] = (used - fewer) as u16,
     }
 }

@@ -36,7 +36,7 @@ first-waiting-requires c κs =
     let w = start (c .before) .pre .1 in
     let few = w .tables .measured .sheet .used in
     let used = counted (c .before) in
-    (omega (arith, w .within), omega (arith, w .tables .long), omega arith)
+    ((omega (arith, w .within), omega (arith, w .tables .long), omega arith), omega (arith, start (c .before) .pre .0))
 
 loop-holds : tie.Need-loop-holds Inv-loop μ-loop
 loop-holds c =
@@ -118,7 +118,7 @@ first-waiting-requires-2 c κs =
     let w = passed (c .before) in
     let few = w .tables .measured .sheet .used in
     let used = counted (sized n) in
-    (omega (arith, w .within), omega (arith, w .tables .long), omega arith)
+    ((omega (arith, w .within), omega (arith, w .tables .long), omega arith), omega (arith, start (sized n) .pre .0))
 
 loop-less : tie.Need-loop-less Inv-loop μ-loop
 loop-less c = omega (arith, c .first-waiting2 .ensures .0, c .first-waiting2 .ensures .1)

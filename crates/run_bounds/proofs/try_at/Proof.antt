@@ -1,16 +1,20 @@
--- `run_bounds::try_at` meets its contract: a bound past the rule says that it does not apply, and so does a literal; else the place is searched, and its bound rises where nothing was found.
+-- `run_bounds::try_at` meets its contract: the place is past the rule, or a literal, or the rule is tried.
 use mathlib.Core.Bool.{true}
+use mathlib.Core.Logic.{⊎-elim}
 use mathlib.Core.Path.{_≡_, sym, ap, _∙_}
 use Prim.Native.Nat.{_+_, _<_}
 use native.Mathlib.Omega.{arith}
+use borrow.Author.Tests.{ltb-true, ltb-false}
 use borrow.Author.Needs.{needs}
+use lib.Dec.{ltb}
 use lib.ListN.{length, getD}
 use lib.Seq.{getD-set-same}
+use Rattle.model.specs.Code.{kind}
 use Rattle.model.specs.Limits.{no-rule}
-use Rattle.theory_forms.specs.Logic.{none-some}
+use Rattle.theory_forms.specs.Logic.{none-some, either}
 use Rattle.theory_forms.specs.Scan.{is-literal}
 use Rattle.search_place.specs.Redexes.{spotOf}
-use Rattle.run_bounds.proofs.RisingBounds.{raised-same, entry-there, bound-tells, tells-more, raised-to, literal-none}
+use Rattle.run_bounds.proofs.RisingBounds.{raised-same, entry-there, bound-tells, tells-more, raised-to, literal-none, kind-none}
 use Rattle.run_bounds.proofs.try_at.Statement.{statement}
 use Rattle.run_bounds.proofs.try_at.Tie as tie
 
@@ -28,37 +32,12 @@ come c =
 abbrev start : tie.Else1 → tie.Start
 start c = let d = c .before .before .before in d .before .before .before
 
-mul-wide16 : tie.Need-mul-wide16
-mul-wide16 c = let b = c .before .before .before in omega (arith, inside b, b .pre .1 .0 .long)
-
-slice-read-wide16 : tie.Need-slice-read-wide16
-slice-read-wide16 c = inside (c .before .before .before .before)
-
 returns : tie.Need-returns
 returns c =
     let b = c .before .before .before .before .before .before in
     let a = b .args in
     let past : a .rule < getD (a .low .now) (a .place) 0 = omega (arith, c .before .wide16 .ensures .0, c .if1 .taken) in
     (bound-tells (b .pre .1 .0) (b .pre .1 .1 .0) (a .rule) (b .pre .0 .0) past, (raised-same (b .pre .1 .0), λ e. past))
-
-add-from : tie.Need-add-from
-add-from c = let b = c .before .before .before .before .before .before in omega (arith, inside b, b .pre .1 .0 .long)
-
-mul-wide16-2 : tie.Need-mul-wide16-2
-mul-wide16-2 c = let b = c .before .before .before .before .before .before in omega (arith, inside b, b .pre .1 .0 .long)
-
-shared-slice-read-wide16 : tie.Need-shared-slice-read-wide16
-shared-slice-read-wide16 c =
-    let b = c .before .before .before .before .before .before .before in
-    omega (arith, inside b, b .pre .1 .0 .long, b .pre .1 .0 .measured .sheet .whole)
-
-mul-low : tie.Need-mul-low
-mul-low c =
-    let b = start (c .before .before .before .before) in
-    omega (arith, inside b, b .pre .1 .0 .long)
-
-slice-write-low : tie.Need-slice-write-low
-slice-write-low c = inside (start (c .before .before .before .before))
 
 returns-2 : tie.Need-returns-2
 returns-2 c =
@@ -80,48 +59,46 @@ returns-3 c =
 enum-told : tie.Need-enum-told
 enum-told c = search needs
 
-mul-low-2 : tie.Need-mul-low-2
-mul-low-2 c =
-    let b = start (c .before .before .before .before .before .before .before) in
-    omega (arith, inside b, b .pre .1 .0 .long)
-
-slice-write-low-2 : tie.Need-slice-write-low-2
-slice-write-low-2 c = inside (start (c .before .before .before .before .before .before .before))
-
 returns-4 : tie.Need-returns-4
 returns-4 c =
-    let d = c .before .before in
+    let m = c .before .before in
+    let d = m .before .before in
     let e = d .before .before .before .before .before in
     let b = e .before .before .before .before .before .before in
     let a = b .args in
-    let nothing = ap (spotOf (a .rule) (a .place)) (sym (c .enum-told .given .1)) ∙ d .least-at .ensures in
-    let new = getD-set-same (a .low .now) (a .place) (a .rule + 1) 0 (inside b) in
-    (nothing, (raised-to (b .pre .1 .0) (b .pre .1 .1 .0) (omega (arith, come e)) (tells-more (b .pre .1 .0) (b .pre .1 .1 .0) (come e) nothing), λ k. omega (arith, new)))
+    let w = b .pre .1 .0 in
+    let within = b .pre .1 .1 .0 in
+    let nothing = ap (spotOf (a .rule) (a .place)) (sym (m .enum-told .given .1)) ∙ d .least-at .ensures in
+    let next = c .next-for .ensures in
+    let new = getD-set-same (a .low .now) (a .place) (c .next-for .result) 0 (inside b) in
+    let read : c .before .kind-of .result ≡ kind (getD (a .sheet .now) (2 + a .place) 0) = c .before .kind-of .ensures ∙ ap kind (d .before .before .before .wide162 .ensures .0) in
+    (nothing, (raised-to w within (omega (arith, come e, next .0)) (λ r one lt. ⊎-elim (λ k. tells-more w within (come e) nothing r one (ltb-true r (a .rule + 1) k)) (λ k. kind-none (w .measured .sheet) (a .place) within r (λ f. next .2 r (omega (arith, ltb-false r (a .rule + 1) k)) lt (f ∙ sym read))) (either (ltb r (a .rule + 1)))), λ k. omega (arith, new, next .0)))
 
 pub try-at-spec : {M : Type 1} → statement M
 try-at-spec =
     tie.close
     (tie.spec
-    mul-wide16
-    slice-read-wide16
+    (λ c. search needs)
+    (λ c. search needs)
     (λ c κs. search needs)
     returns
-    add-from
-    mul-wide16-2
-    shared-slice-read-wide16
+    (λ c. search needs)
+    (λ c. search needs)
+    (λ c. search needs)
     (λ c κs. search needs)
     (λ c κs. search needs)
-    mul-low
-    slice-write-low
+    (λ c. search needs)
+    (λ c. search needs)
     (λ c. search needs)
     returns-2
     (λ c κs. search needs)
     (λ c. search needs)
     returns-3
     enum-told
+    (λ c κs. search needs)
+    (λ c κs. search needs)
     (λ c. search needs)
     (λ c. search needs)
-    mul-low-2
-    slice-write-low-2
+    (λ c. search needs)
     (λ c. search needs)
     returns-4)

@@ -29,8 +29,8 @@ loop-holds c =
     let b = c .before .before .before in
     ((omega arith, b .pre .1 .1 .0), b .pre .1 .0, set-none (b .args .from) (nodes-in (b .args .sheet .now)) (b .args .low .now))
 
-has-constant-requires : tie.Need-has-constant-requires Inv-loop μ-loop
-has-constant-requires c κs =
+may-wake-requires : tie.Need-may-wake-requires Inv-loop μ-loop
+may-wake-requires c κs =
     let b = c .before .before .before .before .before in
     (b .pre .0, omega (arith, b .pre .1 .1 .1, c .loop-test .taken))
 
@@ -57,7 +57,7 @@ loop-again c =
     let new : (length (c .if1 .low) ≡ sheet-room) × Set-back (a .from) (n .loop .place + 1) ns (a .low .now) (c .if1 .low) =
     ⊎-elim
     (λ w. rw (w .1) (length-set old (n .loop .place) 1 ∙ v .1, set-one ns (a .low .now) old (v .2) (v .0 .0) (omega (arith, inside (h .before), v .1))))
-    (λ w. rw (w .1) (v .1, set-kept ns (a .low .now) old (v .2) (v .0 .0) (h .has-constant .ensures (w .0 .left))))
+    (λ w. rw (w .1) (v .1, set-kept ns (a .low .now) old (v .2) (v .0 .0) (h .may-wake .ensures (w .0 .left))))
     (c .if1 .came) in
     ((omega (arith, v .0 .0), omega arith), new .0, new .1)
 
@@ -81,7 +81,7 @@ set-back-spec =
     Inv-loop
     μ-loop
     loop-holds
-    has-constant-requires
+    may-wake-requires
     mul-low
     slice-write-low
     add-place

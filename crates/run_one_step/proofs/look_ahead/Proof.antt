@@ -18,13 +18,13 @@ holder-requires : tie.Need-holder-requires
 holder-requires c κs =
     let b = c .before .before in
     let w = here b in
-    (omega (arith, b .pre .0 .long), omega (arith, b .pre .0 .long), omega arith)
+    (omega (arith, b .pre .0 .long), omega (arith, b .pre .0 .long), omega arith, omega arith)
 
 holder-requires-2 : tie.Need-holder-requires-2
 holder-requires-2 c κs =
     let b = c .before .before .before in
     let w = here b in
-    (omega (arith, b .pre .0 .long, c .holder .ensures .0 .0), omega (arith, b .pre .0 .long), omega arith)
+    (omega (arith, b .pre .0 .long, c .holder .ensures .0 .0), omega (arith, b .pre .0 .long), c .holder .ensures .0 .0, omega arith)
 
 returns : tie.Need-returns
 returns c =
