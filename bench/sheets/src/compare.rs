@@ -5,7 +5,7 @@ use crate::clauses;
 use crate::ffi;
 use crate::nodes::{kind, LEAST, LENGTH};
 use crate::plain::flat::{is_sheet, used};
-use crate::plain::{bounds, index, load, parts, simple, sweep};
+use crate::plain::{bounds, fast, index, load, parts, simple, sweep};
 use crate::random::Random;
 use crate::random_books::{self, book_with_leasts};
 use std::collections::BTreeMap;
@@ -167,6 +167,7 @@ pub fn random_sheets(random: &mut Random, count: usize, weight: usize, seen: &mu
         let before = reported(&sheet, true);
         let (ran_whole, settled) = ran([ffi::run, bounds::run], &sheet, u64::MAX);
         ran([ffi::run, simple::run], &sheet, u64::MAX);
+        ran([ffi::run, fast::run], &sheet, u64::MAX);
         let budget = random.within(0, 1 + ran_whole.count as usize) as u64;
         let (_, stopped) = ran([ffi::run, bounds::run], &sheet, budget);
         for later in [settled, stopped] {

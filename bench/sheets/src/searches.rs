@@ -1,10 +1,11 @@
-//! The search by bounds against the simplest search, and its bounds against what they promise.
+//! The searches by bounds against the simplest search, and their bounds against what they promise.
 
 use crate::answers::Redex;
 use crate::compare::{random_sheet, stop, Sheet};
 use crate::nodes::arity;
 use crate::plain::bounds::Bounds;
-use crate::plain::flat::{fill_sizes, used, Flat, MOST};
+use crate::plain::fast::Fast;
+use crate::plain::flat::{fill_sizes, used, Flat, Sizes, MOST};
 use crate::plain::rules::{self, LAST};
 use crate::plain::simple;
 use crate::random::Random;
@@ -12,30 +13,39 @@ use crate::random::Random;
 /// The steps of each rule.
 pub type Steps = [u64; LAST + 1];
 
-/// Follows both searches step by step on random sheets; adds up the steps.
+/// Follows the searches step by step on random sheets; adds up the steps.
 pub fn random_searches(random: &mut Random, count: usize, weight: usize, seen: &mut Steps) {
     for _ in 0..count {
         follow(&random_sheet(random, weight), seen);
     }
 }
 
-/// Follows both searches from a sheet to its end.
+/// Follows the searches from a sheet to its end.
 pub fn follow(start: &Sheet, seen: &mut Steps) {
     let mut sheet = *start;
-    let mut bounds = Bounds::new(used(&sheet));
+    let (mut bounds, mut fast) = (Bounds::new(used(&sheet)), Fast::new(used(&sheet)));
     loop {
-        check_bounds(&bounds, &sheet, start);
-        check_order(&bounds, &sheet, start);
+        for low_and_sizes in [(&bounds.low, &bounds.sizes), (&fast.low, &fast.sizes)] {
+            check_bounds(low_and_sizes, &sheet, start);
+        }
+        check_order(&bounds.low, (bounds.rule, bounds.cursor), &sheet, start);
+        check_order(&fast.low, (fast.rule, fast.cursor), &sheet, start);
         let due = simple::next(flat(&sheet, &bounds));
-        let found = bounds.find(used(&sheet));
-        if found != due {
+        let found = [bounds.find(used(&sheet)), fast.find(used(&sheet))];
+        if found != [due; 2] {
             let details = format!("at {sheet:x?}: by bounds {found:?}, due {due:?}");
             stop("the searches differ", start, &details);
         }
         let Some(redex) = due else {
             return;
         };
+        let mut by_fast = sheet;
         bounds.step(&mut sheet, redex);
+        fast.step(&mut by_fast, redex);
+        if by_fast != sheet {
+            let details = format!("{redex:?}: {by_fast:x?}");
+            stop("the steps differ", start, &details);
+        }
         seen[redex.rule] += 1;
     }
 }
@@ -53,7 +63,7 @@ pub fn random_steps(random: &mut Random, count: usize, weight: usize, seen: &mut
                 break;
             };
             bounds.step(&mut sheet, redex);
-            check_bounds(&bounds, &sheet, &before);
+            check_bounds((&bounds.low, &bounds.sizes), &sheet, &before);
             seen[redex.rule] += 1;
         }
     }
@@ -110,16 +120,20 @@ fn steps_of(flat: Flat, rule: usize) -> Vec<Redex> {
 }
 
 /// No bound is above the lowest rule that applies at its place, and every size is right.
-fn check_bounds(bounds: &Bounds, sheet: &Sheet, start: &Sheet) {
-    let mut sizes = [0; MOST];
-    fill_sizes(used(sheet), &mut sizes);
-    for (place, &size) in sizes[..used(sheet).len()].iter().enumerate() {
-        let (low, lowest) = (bounds.low[place], lowest(flat(sheet, bounds), place));
-        if low > lowest || size != bounds.sizes[place] {
+fn check_bounds((low, sizes): (&[u8; MOST], &Sizes), sheet: &Sheet, start: &Sheet) {
+    let mut due = [0; MOST];
+    fill_sizes(used(sheet), &mut due);
+    let flat = Flat {
+        nodes: used(sheet),
+        sizes: &due,
+    };
+    for (place, &size) in due[..flat.nodes.len()].iter().enumerate() {
+        let (low, lowest) = (low[place], lowest(flat, place));
+        if low > lowest || size != sizes[place] {
             let details = format!(
                 "at {:x?}, place {place}: bound {low}, lowest {lowest}, size {} (due {size})",
                 used(sheet),
-                bounds.sizes[place]
+                sizes[place]
             );
             stop("a bound is wrong", start, &details);
         }
@@ -127,9 +141,9 @@ fn check_bounds(bounds: &Bounds, sheet: &Sheet, start: &Sheet) {
 }
 
 /// Every bound is at least the rule that the search is at, and more before its cursor.
-fn check_order(bounds: &Bounds, sheet: &Sheet, start: &Sheet) {
-    for (place, &low) in bounds.low[..used(sheet).len()].iter().enumerate() {
-        if low < bounds.rule || low == bounds.rule && place < bounds.cursor {
+fn check_order(low: &[u8; MOST], at: (u8, usize), sheet: &Sheet, start: &Sheet) {
+    for (place, &low) in low[..used(sheet).len()].iter().enumerate() {
+        if (low, place) < at {
             let details = format!("at {:x?}, place {place}: bound {low}", used(sheet));
             stop("the search is past a bound", start, &details);
         }

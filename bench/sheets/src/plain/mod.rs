@@ -1,9 +1,10 @@
 //! Sheets in plain Rust, from documents 01 and 02: the loader, keying and taking back, the run by
-//! two searches, the report by two methods, the "complete" question, the index of mentions; and
+//! three searches, the report by two methods, the "complete" question, the index of mentions; and
 //! the import of clause files.
 
 pub mod bounds;
 pub mod complete;
+pub mod fast;
 pub mod flat;
 pub mod import;
 pub mod index;

@@ -7,7 +7,7 @@ use crate::nodes::{arity, asked, is_literal, kind, value, ALL, ANY, FALSE, LEAST
 pub const LAST: usize = 17;
 
 /// The node kind of each rule, and its fewest children.
-const KIND: [u16; LAST] = [
+pub const KIND: [u16; LAST] = [
     ALL, ANY, ROOT, ALL, ANY, ROOT, ALL, ANY, ANY, ROOT, ALL, ROOT, ALL, ANY, LEAST, LEAST, LEAST,
 ];
 const FEWEST: [usize; LAST] = [2, 2, 2, 1, 1, 1, 1, 1, 2, 2, 1, 1, 1, 2, 1, 0, 0];
