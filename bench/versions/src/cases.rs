@@ -12,7 +12,7 @@ use crate::orders::{Line, SLOTS};
 use crate::scenes::{index_of, next_step};
 
 /// The most that a sheet may weigh.
-const FULL: usize = 4096;
+pub const FULL: usize = 4096;
 
 /// The report, the "complete" question and another run of a settled sheet, as the tables name
 /// them. Such a run does no step: what it costs besides weighs most there. So does the book in the
@@ -103,6 +103,13 @@ pub fn of_family(library: &Library, family: &Family, with_index: bool) -> Vec<Ca
     cases.push(case(library, COMPLETE_SETTLED, Complete, &settled));
     cases.push(case(library, RUN_SETTLED, whole, &settled));
     cases
+}
+
+/// The whole run of a family's book of a weight.
+pub fn run_of(library: &Library, family: &Family, weight: usize) -> Case {
+    let whole = Call::Run { budget: u64::MAX };
+    let lent = lent(library, &(family.make)(weight));
+    case(library, whole.name(), whole, &lent)
 }
 
 fn case(library: &Library, name: &'static str, call: Call, lent: &Lent) -> Case {

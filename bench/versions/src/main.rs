@@ -22,10 +22,14 @@
 //!                         no bar but its own
 //!     --only TEXT         time only the families and clause files whose names hold this text
 //!     --seed NUMBER       of the random books, sheets, orders and clause files (1)
+//!     --count FILE.so     only make every call once, by this library and by plain Rust:
+//!                         bench/instructions runs this under callgrind
 
 #[path = "../../sheets/src/answers.rs"]
 #[allow(dead_code)]
 mod answers;
+#[path = "../../sheets/src/at_least.rs"]
+mod at_least;
 mod at_least_calls;
 #[path = "../../../tests/rust/src/at_leasts.rs"]
 #[allow(dead_code)]
@@ -45,6 +49,7 @@ mod clause_files;
 mod clause_texts;
 mod comparing;
 mod completes;
+mod counting;
 mod damage;
 #[path = "../../sheets/src/families.rs"]
 #[allow(dead_code)]
@@ -71,11 +76,16 @@ mod places;
 #[path = "../../sheets/src/plain/mod.rs"]
 #[allow(dead_code)]
 mod plain;
+#[path = "../../books/src/plain.rs"]
+mod plain_check;
 #[path = "../../../tests/rust/src/random.rs"]
 #[allow(dead_code)]
 mod random;
 #[path = "../../sheets/src/random_books.rs"]
 mod random_books;
+#[path = "../../../tests/rust/src/reference.rs"]
+#[allow(dead_code)]
+mod reference;
 mod scenes;
 mod text;
 mod timing;
@@ -86,9 +96,11 @@ use cases::Case;
 use clause_texts::ClauseText;
 use comparing::Comparing;
 use families::families;
+use library::Library;
 use measure::Noise;
 use places::placed;
 use random::Random;
+use std::path::Path;
 use std::{env, fs, process};
 use text::{Cell, Measured};
 use timing::Sides;
@@ -105,6 +117,7 @@ struct Flags {
     bars: Bars,
     only: String,
     seed: u64,
+    count: Option<String>,
 }
 
 fn flags() -> Flags {
@@ -117,6 +130,7 @@ fn flags() -> Flags {
         bars: Bars::new(),
         only: String::new(),
         seed: 1,
+        count: None,
     };
     let mut words = env::args().skip(1);
     while let Some(flag) = words.next() {
@@ -132,6 +146,7 @@ fn flags() -> Flags {
             "--bar" => flags.bars.set(&word),
             "--only" => flags.only = word,
             "--seed" => flags.seed = word.parse().expect("a whole number"),
+            "--count" => flags.count = Some(word),
             _ => panic!("no flag {flag}"),
         }
     }
@@ -244,6 +259,10 @@ fn free_complete(sides: &Sides, bars: &mut Bars) {
 
 fn main() {
     let mut flags = flags();
+    if let Some(library) = &flags.count {
+        counting::every_call(&Library::open(Path::new(library)), &flags.only);
+        return;
+    }
     let sides = opened(&flags);
     free_complete(&sides, &mut flags.bars);
     let compared = compared(&sides, flags.seed);
