@@ -1,4 +1,5 @@
 // The codes of a book: 13 bytes each, one after another. Each is read and compared, and one is found.
+#![tactic(auto)]
 ghost use Rattle.std.specs.Prelude.{◌≡◌, ◌*◌, ◌≤◌, length, take, eqb};
 ghost use Rattle.std.proofs.Math.Seq.{slice};
 ghost use Rattle.model.specs.Base.{all};
@@ -10,7 +11,7 @@ ghost use Rattle.book_codes.specs.Characters.{character_table};
 use common_limits::CODE_LENGTH;
 
 // Where a code stands among the codes, counted from 0.
-#[derive(Drop)]
+#[derive(Clone, Copy)]
 pub enum Place {
     Index(usize),
     Nowhere,

@@ -1,6 +1,7 @@
 // The calls on the lines of an order, for C (include/nibdrumlin_sheets.h). Each copies the lines out and hands the copy on; a keying and a
 // withdrawal, where they are accepted, store in the lent lines and the lent count what is to stand there. Each answers one number: its low
 // 8 bits are the refusal (0: accepted), the rest is the value.
+#![tactic(auto)]
 ghost use Rattle.std.specs.Prelude.{◌≡◌};
 ghost use Rattle.calls.specs.Calls.{key_with, withdraw_with, complete_of};
 ghost use Rattle.c_calls.specs.Packed.{packed_done, packed_bool};

@@ -1,10 +1,11 @@
 // What calls answer: a result, or one refusal by its name.
+#![tactic(auto)]
 ghost use Rattle.std.specs.Prelude.{◌≡◌};
 ghost use Rattle.calls.specs.Refusals.{refusal_number};
 ghost use Rattle.call_answers.specs.AnswerMeaning.{refusal_of};
 
 // Why a call is refused, in the order of the numbers 1 to 16.
-#[derive(Drop)]
+#[derive(Clone, Copy)]
 pub enum Refusal {
     Length,
     Head,
@@ -25,14 +26,14 @@ pub enum Refusal {
 }
 
 // The answer of a call that has no value to give.
-#[derive(Drop)]
+#[derive(Clone, Copy)]
 pub enum Done {
     Accepted,
     Refused(Refusal),
 }
 
 // The answer of a call that gives a number.
-#[derive(Drop)]
+#[derive(Clone, Copy)]
 pub enum Found {
     Value(usize),
     Refused(Refusal),

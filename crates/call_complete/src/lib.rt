@@ -1,4 +1,5 @@
 // The "complete" question: a sheet, with the book and the lines that say which options matter.
+#![tactic(auto)]
 ghost use Rattle.std.specs.Prelude.{◌≡◌};
 ghost use Rattle.calls.specs.Calls.{complete_of};
 ghost use Rattle.order_lines.specs.LineMeaning.{order};
@@ -9,7 +10,7 @@ use order_lines::{Line, SLOTS};
 use report_marks::NAMED_LENGTH;
 
 // What the "complete" question answers.
-#[derive(Drop)]
+#[derive(Clone, Copy)]
 pub enum Completed {
     Complete,
     Incomplete,

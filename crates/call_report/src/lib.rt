@@ -1,4 +1,5 @@
 // The report.
+#![tactic(auto)]
 ghost use Rattle.std.specs.Prelude.{◌≡◌};
 ghost use Rattle.calls.specs.Calls.{report_of};
 ghost use Rattle.call_answers.specs.AnswerMeaning.{after_call};
@@ -7,7 +8,7 @@ ghost use Rattle.call_report.specs.ReportMeaning.{reported_of};
 use call_answers::Refusal;
 
 // What a report says beside its bytes.
-#[derive(Drop)]
+#[derive(Clone, Copy)]
 pub enum Reported {
     Consistent,
     Contradictory,

@@ -1,4 +1,5 @@
 // Runs of the strategy's steps, with a budget.
+#![tactic(auto)]
 ghost use Rattle.std.specs.Prelude.{◌≡◌};
 ghost use Rattle.calls.specs.Outcomes.{accepted};
 ghost use Rattle.calls.specs.Chains.{run_refusal};
@@ -10,7 +11,7 @@ use call_answers::{Done, Refusal};
 use run_steps::Ended;
 
 // What a run answers: whether a rule still applies, and the number of steps done.
-#[derive(Drop)]
+#[derive(Clone, Copy)]
 pub enum Ran {
     Settled(u64),
     Stopped(u64),

@@ -1,4 +1,5 @@
 // The limits and sizes of books and sheets, by the names that `model::specs::Limits` gives them. Those of weights stand in `common_weight`.
+#![tactic(auto)]
 
 // The options that a book or a sheet may have.
 pub const MOST_OPTIONS: usize = 512;

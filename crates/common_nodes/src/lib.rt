@@ -1,5 +1,6 @@
 // Numbers in bytes; the numbers of a sheet as nodes, kind times 4,096 plus value; and the trees that a run of them spells, read from the
 // left.
+#![tactic(auto)]
 ghost use Rattle.std.specs.Prelude.{◌≡◌, ◌+◌, ◌-◌, ◌<◌, ◌≤◌, leb, length, true};
 ghost use Rattle.model.specs.Book.{word};
 ghost use Rattle.model.specs.Base.{only_if};
@@ -44,7 +45,7 @@ pub fn number_at(s: &[u8], k: usize) -> u16
 }
 
 // How many trees a list of nodes spells, read from its end; or that some number is no node, or lacks children.
-#[derive(Drop)]
+#[derive(Clone, Copy)]
 pub enum Trees {
     Count(usize),
     Malformed,

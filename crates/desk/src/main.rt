@@ -2,6 +2,7 @@
 // decided is decided by `desk_session::session`, which is proved to give every byte; here the bytes are only read and written. No more
 // than 65,536 of either are read: the rest cannot change what is printed (`desk_session`: `Buffers.desk-cut`). Where choices are typed at
 // a terminal, standard error has a word on how, and why a line was refused; where they are piped, nothing is written there.
+#![tactic(auto)]
 ghost use Rattle.std.specs.Prelude.{◌≤◌, length};
 ghost use Rattle.io.specs.Counts.{IsPrefixLen};
 
@@ -52,7 +53,7 @@ fn is_refused(book: &[u8], input: &[u8]) -> bool {
 }
 
 // A line of the input: its number from 1, and where it stands.
-#[derive(Drop)]
+#[derive(Clone, Copy)]
 struct Line {
     number: u64,
     from: usize,

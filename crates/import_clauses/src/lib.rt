@@ -1,4 +1,5 @@
 // An imported book, written from the words of a clause file that has been judged good.
+#![tactic(auto)]
 ghost use Rattle.std.specs.Prelude.{true, ◌≡◌, ◌∷◌, [], ◌+◌, ◌*◌, ◌≤◌, ◌<◌, length, drop};
 ghost use Rattle.std.proofs.Math.Option.{some};
 ghost use Rattle.std.proofs.lemmas.List.Edits.{sets};
@@ -17,7 +18,7 @@ ghost use Rattle.import_clauses.specs.FileFrom.{clauses_from, file_from, JudgedG
 use common_limits::{CODE_LENGTH, HEAD_LENGTH, KIND_FACTOR};
 
 // A mark, and the place after its word.
-#[derive(Drop)]
+#[derive(Clone, Copy)]
 struct Mark {
     option: usize,
     barred: bool,

@@ -1,11 +1,12 @@
 // The p line of a clause file: what it begins with, V, C and its end, and where they stand.
+#![tactic(auto)]
 ghost use Rattle.std.specs.Prelude.{◌≡◌, true, false, ◌≤◌, length, take, drop};
 ghost use Rattle.model.specs.Base.{same_list};
 ghost use Rattle.theory_texts.specs.PLines.{has_p_line};
 ghost use Rattle.import_head.specs.Heads.{rest_good, Rest, Stands};
 
 // Where the two numbers of a p line stand: V's digits before the space, C's after it and before the body.
-#[derive(Drop)]
+#[derive(Clone, Copy)]
 pub struct Head {
     pub good: bool,
     pub options: usize,

@@ -1,4 +1,5 @@
 // A clause file judged and counted in one pass: its p line, the words after it, and whether there are as many clauses as it states.
+#![tactic(auto)]
 ghost use Rattle.std.specs.Prelude.{◌≡◌, true, false, ◌+◌, ◌≤◌, ◌<◌, length, drop};
 ghost use Rattle.std.proofs.Math.Option.{none};
 ghost use Rattle.texts.specs.Decimals.{is_decimal, number_in};
@@ -11,7 +12,7 @@ ghost use Rattle.import_judge.specs.Judging.{one_counted, counts_of, stated_at, 
 use import_head::Head;
 
 // The words counted so far: clauses closed, marks, and whether a clause is open.
-#[derive(Drop)]
+#[derive(Clone, Copy)]
 pub struct Tally {
     pub clauses: usize,
     pub marks: usize,
@@ -19,7 +20,7 @@ pub struct Tally {
 }
 
 // A text judged: whether it is a clause file; where V's digits stand, and where the words after its p line begin; its clauses and marks.
-#[derive(Drop)]
+#[derive(Clone, Copy)]
 pub struct Judged {
     pub good: bool,
     pub options: usize,

@@ -1,4 +1,5 @@
 // The words after a p line: what the one at a place is, and where it ends.
+#![tactic(auto)]
 ghost use Rattle.std.specs.Prelude.{◌≡◌, true, ◌+◌, ◌≤◌, ◌<◌, length, drop};
 ghost use Rattle.model.specs.Base.{all};
 ghost use Rattle.texts.specs.Decimals.{is_digit, is_decimal, number_in};
@@ -6,7 +7,7 @@ ghost use Rattle.theory_texts.specs.Figures.{run};
 ghost use Rattle.theory_texts.specs.WordKinds.{kind_of_digits, kind_here, kind_at, word_length};
 
 // What a word is, and the place after it. Its kind: 1 closes a clause, 2 is a mark, 0 is neither.
-#[derive(Drop)]
+#[derive(Clone, Copy)]
 pub struct Word {
     pub kind: u8,
     pub end: usize,

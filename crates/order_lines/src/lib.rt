@@ -1,4 +1,5 @@
 // The lines of an order as they are lent: copied out, so that code over them needs no slice of structs, and moved up by one.
+#![tactic(auto)]
 ghost use Rattle.std.specs.Prelude.{◌≡◌, ◌<◌, ◌≤◌, length};
 ghost use Rattle.order_lines.specs.LentLines.{readable, judged, copied_lines, moved_up};
 
@@ -9,7 +10,7 @@ pub const MOST_LINES: u16 = 64;
 
 // A line: an option, and whether it is barred.
 #[repr(C)]
-#[derive(Drop)]
+#[derive(Clone, Copy)]
 pub struct Line {
     pub option: u16,
     pub negative: bool,

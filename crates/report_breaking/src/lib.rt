@@ -1,4 +1,5 @@
 // Breaking: in one pass over a tree, all literals that make it fail once one of them fails.
+#![tactic(auto)]
 ghost use Rattle.std.specs.Prelude.{◌≡◌, true, false, ◌&&◌, [], ℕ, ◌+◌, ◌≤◌, ◌<◌, eqb, length, get_or, take, drop};
 ghost use Rattle.model.specs.Limits.{sheet_room, most_literals};
 ghost use Rattle.model.specs.Forest.{or};
@@ -15,21 +16,21 @@ ghost use Rattle.report_breaking.specs.Stacks.{Blank, BlankBut, Children, Apart,
 use common_limits::{LEAST_FACTOR, MOST_LITERALS};
 
 // A tree that is made: its entry, and where its literals end.
-#[derive(Drop)]
+#[derive(Clone, Copy)]
 pub struct Tree {
     pub first: u16,
     pub end: usize,
 }
 
 // What a pass over a tree tells: so many literals break it, or it fails as it is.
-#[derive(Drop)]
+#[derive(Clone, Copy)]
 pub enum Verdict {
     BrokenBy(usize),
     Fails,
 }
 
 // Where the stack begins, and where its literals end.
-#[derive(Drop)]
+#[derive(Clone, Copy)]
 pub struct Top {
     pub top: usize,
     pub end: usize,

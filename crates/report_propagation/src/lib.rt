@@ -1,5 +1,6 @@
 // Propagation: what the parts of a sheet force becomes known, and each part that may force more is looked at again. A trail lists
 // the literals that failed, in order; for each part it is noted how long the trail was when the part was last looked at.
+#![tactic(auto)]
 ghost use Rattle.std.specs.Prelude.{◌≡◌, ℕ, ◌+◌, ◌<◌, length, get_or, set, replicate};
 ghost use Rattle.model.specs.Base.{pick};
 ghost use Rattle.model.specs.Limits.{sheet_length, most_literals};
@@ -19,7 +20,7 @@ use report_parts::LINKS_LENGTH;
 const SMALL_PART: usize = 16;
 
 // A part of a sheet: the numbers from one place to another.
-#[derive(Drop)]
+#[derive(Clone, Copy)]
 pub struct Extent {
     pub from: usize,
     pub to: usize,
@@ -27,7 +28,7 @@ pub struct Extent {
 
 // Which literal of the trail is followed, the entry of its chain that was come to, and the number of numbers that a part must be
 // below to be looked at for it.
-#[derive(Drop)]
+#[derive(Clone, Copy)]
 pub struct Turn {
     pub index: usize,
     pub place: usize,
@@ -35,7 +36,7 @@ pub struct Turn {
 }
 
 // What the literals of a part tell of what it forces.
-#[derive(Drop)]
+#[derive(Clone, Copy)]
 pub enum Forced {
     Only(usize),
     Nothing,
@@ -44,7 +45,7 @@ pub enum Forced {
 }
 
 // How many literals the trail has, or that the sheet has fallen: a part fails under what is known.
-#[derive(Drop)]
+#[derive(Clone, Copy)]
 pub enum Outcome {
     Known(usize),
     Fallen,

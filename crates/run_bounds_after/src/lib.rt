@@ -1,6 +1,7 @@
 // The tables after a step: which places the step changes (its zone) and how those after them move; the table of bounds with its
 // entries moved and those that may be too high back at 1; after a step of rule 9 or 10, those of the nodes that have got a constant
 // among their children back at 1; and the table of sizes with its entries moved and those of the trees that lost nodes lower.
+#![tactic(auto)]
 ghost use Rattle.std.specs.Prelude.{◌≡◌, false, ℕ, ◌+◌, ◌-◌, ◌≤◌, ◌<◌, length, get_or, drop};
 ghost use Rattle.model.specs.Limits.{sheet_room};
 ghost use Rattle.model.specs.Forest.{size, kids};
@@ -19,7 +20,7 @@ use common_limits::SHEET_ROOM;
 use search_place::Redex;
 
 // The places that a step may change: from one place on, up to `old` before the step and up to `new` after it.
-#[derive(Drop)]
+#[derive(Clone, Copy)]
 pub struct Zone {
     pub from: usize,
     pub old: usize,
@@ -27,7 +28,7 @@ pub struct Zone {
 }
 
 // What a step will change: its zone, its own place, and the two nearest places that hold it.
-#[derive(Drop)]
+#[derive(Clone, Copy)]
 pub struct Plan {
     pub zone: Zone,
     pub place: usize,

@@ -1,4 +1,5 @@
 // One step of a run by bounds: the sheet, the sizes of its trees and the bounds beside its places go on together.
+#![tactic(auto)]
 ghost use Rattle.std.specs.Prelude.{◌≡◌, ◌⊎◌, ◌≤◌, ◌<◌, length, drop};
 ghost use Rattle.model.specs.Limits.{sheet_room};
 ghost use Rattle.model.specs.Sheet.{used_in, nodes_in};
@@ -111,7 +112,7 @@ fn follow(sheet: &[u16], sizes: &[u16], low: &mut [u16], rule: usize, plan: Plan
 }
 
 // The places whose bounds a step has set back lie from one place up to another.
-#[derive(Drop)]
+#[derive(Clone, Copy)]
 struct Reach {
     from: usize,
     to: usize,
@@ -141,7 +142,7 @@ fn move_on(sheet: &mut [u16], sizes: &mut [u16], low: &mut [u16], redex: Redex) 
 }
 
 // Where the search for the next step begins: all bounds have come to the floor, and those before the cursor are past it.
-#[derive(Drop)]
+#[derive(Clone, Copy)]
 pub struct Ahead {
     pub floor: usize,
     pub cursor: usize,

@@ -1,4 +1,5 @@
 // The core of a run: the strategy's steps on a sheet, as many as the budget allows or as there are.
+#![tactic(auto)]
 ghost use Rattle.std.specs.Prelude.{◌≡◌, true, false};
 ghost use Rattle.model.specs.Base.{maybe};
 ghost use Rattle.theory_rewriting.specs.Reached.{Ends};
@@ -10,7 +11,7 @@ use common_limits::SHEET_ROOM;
 use search_place::Next;
 
 // What a run ends with: whether no rule applies any more, and the number of steps done.
-#[derive(Drop)]
+#[derive(Clone, Copy)]
 pub struct Ended {
     pub settled: bool,
     pub count: u64,

@@ -1,4 +1,5 @@
 // The search at one place: the least child and inner child at which a rule applies.
+#![tactic(auto)]
 ghost use Rattle.std.specs.Prelude.{◌≡◌, ◌⊎◌, ℕ, ◌≤◌, ◌<◌, length, get_or, drop};
 ghost use Rattle.model.specs.Limits.{last_rule};
 ghost use Rattle.model.specs.Code.{decode, children};
@@ -13,14 +14,14 @@ ghost use Rattle.search_place.specs.Redexes.{spot_of};
 ghost use Rattle.search_place.specs.Sought.{Sought};
 
 // Where a rule applies to a node: the child and the inner child.
-#[derive(Drop)]
+#[derive(Clone, Copy)]
 pub enum Spot {
     At(usize, usize),
     Nowhere,
 }
 
 // A step: rule, place, child and inner child.
-#[derive(Drop)]
+#[derive(Clone, Copy)]
 pub struct Redex {
     pub rule: usize,
     pub place: usize,
@@ -29,7 +30,7 @@ pub struct Redex {
 }
 
 // The strategy's step.
-#[derive(Drop)]
+#[derive(Clone, Copy)]
 pub enum Next {
     Redex(Redex),
     Nothing,

@@ -28,6 +28,7 @@ module _ {A : Type 0} (p : A → Bool) where
 
   pub all_at : {x : A} (xs : List A) → all p xs ≡ true → Memᴰ x xs → p x ≡ true
   unfolding all
+  all_at [] e x3 = elim x3 [ ]
   all_at (y ∷ ys) e (Memᴰ.head q) = ap p q ∙ (and_split (p y) (all p ys) e).0
   all_at (y ∷ ys) e (Memᴰ.tail m) = all_at ys (and_split (p y) (all p ys) e).1 m
 
@@ -50,6 +51,7 @@ module _ {A : Type 0} (p : A → Bool) where
 
   pub any_from : {x : A} (xs : List A) → Memᴰ x xs → p x ≡ true → any p xs ≡ true
   unfolding any
+  any_from [] x3 e = elim x3 [ ]
   any_from (y ∷ ys) (Memᴰ.head q) e = or_left (any p ys) (sym (ap p q) ∙ e)
   any_from (y ∷ ys) (Memᴰ.tail m) e = or_right (p y) (any_from ys m e)
 
@@ -119,6 +121,7 @@ module _ {A : Type 0} where
 
   pub mem_flatten : {x : A} {xs : List A} (xss : List (List A)) → Memᴰ xs xss → Memᴰ x xs → Memᴰ x (flatten xss)
   unfolding flatten
+  mem_flatten {xs = xs} [] x3 k = elim x3 [ ]
   mem_flatten (ys ∷ xss) (Memᴰ.head q) k = Memᴰ.append_left (flatten xss) (rw q at k)
   mem_flatten (ys ∷ xss) (Memᴰ.tail m) k = Memᴰ.append_right ys (mem_flatten xss m k)
 
