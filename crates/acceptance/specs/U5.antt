@@ -18,7 +18,7 @@ pub key_brings_it_up_to_date :
     (order : State) (index : List ℕ) (v : ℕ) (negative : Bool) →
     let left = (key_with order index v negative).lent in
     let n = options_in left.own.sheet in
-    (is-accepted : (key_with order index v negative).answer ≡ accepted tt) →
+    (is_accepted : (key_with order index v negative).answer ≡ accepted tt) →
     (take (2 * n) left.index ≡ fresh_count left.own.sheet)
     × (drop (2 * n) left.index ≡ drop (2 * n) index)
     × (length left.index ≡ length index)
@@ -30,7 +30,7 @@ pub withdrawal_brings_it_up_to_date :
     (order : State) (book index : List ℕ) (k : ℕ) →
     let left = (withdraw_with order book index k).lent in
     let n = options_in left.own.sheet in
-    (is-accepted : (withdraw_with order book index k).answer ≡ accepted tt) →
+    (is_accepted : (withdraw_with order book index k).answer ≡ accepted tt) →
     (take (2 * n) left.index ≡ fresh_count left.own.sheet)
     × (drop (2 * n) left.index ≡ drop (2 * n) index)
     × (length left.index ≡ length index)
@@ -42,7 +42,7 @@ pub step_brings_it_up_to_date :
     (sheet index : List ℕ) (r p i j : ℕ) →
     let left = (step_with sheet index r p i j).lent in
     let n = options_in left.own in
-    (is-accepted : (step_with sheet index r p i j).answer ≡ accepted tt) →
+    (is_accepted : (step_with sheet index r p i j).answer ≡ accepted tt) →
     (take (2 * n) left.index ≡ fresh_count left.own)
     × (drop (2 * n) left.index ≡ drop (2 * n) index)
     × (length left.index ≡ length index)
@@ -54,7 +54,7 @@ pub run_brings_it_up_to_date :
     (sheet index : List ℕ) (budget : ℕ) (ran : Ran) →
     let left = (run_with sheet index budget).lent in
     let n = options_in left.own in
-    (is-accepted : (run_with sheet index budget).answer ≡ accepted ran) →
+    (is_accepted : (run_with sheet index budget).answer ≡ accepted ran) →
     (take (2 * n) left.index ≡ fresh_count left.own)
     × (drop (2 * n) left.index ≡ drop (2 * n) index)
     × (length left.index ≡ length index)
@@ -66,7 +66,7 @@ run_brings_it_up_to_date sheet index budget ran e =
 pub filled_from_any_sheet :
     (sheet index : List ℕ) →
     let n = options_in sheet in
-    (is-accepted : (fill_of sheet index).answer ≡ accepted tt) →
+    (is_accepted : (fill_of sheet index).answer ≡ accepted tt) →
     (take (2 * n) (fill_of sheet index).lent ≡ fresh_count sheet)
     × (drop (2 * n) (fill_of sheet index).lent ≡ drop (2 * n) index)
     × (length (fill_of sheet index).lent ≡ length index)
@@ -124,8 +124,8 @@ pub index_lent_on :
     let order : State = record { sheet = (load_of book target).lent; lines = lines; count = count } in
     let filled : Indexed State = record { own = order; index = (fill_of order.sheet index).lent } in
     (book_accepted : check_of book ≡ accepted tt) →
-    (target-long-enough : length target ≡ 4098) →
-    (index-has-room : 2 * options_of book ≤ length index) →
+    (target_long_enough : length target ≡ 4098) →
+    (index_has_room : 2 * options_of book ≤ length index) →
     ((fill_of order.sheet index).answer ≡ accepted tt)
     × ((calls : List Call) →
     let h = lent_on calls filled in

@@ -7,7 +7,7 @@ use Rattle.model.specs.Clauses.{Clause, Derived, Contradictory}
 use Rattle.model.specs.Propagation as propagation
 use Rattle.model.specs.Sheet.{options_in, is_sheet, clauses_in, report_in}
 use Rattle.model.specs.Book.{options_of}
-use Rattle.calls.specs.Refusals.{sheet-refused}
+use Rattle.calls.specs.Refusals.{sheet_refused}
 use Rattle.calls.specs.Outcomes.{refused, accepted}
 use Rattle.calls.specs.Lines.{Line, State, counted}
 use Rattle.calls.specs.Named.{is_named}
@@ -21,7 +21,7 @@ abbrev pub Complete : ℕ → List Clause → (ℕ → Bool) → Type 0
 Complete n cs named =
     (Contradictory cs → ⊥)
     × ((v : ℕ) →
-    (is-option : v < n) →
+    (is_option : v < n) →
     (is_named : named v ≡ true) →
     Derived cs (pos v) ⊎ Derived cs (neg v))
 
@@ -36,17 +36,17 @@ not_as_promised w = ((λ no b. no (w.1 b)), λ no a. no (w.0 a))
 module _
     (order : State)
     (book : List ℕ)
-    (sheet-is-one : is_sheet order.sheet ≡ true)
+    (sheet_is_one : is_sheet order.sheet ≡ true)
     (book_accepted : check_of book ≡ accepted tt)
-    (same-n : options_of book ≡ options_in order.sheet)
+    (same_n : options_of book ≡ options_in order.sheet)
     (lines_in_order : has_lines_in_order order ≡ true)
   where
     lent : promised.Lent order book
     lent =
         record {
-          is_a_sheet = sheet-is-one;
+          is_a_sheet = sheet_is_one;
           book_accepted = book_accepted;
-          same_options = same-n;
+          same_options = same_n;
           lines_in_order = lines_in_order;
         }
 
@@ -63,7 +63,7 @@ module _
 
     -- What was complete by document 01's words, "not contradictory and every option is 1 or 2", is complete now.
     pub complete_as_before :
-        (was-complete : propagation.complete (report_in order.sheet) ≡ true) →
+        (was_complete : propagation.complete (report_in order.sheet) ≡ true) →
         complete_of order book ≡ accepted true
     complete_as_before = promised.complete_as_before order book lent
 
@@ -75,7 +75,7 @@ module _
     (lines : List Line)
     (count : ℕ)
     (book_accepted : check_of book ≡ accepted tt)
-    (target-long-enough : length target ≡ 4098)
+    (target_long_enough : length target ≡ 4098)
     (calls : List Call)
   where
     abbrev start : State
@@ -93,7 +93,7 @@ module _
         ↔ Complete (options_of account.book) (meaning account) (is_named account.book account.ledger)
     complete_after o =
         Iff·trans
-        ((promised.complete_after book target lines count book_accepted target-long-enough calls).says o).says_complete
+        ((promised.complete_after book target lines count book_accepted target_long_enough calls).says o).says_complete
         (as_promised _ _ _)
 
     pub incomplete_after :
@@ -102,13 +102,13 @@ module _
         ↔ (Complete (options_of account.book) (meaning account) (is_named account.book account.ledger) → ⊥)
     incomplete_after o =
         Iff·trans
-        ((promised.complete_after book target lines count book_accepted target-long-enough calls).says o).says_incomplete
+        ((promised.complete_after book target lines count book_accepted target_long_enough calls).says o).says_incomplete
         (not_as_promised (as_promised _ _ _))
 
     pub else_refused :
-        (lines-not-in-order : has_lines_in_order end ≡ false) →
-        complete_of end account.book ≡ refused sheet-refused
-    else_refused = (promised.complete_after book target lines count book_accepted target-long-enough calls).else_refused
+        (lines_not_in_order : has_lines_in_order end ≡ false) →
+        complete_of end account.book ≡ refused sheet_refused
+    else_refused = (promised.complete_after book target lines count book_accepted target_long_enough calls).else_refused
 
     pub lines_stay_in_order : (lines_in_order : has_lines_in_order start ≡ true) → has_lines_in_order end ≡ true
-    lines_stay_in_order = (promised.complete_after book target lines count book_accepted target-long-enough calls).stays_in_order
+    lines_stay_in_order = (promised.complete_after book target lines count book_accepted target_long_enough calls).stays_in_order

@@ -24,8 +24,8 @@ use Rattle.promise.specs.Imports as imports
 pub import_gives :
     (text out : List ℕ) (file : File) →
     (is_file : file_of text ≡ some file) →
-    (not-too-large : is_too_large file ≡ false) →
-    (out-has-room : length (book_of_file file) ≤ length out) →
+    (not_too_large : is_too_large file ≡ false) →
+    (out_has_room : length (book_of_file file) ≤ length out) →
     import_of text out ≡ record { answer = accepted (length (book_of_file file)); lent = placed (book_of_file file) out }
 import_gives = imports.import_given
 
@@ -33,7 +33,7 @@ import_gives = imports.import_given
 module _
     (text out : List ℕ)
     (n : ℕ)
-    (import-is-accepted : (import_of text out).answer ≡ accepted n)
+    (import_is_accepted : (import_of text out).answer ≡ accepted n)
   where
     abbrev left : List ℕ
     left = (import_of text out).lent
@@ -42,7 +42,7 @@ module _
     book = take n left
 
     pub rest_stays : (n ≤ length out) × (length left ≡ length out) × (drop n left ≡ drop n out)
-    rest_stays = let w = imports.accepted_import text out n import-is-accepted in (w.within, w.length_stays, w.rest_stays)
+    rest_stays = let w = imports.accepted_import text out n import_is_accepted in (w.within, w.length_stays, w.rest_stays)
 
     pub accepted_import :
         -- The text is a clause file;
@@ -54,7 +54,7 @@ module _
         -- "option v - 1 gets as code the letter V and the decimal v" (86 is V);
         × ((v : ℕ) →
         (from_one : 1 ≤ v) →
-        (to-the-last : v ≤ file.options) →
+        (to_the_last : v ≤ file.options) →
         lookup_of book (86 ∷ decimal v) ≡ accepted (v - 1))
         -- "each clause becomes one any-of, a lone mark too, clauses and marks in file order";
         × (bodies_of book ≡ map (λ c. map number_of (nodes_of_clause c)) file.clauses)
@@ -64,24 +64,24 @@ module _
         × (clauses_of_book book ≡ file.clauses)
         -- Loaded and reported, in an output of at least V bytes, it is propagation on the file's clauses,
         × ((target out : List ℕ) →
-        (target-long-enough : length target ≡ 4098) →
-        (out-has-room : file.options ≤ length out) →
+        (target_long_enough : length target ≡ 4098) →
+        (out_has_room : file.options ≤ length out) →
         let told = report_of (load_of book target).lent out in
         let due = report file.options file.clauses in
         (told ≡ record { answer = accepted due.contradictory; lent = placed due.marks out })
         × ((told.answer ≡ accepted true) ↔ Contradictory file.clauses)
         × ((consistent : Contradictory file.clauses → ⊥) →
         (v : ℕ) →
-        (is-option : v < file.options) →
+        (is_option : v < file.options) →
         ((get_or told.lent v 0 ≡ 1) ↔ Derived file.clauses (pos v))
         × ((get_or told.lent v 0 ≡ 2) ↔ Derived file.clauses (neg v))))
         -- and "written by the writer's rules" it is the book again.
         × ((target out : List ℕ) →
-        (target-long-enough : length target ≡ 4098) →
-        (out-has-room : length book ≤ length out) →
+        (target_long_enough : length target ≡ 4098) →
+        (out_has_room : length book ≤ length out) →
         write_of (load_of book target).lent book out ≡ record { answer = accepted (length book); lent = placed book out })
     accepted_import =
-        let w = imports.accepted_import text out n import-is-accepted in
+        let w = imports.accepted_import text out n import_is_accepted in
         let b = w.book in (
           w.file,
           w.is_file,
@@ -104,30 +104,30 @@ codes_differ = imports.codes_differ
 -- Every file whose marks are 1 to V has a text, which is read as that file.
 pub some_text_is_read :
     (file : File) →
-    (marks-are-1-to-v : all (all (λ l. ltb (option l) file.options)) file.clauses ≡ true) →
+    (marks_are_1_to_v : all (all (λ l. ltb (option l) file.options)) file.clauses ≡ true) →
     (text : List ℕ) × (file_of text ≡ some file)
 some_text_is_read file h = (spelled file, imports.spelled_is_read file h)
 
 -- An import depends on the text only through its p line and the words after it.
 pub p_line_and_words_decide :
-    (text other out p_line : List ℕ) (after others-after : List (List ℕ)) →
-    (lines-of-text : past_comments (lines text) ≡ p_line ∷ after) →
-    (lines-of-other : past_comments (lines other) ≡ p_line ∷ others-after) →
-    (same_words : flatten (map words_of_line after) ≡ flatten (map words_of_line others-after)) →
+    (text other out p_line : List ℕ) (after others_after : List (List ℕ)) →
+    (lines_of_text : past_comments (lines text) ≡ p_line ∷ after) →
+    (lines_of_other : past_comments (lines other) ≡ p_line ∷ others_after) →
+    (same_words : flatten (map words_of_line after) ≡ flatten (map words_of_line others_after)) →
     import_of text out ≡ import_of other out
 p_line_and_words_decide = imports.p_line_and_words_decide
 
 -- "Comment lines starting with c" (99): one more in front changes nothing. It ends at byte 10.
 pub comment_changes_nothing :
     (comment text out : List ℕ) →
-    (comment-is-one-line : all (λ x. not (eqb x 10)) comment ≡ true) →
+    (comment_is_one_line : all (λ x. not (eqb x 10)) comment ≡ true) →
     import_of (99 ∷ (comment ++ 10 ∷ text)) out ≡ import_of text out
 comment_changes_nothing = imports.comment_changes_nothing
 
 -- "A line ends at byte 10, with or without 13 before it": the bytes before it do not end in a 13 of their own.
 pub with_or_without_13 :
     (before after out : List ℕ) →
-    (no-13-before : (rest : List ℕ) → before ≡ rest ++ (13 ∷ []) → ⊥) →
+    (no_13_before : (rest : List ℕ) → before ≡ rest ++ (13 ∷ []) → ⊥) →
     import_of (before ++ 13 ∷ 10 ∷ after) out ≡ import_of (before ++ 10 ∷ after) out
 with_or_without_13 = imports.with_or_without_13
 
@@ -136,33 +136,33 @@ with_or_without_13 = imports.with_or_without_13
 -- and 10.
 module _
     (opening p_line : List ℕ)
-    (p-line-ends : past_comments (lines (opening ++ 10 ∷ [])) ≡ p_line ∷ [] ∷ [])
+    (p_line_ends : past_comments (lines (opening ++ 10 ∷ [])) ≡ p_line ∷ [] ∷ [])
   where
     up_to : imports.UpToPLine opening
-    up_to = record { p_line = p_line; nothing_else = p-line-ends }
+    up_to = record { p_line = p_line; nothing_else = p_line_ends }
 
     pub blanks_before_the_first :
         (blanks rest out : List ℕ) →
-        (are-blanks : all (λ x. (eqb x 32 || eqb x 9) || eqb x 10) blanks ≡ true) →
+        (are_blanks : all (λ x. (eqb x 32 || eqb x 9) || eqb x 10) blanks ≡ true) →
         import_of (opening ++ 10 ∷ (blanks ++ rest)) out ≡ import_of (opening ++ 10 ∷ rest) out
     unfolding is_layout is_blank
     blanks_before_the_first blanks rest out = imports.blanks_before_the_first opening blanks rest out up_to
 
     pub blanks_after_the_last :
         (rest blanks out : List ℕ) →
-        (no-13-before : (before : List ℕ) → rest ≡ before ++ (13 ∷ []) → ⊥) →
-        (are-blanks : all (λ x. (eqb x 32 || eqb x 9) || eqb x 10) blanks ≡ true) →
+        (no_13_before : (before : List ℕ) → rest ≡ before ++ (13 ∷ []) → ⊥) →
+        (are_blanks : all (λ x. (eqb x 32 || eqb x 9) || eqb x 10) blanks ≡ true) →
         import_of (opening ++ 10 ∷ (rest ++ blanks)) out ≡ import_of (opening ++ 10 ∷ rest) out
     unfolding is_layout is_blank
     blanks_after_the_last rest blanks out = imports.blanks_after_the_last opening rest blanks out up_to
 
     pub blanks_between :
         (rest blanks others later out : List ℕ) →
-        (no-13-before : (before : List ℕ) → rest ≡ before ++ (13 ∷ []) → ⊥) →
-        (some-blanks : 1 ≤ length blanks) →
-        (are-blanks : all (λ x. (eqb x 32 || eqb x 9) || eqb x 10) blanks ≡ true) →
-        (some-others : 1 ≤ length others) →
-        (others-are-blanks : all (λ x. (eqb x 32 || eqb x 9) || eqb x 10) others ≡ true) →
+        (no_13_before : (before : List ℕ) → rest ≡ before ++ (13 ∷ []) → ⊥) →
+        (some_blanks : 1 ≤ length blanks) →
+        (are_blanks : all (λ x. (eqb x 32 || eqb x 9) || eqb x 10) blanks ≡ true) →
+        (some_others : 1 ≤ length others) →
+        (others_are_blanks : all (λ x. (eqb x 32 || eqb x 9) || eqb x 10) others ≡ true) →
         import_of (opening ++ 10 ∷ (rest ++ (blanks ++ later))) out ≡ import_of (opening ++ 10 ∷ (rest ++ (others ++ later))) out
     unfolding is_layout is_blank
     blanks_between rest blanks others later out = imports.blanks_between opening rest blanks others later out up_to
@@ -177,8 +177,8 @@ p_line_opens v c = let w = imports.p_line_is_such v c in (w.p_line, w.nothing_el
 
 pub comment_before_opens :
     (comment opening p_line : List ℕ) →
-    (comment-is-one-line : all (λ x. not (eqb x 10)) comment ≡ true) →
-    (p-line-ends : past_comments (lines (opening ++ 10 ∷ [])) ≡ p_line ∷ [] ∷ []) →
+    (comment_is_one_line : all (λ x. not (eqb x 10)) comment ≡ true) →
+    (p_line_ends : past_comments (lines (opening ++ 10 ∷ [])) ≡ p_line ∷ [] ∷ []) →
     (line : List ℕ) × (past_comments (lines ((99 ∷ (comment ++ 10 ∷ opening)) ++ 10 ∷ [])) ≡ line ∷ [] ∷ [])
 comment_before_opens comment opening p_line h e =
     let w = imports.comment_before_is_such comment opening h (record { p_line = p_line; nothing_else = e }) in

@@ -14,9 +14,9 @@ use lib.Seq.{take-take}
 use Rattle.model.specs.Base.{pick, placed}
 use Rattle.model.specs.Literal.{literal}
 use Rattle.model.specs.Results.{appended}
-use Rattle.calls.specs.Refusals.{Refusal, refusal_number, length-refused, head-refused, code-refused, contents-refused, body_refused}
-use Rattle.calls.specs.Refusals.{weight-refused, option-refused, full-refused, rule-refused, step-refused, sheet-refused, output-refused}
-use Rattle.calls.specs.Refusals.{line_refused, list-refused, text-refused, size-refused}
+use Rattle.calls.specs.Refusals.{Refusal, refusal_number, length_refused, head_refused, code_refused, contents_refused, body_refused}
+use Rattle.calls.specs.Refusals.{weight_refused, option_refused, full_refused, rule_refused, step_refused, sheet_refused, output_refused}
+use Rattle.calls.specs.Refusals.{line_refused, list_refused, text_refused, size_refused}
 use Rattle.calls.specs.Outcomes.{Outcome, outcome}
 use Rattle.calls.specs.Lines as calls
 use Rattle.calls.specs.Lines.{most_lines, State, without}
@@ -41,22 +41,22 @@ use Rattle.c_line_calls.proofs.CopiedLines.{copy, counted_copy, key_alike, withd
 -- No refusal has the number 0.
 some_number : (r : Refusal) → 1 ≤ refusal_number r
 unfolding refusal_number
-some_number length-refused = omega arith
-some_number head-refused = omega arith
-some_number code-refused = omega arith
-some_number contents-refused = omega arith
+some_number length_refused = omega arith
+some_number head_refused = omega arith
+some_number code_refused = omega arith
+some_number contents_refused = omega arith
 some_number body_refused = omega arith
-some_number weight-refused = omega arith
-some_number option-refused = omega arith
-some_number full-refused = omega arith
-some_number rule-refused = omega arith
-some_number step-refused = omega arith
-some_number sheet-refused = omega arith
-some_number output-refused = omega arith
+some_number weight_refused = omega arith
+some_number option_refused = omega arith
+some_number full_refused = omega arith
+some_number rule_refused = omega arith
+some_number step_refused = omega arith
+some_number sheet_refused = omega arith
+some_number output_refused = omega arith
 some_number line_refused = omega arith
-some_number list-refused = omega arith
-some_number text-refused = omega arith
-some_number size-refused = omega arith
+some_number list_refused = omega arith
+some_number text_refused = omega arith
+some_number size_refused = omega arith
 
 none_packed : (o : Option Refusal) (kept filled : Indexed State) → packed_done (outcome o tt kept filled).answer ≡ 0 → o ≡ none
 unfolding outcome

@@ -13,22 +13,22 @@ use Rattle.call_answers.specs.declared.Found as F
 use Rattle.call_answers.specs.declared.Found.TheVariants as V₃
 
 abbrev pub refusal_of : R.Refusal → M.Refusal
-refusal_of V₁.Length = M.length-refused
-refusal_of V₁.Head = M.head-refused
-refusal_of V₁.Code = M.code-refused
-refusal_of V₁.Contents = M.contents-refused
+refusal_of V₁.Length = M.length_refused
+refusal_of V₁.Head = M.head_refused
+refusal_of V₁.Code = M.code_refused
+refusal_of V₁.Contents = M.contents_refused
 refusal_of V₁.Body = M.body_refused
-refusal_of V₁.Weight = M.weight-refused
-refusal_of V₁.Unknown = M.option-refused
-refusal_of V₁.Full = M.full-refused
-refusal_of V₁.Rule = M.rule-refused
-refusal_of V₁.Step = M.step-refused
-refusal_of V₁.Sheet = M.sheet-refused
-refusal_of V₁.Output = M.output-refused
+refusal_of V₁.Weight = M.weight_refused
+refusal_of V₁.Unknown = M.option_refused
+refusal_of V₁.Full = M.full_refused
+refusal_of V₁.Rule = M.rule_refused
+refusal_of V₁.Step = M.step_refused
+refusal_of V₁.Sheet = M.sheet_refused
+refusal_of V₁.Output = M.output_refused
 refusal_of V₁.Line = M.line_refused
-refusal_of V₁.List = M.list-refused
-refusal_of V₁.Text = M.text-refused
-refusal_of V₁.Size = M.size-refused
+refusal_of V₁.List = M.list_refused
+refusal_of V₁.Text = M.text_refused
+refusal_of V₁.Size = M.size_refused
 
 -- The refusal that is due, if any.
 abbrev pub due_of : D.Done → Option M.Refusal

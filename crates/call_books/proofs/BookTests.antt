@@ -15,7 +15,7 @@ use Rattle.model.specs.Limits.{most_options, most_rules, most_nodes, most_weight
 use Rattle.model.specs.Book.{word, words, entries, pieces, cut, codes_ok, option_of_code, in_line, body_ok, options_of, rules_of}
 use Rattle.model.specs.Book.{size_of, head_in_limits, codes_end, contents_end, length_due, codes_of, contents_of, numbers_of}
 use Rattle.model.specs.Book.{bodies_of, book_nodes}
-use Rattle.calls.specs.Refusals.{Refusal, code-refused, contents-refused, body_refused, weight-refused, option-refused}
+use Rattle.calls.specs.Refusals.{Refusal, code_refused, contents_refused, body_refused, weight_refused, option_refused}
 use Rattle.calls.specs.Outcomes.{refused, accepted, answer}
 use Rattle.calls.specs.Conditions.{has_good_codes, has_good_contents, has_good_bodies}
 use Rattle.calls.specs.Chains.{part_refusal, book_refusal, lookup_refusal}
@@ -95,12 +95,12 @@ module _ {b : List ℕ} {n m t : ℕ} (s : GoodHead b n m t) where
 
 -- The refusal by their answers.
 module _ (b : List ℕ) where
-  pub codes_bad : has_good_codes b ≡ false → some code-refused ≡ part_refusal b
+  pub codes_bad : has_good_codes b ≡ false → some code_refused ≡ part_refusal b
   unfolding part_refusal first_of only_if
   codes_bad h = rw h
 
   module _ (codes : has_good_codes b ≡ true) where
-    pub contents_bad : has_good_contents b ≡ false → some contents-refused ≡ part_refusal b
+    pub contents_bad : has_good_contents b ≡ false → some contents_refused ≡ part_refusal b
     unfolding part_refusal first_of only_if
     contents_bad h = rw (codes, h)
 
@@ -110,7 +110,7 @@ module _ (b : List ℕ) where
       bodies_bad h = rw (codes, contents, h)
 
       module _ (bodies : has_good_bodies b ≡ true) where
-        pub weight_bad : most_weight < weight (book_nodes b) → some weight-refused ≡ part_refusal b
+        pub weight_bad : most_weight < weight (book_nodes b) → some weight_refused ≡ part_refusal b
         unfolding part_refusal first_of only_if
         weight_bad h = rw (codes, contents, bodies, lt-leb (weight (book_nodes b)) most_weight h)
 
@@ -157,7 +157,7 @@ module _ (b code : List ℕ) (good : book_refusal b ≡ none) where
   unfolding lookup_of lookup_refusal answer first_of only_if is_some maybe
   lookup_found v e = rw (good, e)
 
-  pub lookup_missing : option_of_code code 0 (codes_of b) ≡ none → refused option-refused ≡ lookup_of b code
+  pub lookup_missing : option_of_code code 0 (codes_of b) ≡ none → refused option_refused ≡ lookup_of b code
   unfolding lookup_of lookup_refusal answer first_of only_if is_some maybe
   lookup_missing e = rw (good, e)
 

@@ -88,11 +88,11 @@ module _ (t : State) (b : List ℕ) where
 
     -- The table once both passes are over, from one without a name.
     pub answered_so :
-        (zeros : ℕ) (after_book after-lines : List ℕ) →
+        (zeros : ℕ) (after_book after_lines : List ℕ) →
         Adds (λ v. any (names v) (map node_of (numbers_of b))) (replicate zeros 0) after_book →
-        Adds (λ v. any (λ l. eqb v (option l)) (counted t)) after_book after-lines →
+        Adds (λ v. any (λ l. eqb v (option l)) (counted t)) after_book after_lines →
         {told : Bool} →
-        told ≡ complete_among (is_noted after-lines) (options_in t.sheet) (report_in t.sheet) →
+        told ≡ complete_among (is_noted after_lines) (options_in t.sheet) (report_in t.sheet) →
         accepted told ≡ complete_of t b
     unfolding complete_of complete_refusal answer is_named
     answered_so zeros u w one two h =

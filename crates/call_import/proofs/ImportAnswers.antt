@@ -11,7 +11,7 @@ use lib.ListN.{length}
 use Rattle.model.specs.Base.{only_if, first_of, is_some, maybe, placed}
 use Rattle.texts.specs.ClauseFile.{File, file_of}
 use Rattle.texts.specs.ClauseBook.{nodes_of_file, book_of_file, is_too_large}
-use Rattle.calls.specs.Refusals.{text-refused, size-refused, output-refused}
+use Rattle.calls.specs.Refusals.{text_refused, size_refused, output_refused}
 use Rattle.calls.specs.Outcomes.{refused, accepted, outcome}
 use Rattle.calls.specs.Chains.{import_refusal}
 use Rattle.calls.specs.Calls.{import_of}
@@ -28,17 +28,17 @@ use Rattle.call_import.specs.Sizes.{over_limits, Small}
 use Rattle.call_import.proofs.LimitTests.{file_limits}
 
 module _ (text out : List ℕ) where
-  pub no_file_told : file_of text ≡ none → after_call (refused text-refused) out ≡ import_of text out
+  pub no_file_told : file_of text ≡ none → after_call (refused text_refused) out ≡ import_of text out
   unfolding import_of import_refusal only_if first_of outcome is_some
   no_file_told e = rw e
 
   module _ (f : File) (e : file_of text ≡ some f) where
-    pub too_large_told : is_too_large f ≡ true → after_call (refused size-refused) out ≡ import_of text out
+    pub too_large_told : is_too_large f ≡ true → after_call (refused size_refused) out ≡ import_of text out
     unfolding import_of import_refusal only_if first_of outcome is_some maybe
     too_large_told h = rw (e, h)
 
     module _ (h : is_too_large f ≡ false) where
-      pub no_room_told : length out < length (book_of_file f) → after_call (refused output-refused) out ≡ import_of text out
+      pub no_room_told : length out < length (book_of_file f) → after_call (refused output_refused) out ≡ import_of text out
       unfolding import_of import_refusal only_if first_of outcome is_some maybe
       no_room_told k = rw (e, h, lt-ltb (length out) (length (book_of_file f)) k)
 

@@ -6,7 +6,7 @@ use mathlib.Core.Path.{◌≡◌, refl, sym, ap, ◌∙◌}
 use Prim.Native.Nat.{ℕ}
 use Rattle.model.specs.Base.{only_if, first_of, is_some, then, placed}
 use Rattle.model.specs.Sheet.{is_sheet}
-use Rattle.calls.specs.Refusals.{Refusal, due, ◌or-else◌, sheet-refused, output-refused}
+use Rattle.calls.specs.Refusals.{Refusal, due, ◌or_else◌, sheet_refused, output_refused}
 use Rattle.calls.specs.Outcomes.{refused, accepted, outcome}
 use Rattle.calls.specs.Index.{fresh_count}
 use Rattle.calls.specs.Conditions.{has_short_index, has_stale_index}
@@ -35,14 +35,14 @@ not_early own = go (early own)
 -- The chain, by the two tests of the index.
 module _ (stale short : Bool) where
   abbrev chain : Option Refusal → Option Refusal
-  chain own = early own or_else due stale sheet-refused or_else own or_else due short output-refused
+  chain own = early own or_else due stale sheet_refused or_else own or_else due short output_refused
 
   early_first : (own : Option Refusal) → is_some (early own) ≡ true → own ≡ chain own
   unfolding early then only_if first_of
   early_first none e = true_false (sym e ∙ none_early)
   early_first (some r) e = rw (sym (some_early r) ∙ e)
 
-  stale_next : (own : Option Refusal) → early own ≡ none → stale ≡ true → some sheet-refused ≡ chain own
+  stale_next : (own : Option Refusal) → early own ≡ none → stale ≡ true → some sheet_refused ≡ chain own
   unfolding only_if first_of
   stale_next own late e = rw (late, e)
 
@@ -50,7 +50,7 @@ module _ (stale short : Bool) where
   unfolding only_if first_of
   own_next own late e which = rw (late, e, which)
 
-  short_last : (own : Option Refusal) → early own ≡ none → stale ≡ false → own ≡ none → due short output-refused ≡ chain own
+  short_last : (own : Option Refusal) → early own ≡ none → stale ≡ false → own ≡ none → due short output_refused ≡ chain own
   unfolding only_if first_of
   short_last own late e which = rw (late, e, which)
 
@@ -60,7 +60,7 @@ module _ (s index : List ℕ) (own : Option Refusal) where
   refused_early = early_first (has_stale_index s index) (has_short_index s index) own
 
   module _ (late : early own ≡ none) where
-    pub refused_stale : has_stale_index s index ≡ true → some sheet-refused ≡ index_refusal s index own
+    pub refused_stale : has_stale_index s index ≡ true → some sheet_refused ≡ index_refusal s index own
     unfolding index_refusal
     refused_stale = stale_next (has_stale_index s index) (has_short_index s index) own late
 
@@ -70,26 +70,26 @@ module _ (s index : List ℕ) (own : Option Refusal) where
       refused_late = own_next (has_stale_index s index) (has_short_index s index) own late fresh
 
       module _ (unrefused : own ≡ none) where
-        pub refused_short : has_short_index s index ≡ true → some output-refused ≡ index_refusal s index own
+        pub refused_short : has_short_index s index ≡ true → some output_refused ≡ index_refusal s index own
         unfolding index_refusal only_if
         refused_short e =
-            ap (λ b. due b output-refused) (sym e)
+            ap (λ b. due b output_refused) (sym e)
             ∙ short_last (has_stale_index s index) (has_short_index s index) own late fresh unrefused
 
         pub accepted_with : has_short_index s index ≡ false → none ≡ index_refusal s index own
         unfolding index_refusal only_if
         accepted_with e =
-            ap (λ b. due b output-refused) (sym e)
+            ap (λ b. due b output_refused) (sym e)
             ∙ short_last (has_stale_index s index) (has_short_index s index) own late fresh unrefused
 
 -- The call that fills an index.
 module _ (s index : List ℕ) where
-  pub fill_no_sheet : is_sheet s ≡ false → after_call (refused sheet-refused) index ≡ fill_of s index
+  pub fill_no_sheet : is_sheet s ≡ false → after_call (refused sheet_refused) index ≡ fill_of s index
   unfolding fill_of fill_refusal outcome first_of only_if
   fill_no_sheet h = rw h
 
   module _ (h : is_sheet s ≡ true) where
-    pub fill_short : has_short_index s index ≡ true → after_call (refused output-refused) index ≡ fill_of s index
+    pub fill_short : has_short_index s index ≡ true → after_call (refused output_refused) index ≡ fill_of s index
     unfolding fill_of fill_refusal outcome first_of only_if
     fill_short e = rw (h, e)
 

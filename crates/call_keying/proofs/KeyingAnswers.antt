@@ -13,7 +13,7 @@ use Rattle.model.specs.Code.{weight}
 use Rattle.model.specs.Limits.{most_weight, literal_weight, sheet_length, sheet_room}
 use Rattle.model.specs.Sheet.{options_in, used_in, nodes_in, is_sheet}
 use Rattle.model.specs.Results.{appended}
-use Rattle.calls.specs.Refusals.{Refusal, sheet-refused, list-refused, option-refused, full-refused}
+use Rattle.calls.specs.Refusals.{Refusal, sheet_refused, list_refused, option_refused, full_refused}
 use Rattle.calls.specs.Outcomes.{refused, accepted, outcome}
 use Rattle.calls.specs.Lines.{most_lines, State}
 use Rattle.calls.specs.Conditions.{has_lines_in_order}
@@ -22,7 +22,7 @@ use Rattle.calls.specs.Chains.{key_refusal, early, index_refusal}
 use Rattle.calls.specs.Calls.{key_of, key_with}
 use Rattle.theory_index.specs.Entries.{mentioned_last}
 use Rattle.theory_index.specs.Appended.{entry_within, count_fits, appended_index}
-use Rattle.theory_index.specs.IndexedCalls.{sheet_first as sheet-due, index_accepted, refused_with, accepted_with}
+use Rattle.theory_index.specs.IndexedCalls.{sheet_first as sheet_due, index_accepted, refused_with, accepted_with}
 use Rattle.call_laws.specs.Accepted.{Keyable, key_accepted}
 use Rattle.call_laws.specs.OrderLines.{option_literal}
 use Rattle.call_laws.specs.Rekeyed.{keyed_state}
@@ -32,19 +32,19 @@ use Rattle.theory_forms.specs.Sheets.{sheet_formed}
 
 -- The last tests, once the sheet and the lines are known to be good: the list, the option, the room.
 module _ (s : List ℕ) (c v : ℕ) where
-  pub list_full : c ≡ most_lines → some list-refused ≡ mark_refusal s c v
+  pub list_full : c ≡ most_lines → some list_refused ≡ mark_refusal s c v
   unfolding mark_refusal first_of only_if
   list_full e = rw (eq-eqb c most_lines e)
 
   module _ (free : c ≡ most_lines → ⊥) where
-    pub no_option : options_in s ≤ v → some option-refused ≡ mark_refusal s c v
+    pub no_option : options_in s ≤ v → some option_refused ≡ mark_refusal s c v
     unfolding mark_refusal first_of only_if
     no_option le = rw (ne_eqb c most_lines free, le-ltb v (options_in s) le)
 
     pub no_room :
         v < options_in s →
         most_weight < weight (nodes_in s) + literal_weight →
-        some full-refused ≡ mark_refusal s c v
+        some full_refused ≡ mark_refusal s c v
     unfolding mark_refusal first_of only_if
     no_room lt over =
         rw (
@@ -64,12 +64,12 @@ module _ (s : List ℕ) (c v : ℕ) where
 
 -- The tests before them: the sheet, then the lines.
 module _ (t : State) (v : ℕ) where
-  pub no_sheet : is_sheet t.sheet ≡ false → some sheet-refused ≡ key_refusal t v
+  pub no_sheet : is_sheet t.sheet ≡ false → some sheet_refused ≡ key_refusal t v
   unfolding key_refusal first_of only_if
   no_sheet h = rw h
 
   module _ (sheet : is_sheet t.sheet ≡ true) where
-    pub no_order : has_lines_in_order t ≡ false → some sheet-refused ≡ key_refusal t v
+    pub no_order : has_lines_in_order t ≡ false → some sheet_refused ≡ key_refusal t v
     unfolding key_refusal first_of only_if
     no_order o = rw (sheet, o)
 
@@ -138,7 +138,7 @@ countable t index v e =
 -- Where none is due that comes before an index's, it is a sheet.
 pub sheet_tested : (t : State) (v : ℕ) → early (key_refusal t v) ≡ none → is_sheet t.sheet ≡ true
 unfolding key_refusal
-sheet_tested t v = sheet-due t.sheet _
+sheet_tested t v = sheet_due t.sheet _
 
 -- What is known of a sheet's first numbers.
 pub sheet_first : (s : List ℕ) → is_sheet s ≡ true → (length s ≡ sheet_length) × (used_in s ≤ sheet_room) × (get_or s 0 0 ≡ options_in s)

@@ -12,8 +12,8 @@ use Rattle.model.specs.Sheet.{options_in, nodes_in, is_sheet}
 use Rattle.model.specs.Book.{options_of, book_nodes, written}
 use Rattle.texts.specs.ClauseFile.{File, file_of}
 use Rattle.texts.specs.ClauseBook.{book_of_file, is_too_large}
-use Rattle.calls.specs.Refusals.{Refusal, sheet-refused, output-refused, option-refused, full-refused, rule-refused, step-refused}
-use Rattle.calls.specs.Refusals.{line_refused, list-refused, text-refused, size-refused}
+use Rattle.calls.specs.Refusals.{Refusal, sheet_refused, output_refused, option_refused, full_refused, rule_refused, step_refused}
+use Rattle.calls.specs.Refusals.{line_refused, list_refused, text_refused, size_refused}
 use Rattle.calls.specs.Outcomes.{accepted, outcome}
 use Rattle.calls.specs.Lines.{most_lines, State, counted}
 use Rattle.calls.specs.Conditions.{has_option, is_book_of, is_shorter, applies, has_lines_in_order, has_line, has_full_list}
@@ -41,14 +41,14 @@ pub record Writable (s b out : List ℕ) : Type 0 where
 pub write_accepted : (s b out : List ℕ) → write_refusal s b out ≡ none → Writable s b out
 unfolding write_refusal
 write_accepted s b out e =
-    let p = none_due (not (is_sheet s)) sheet-refused _ e in
+    let p = none_due (not (is_sheet s)) sheet_refused _ e in
     let q = first_none (book_refusal b) _ p.1 in
-    let r = none_due (not (is_book_of s b)) sheet-refused _ q.1 in
+    let r = none_due (not (is_book_of s b)) sheet_refused _ q.1 in
     record {
       sheet = not-false (is_sheet s) p.0;
       book = q.0;
       same = eqb-true (options_of b) (options_in s) (not-false (is_book_of s b) r.0);
-      room = ltb-false (length out) (length (written s b)) (only_none (is_shorter out (length (written s b))) output-refused r.1);
+      room = ltb-false (length out) (length (written s b)) (only_none (is_shorter out (length (written s b))) output_refused r.1);
     }
 
 -- Lines that are in order.
@@ -85,17 +85,17 @@ pub key_accepted : (t : State) (v : ℕ) → key_refusal t v ≡ none → Keyabl
 unfolding key_refusal
 key_accepted t v e =
     let s = t.sheet in
-    let p = none_due (not (is_sheet s)) sheet-refused _ e in
-    let q = none_due (not (has_lines_in_order t)) sheet-refused _ p.1 in
-    let r = none_due (has_full_list t) list-refused _ q.1 in
-    let u = none_due (not (has_option s v)) option-refused _ r.1 in
+    let p = none_due (not (is_sheet s)) sheet_refused _ e in
+    let q = none_due (not (has_lines_in_order t)) sheet_refused _ p.1 in
+    let r = none_due (has_full_list t) list_refused _ q.1 in
+    let u = none_due (not (has_option s v)) option_refused _ r.1 in
     let lines = lines_in_order t (not-false (has_lines_in_order t) q.0) in
     record {
       sheet = not-false (is_sheet s) p.0;
       lines = lines;
       free = below t.count lines.few (eqb-false t.count most_lines r.0);
       known = ltb-true v (options_in s) (not-false (has_option s v) u.0);
-      room = ltb-false most_weight (weight (nodes_in s) + literal_weight) (only_none _ full-refused u.1);
+      room = ltb-false most_weight (weight (nodes_in s) + literal_weight) (only_none _ full_refused u.1);
     }
   where
     below : (c : ℕ) → c ≤ most_lines → (c ≡ most_lines → ⊥) → c < most_lines
@@ -112,14 +112,14 @@ pub order_accepted : (t : State) (b : List ℕ) → order_refusal t b ≡ none �
 unfolding order_refusal
 order_accepted t b e =
     let s = t.sheet in
-    let p = none_due (not (is_sheet s)) sheet-refused _ e in
+    let p = none_due (not (is_sheet s)) sheet_refused _ e in
     let q = first_none (book_refusal b) _ p.1 in
-    let r = none_due (not (is_book_of s b)) sheet-refused _ q.1 in
+    let r = none_due (not (is_book_of s b)) sheet_refused _ q.1 in
     record {
       sheet = not-false (is_sheet s) p.0;
       book = q.0;
       same = eqb-true (options_of b) (options_in s) (not-false (is_book_of s b) r.0);
-      lines = lines_in_order t (not-false (has_lines_in_order t) (only_none (not (has_lines_in_order t)) sheet-refused r.1));
+      lines = lines_in_order t (not-false (has_lines_in_order t) (only_none (not (has_lines_in_order t)) sheet_refused r.1));
     }
 
 -- A withdrawal.
@@ -136,7 +136,7 @@ withdraw_accepted t b k e =
     record {
       order = order_accepted t b p.0;
       line = ltb-true k t.count (not-false (has_line t k) q.0);
-      room = ltb-false most_weight (weight (book_nodes b) + literal_weight * (t.count - 1)) (only_none _ full-refused q.1);
+      room = ltb-false most_weight (weight (book_nodes b) + literal_weight * (t.count - 1)) (only_none _ full_refused q.1);
     }
 
 -- A step.
@@ -148,18 +148,18 @@ pub record Steppable (s : List ℕ) (r p i j : ℕ) : Type 0 where
 pub step_accepted : (s : List ℕ) (r p i j : ℕ) → step_refusal s r p i j ≡ none → Steppable s r p i j
 unfolding step_refusal
 step_accepted s r p i j e =
-    let a = none_due (not (is_sheet s)) sheet-refused _ e in
-    let b = none_due (not (is_rule r)) rule-refused _ a.1 in
+    let a = none_due (not (is_sheet s)) sheet_refused _ e in
+    let b = none_due (not (is_rule r)) rule_refused _ a.1 in
     record {
       sheet = not-false (is_sheet s) a.0;
       rule = not-false (is_rule r) b.0;
-      there = not-false (applies s r p i j) (only_none _ step-refused b.1);
+      there = not-false (applies s r p i j) (only_none _ step_refused b.1);
     }
 
 -- A run.
 pub run_accepted : (s : List ℕ) → run_refusal s ≡ none → is_sheet s ≡ true
 unfolding run_refusal
-run_accepted s e = not-false (is_sheet s) (only_none _ sheet-refused e)
+run_accepted s e = not-false (is_sheet s) (only_none _ sheet_refused e)
 
 -- An import.
 pub record Importable (text out : List ℕ) : Type 0 where
@@ -171,9 +171,9 @@ pub record Importable (text out : List ℕ) : Type 0 where
 pub import_accepted : (text out : List ℕ) → import_refusal text out ≡ none → Importable text out
 unfolding import_refusal maybe
 import_accepted text out e =
-    let a = none_due (not (is_clause_file text)) text-refused _ e in
-    let b = none_due (gives_too_much text) size-refused _ a.1 in
-    let c = only_none (is_shorter out (length (imported text))) output-refused b.1 in
+    let a = none_due (not (is_clause_file text)) text_refused _ e in
+    let b = none_due (gives_too_much text) size_refused _ a.1 in
+    let c = only_none (is_shorter out (length (imported text))) output_refused b.1 in
     let (f, g) = is_some_of (file_of text) (not-false (is_clause_file text) a.0) in
     record {
       file = f;

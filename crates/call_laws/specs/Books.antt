@@ -8,7 +8,7 @@ use Rattle.model.specs.Base.{only_if, first_of}
 use Rattle.model.specs.Code.{weight}
 use Rattle.model.specs.Limits.{most_options, most_rules, most_nodes, most_weight, head_length, code_length}
 use Rattle.model.specs.Book.{word, options_of, rules_of, size_of, head_in_limits, length_due, book_nodes}
-use Rattle.calls.specs.Refusals.{Refusal, length-refused, head-refused}
+use Rattle.calls.specs.Refusals.{Refusal, length_refused, head_refused}
 use Rattle.calls.specs.Outcomes.{refused, accepted, answer}
 use Rattle.calls.specs.Calls.{check_of}
 use Rattle.calls.specs.Conditions.{lacks_head, is_length_due, has_good_codes, has_good_contents, has_good_bodies, is_light}
@@ -28,14 +28,14 @@ pub record GoodHead (b : List ℕ) (n m t : ℕ) : Type 0 where
 
 -- The head and the length, one after another.
 module _ (b : List ℕ) where
-  pub too_short : lacks_head b ≡ true → book_refusal b ≡ some length-refused
+  pub too_short : lacks_head b ≡ true → book_refusal b ≡ some length_refused
   unfolding book_refusal first_of only_if
   too_short h = rw h
 
   pub bad_head :
       lacks_head b ≡ false →
       head_in_limits b ≡ false →
-      book_refusal b ≡ some head-refused
+      book_refusal b ≡ some head_refused
   unfolding book_refusal first_of only_if
   bad_head h e = rw (h, e)
 
@@ -43,7 +43,7 @@ module _ (b : List ℕ) where
       lacks_head b ≡ false →
       head_in_limits b ≡ true →
       is_length_due b ≡ false →
-      book_refusal b ≡ some length-refused
+      book_refusal b ≡ some length_refused
   unfolding book_refusal first_of only_if
   bad_length h e l = rw (h, e, l)
 

@@ -2,7 +2,7 @@
 use Rattle.std.specs.Prelude.{Bool, true, false, List, [], ◌∷◌, ◌++◌, ◌⊎◌, ◌≡◌, refl, ℕ, eqb}
 use Rattle.std.proofs.Common.{inl, inr, sym, ap, ◌∙◌, arith}
 use Rattle.model.specs.Base.{pick}
-use Rattle.calls.specs.Refusals.{option-refused}
+use Rattle.calls.specs.Refusals.{option_refused}
 use Rattle.model.specs.Literal.{literal}
 use Rattle.calls.specs.Outcomes.{Answer, refused, accepted, if_accepted, Outcome}
 use Rattle.calls.specs.Lines.{State}
@@ -33,7 +33,7 @@ signed_call book [] t = inl refl
 signed_call book (x ∷ code) t = go (eqb x 43) (eqb x 45)
   where
     none : Outcome State (Unit {0})
-    none = record { answer = refused option-refused; lent = t }
+    none = record { answer = refused option_refused; lent = t }
 
     found : Bool → Outcome State (Unit {0})
     found negative = key_found (lookup_of book code) negative t

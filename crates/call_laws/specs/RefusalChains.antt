@@ -8,7 +8,7 @@ use Rattle.std.proofs.Math.Path.{◌≡◌, refl, ap}
 use Rattle.std.proofs.Common.{sym, ◌∙◌, arith}
 use borrow.Author.Tests.{not-true}
 use Rattle.model.specs.Base.{all, any, only_if, first_of, then}
-use Rattle.calls.specs.Refusals.{Refusal, sheet-refused, output-refused, due, ◌or-else◌}
+use Rattle.calls.specs.Refusals.{Refusal, sheet_refused, output_refused, due, ◌or_else◌}
 use Rattle.calls.specs.Conditions.{has_short_index, has_stale_index}
 use Rattle.calls.specs.Chains.{is_early, early, index_refusal}
 use Rattle.calls.specs.Outcomes.{Answer, refused, accepted, answer, outcome}
@@ -144,7 +144,7 @@ module _ (s index : List ℕ) (before after : List Test) where
       all (λ t. is_early t.refusal) before ≡ true →
       all (λ t. not (is_early t.refusal)) after ≡ true →
       index_refusal s index (first_due (before ++ after))
-      ≡ first_due (before ++ (sheet-refused on has_stale_index s index ∷ (after ++ (output-refused on has_short_index s index ∷ []))))
+      ≡ first_due (before ++ (sheet_refused on has_stale_index s index ∷ (after ++ (output_refused on has_short_index s index ∷ []))))
   unfolding index_refusal early then only_if first_of first_due
   with_index_chain p q =
       rw (
@@ -157,20 +157,20 @@ module _ (s index : List ℕ) (before after : List Test) where
       (λ r e. not-true (is_early r) (first_among (λ x. not (is_early x)) after q e)))
     where
       stale : Test
-      stale = sheet-refused on has_stale_index s index
+      stale = sheet_refused on has_stale_index s index
 
       short : Test
-      short = output-refused on has_short_index s index
+      short = output_refused on has_short_index s index
 
       go :
-          (early-one late-one at-stale at-short : Option Refusal) →
-          ((r : Refusal) → early-one ≡ some r → is_early r ≡ true) →
-          ((r : Refusal) → late-one ≡ some r → is_early r ≡ false) →
-          first_of (early (first_of early-one late-one)) (first_of at-stale (first_of (first_of early-one late-one) at-short))
-          ≡ first_of early-one (first_of at-stale (first_of late-one (first_of at-short none)))
-      go (some r) late-one at-stale at-short h k = rw (h r refl)
-      go none none at-stale at-short h k = rw (first_last at-short)
-      go none (some r) at-stale at-short h k = rw (k r refl)
+          (early_one late_one at_stale at_short : Option Refusal) →
+          ((r : Refusal) → early_one ≡ some r → is_early r ≡ true) →
+          ((r : Refusal) → late_one ≡ some r → is_early r ≡ false) →
+          first_of (early (first_of early_one late_one)) (first_of at_stale (first_of (first_of early_one late_one) at_short))
+          ≡ first_of early_one (first_of at_stale (first_of late_one (first_of at_short none)))
+      go (some r) late_one at_stale at_short h k = rw (h r refl)
+      go none none at_stale at_short h k = rw (first_last at_short)
+      go none (some r) at_stale at_short h k = rw (k r refl)
 
 -- An answer by a chain: refused exactly by the first refusal that is due, a result exactly where none is.
 pub record ByChain {A : Type 0} (given : Answer A) (tests : List Test) : Type 0 where
@@ -212,8 +212,8 @@ pub answered_with :
     ByChain
     (with_index sheet held index (outcome own a held filled)).answer
     (before
-    ++ (sheet-refused on has_stale_index (sheet held) index
-    ∷ (after ++ (output-refused on has_short_index (sheet held) index ∷ []))))
+    ++ (sheet_refused on has_stale_index (sheet held) index
+    ∷ (after ++ (output_refused on has_short_index (sheet held) index ∷ []))))
 answered_with sheet held index a filled own before after e p q =
     rw (with_index_is sheet held index a filled own)
     (answered_lent a _ _ (index_refusal (sheet held) index own)

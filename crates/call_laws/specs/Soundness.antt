@@ -171,7 +171,7 @@ pub stepped_holds :
     Holds u root (decode ns) ↔ Holds u root (decode ms)
 stepped_holds u zero ns {ms} w t =
     let x = t.rewriting in
-    let is-root : x.conn ≡ root = cc in
+    let is_root : x.conn ≡ root = cc in
     let alone : x.rest ≡ nil = cc in
     let before : decode ns ≡ node root x.children nil = cc in
     let now : decode ms ≡ node root (kids x.new) nil =
@@ -180,9 +180,9 @@ stepped_holds u zero ns {ms} w t =
     ∙ x.became
     ∙ ap (λ f. x.new ⊕ f) alone
     ∙ ⊕-nil x.new
-    ∙ root_stays x.done is-root in (
-      λ h. (suited_holds u t (λ s a l was still n. unit_opposed u s a is-root l x.children (rw before at h) was)).0 h,
-      λ h. (suited_holds u t (λ s a l was still n. unit_opposed u s a is-root l (kids x.new) (rw now at h) still)).1 h,
+    ∙ root_stays x.done is_root in (
+      λ h. (suited_holds u t (λ s a l was still n. unit_opposed u s a is_root l x.children (rw before at h) was)).0 h,
+      λ h. (suited_holds u t (λ s a l was still n. unit_opposed u s a is_root l (kids x.new) (rw now at h) still)).1 h,
     )
 stepped_holds u (suc place) ns w t =
     let x = t.rewriting in

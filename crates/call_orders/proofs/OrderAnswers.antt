@@ -9,13 +9,13 @@ use lib.ListN.{get_or}
 use Rattle.model.specs.Base.{first_of, only_if}
 use Rattle.model.specs.Sheet.{options_in, is_sheet}
 use Rattle.model.specs.Book.{options_of}
-use Rattle.calls.specs.Refusals.{Refusal, sheet-refused}
+use Rattle.calls.specs.Refusals.{Refusal, sheet_refused}
 use Rattle.calls.specs.Lines.{State}
 use Rattle.calls.specs.Conditions.{has_lines_in_order}
 use Rattle.calls.specs.Chains.{book_refusal, order_refusal}
 
 module _ (t : State) (b : List ℕ) where
-  pub no_sheet : is_sheet t.sheet ≡ false → some sheet-refused ≡ order_refusal t b
+  pub no_sheet : is_sheet t.sheet ≡ false → some sheet_refused ≡ order_refusal t b
   unfolding order_refusal first_of only_if
   no_sheet h = rw h
 
@@ -25,12 +25,12 @@ module _ (t : State) (b : List ℕ) where
     no_book e = rw (sheet, e)
 
     module _ (book : book_refusal b ≡ none) where
-      pub other_options : (options_of b ≡ options_in t.sheet → ⊥) → some sheet-refused ≡ order_refusal t b
+      pub other_options : (options_of b ≡ options_in t.sheet → ⊥) → some sheet_refused ≡ order_refusal t b
       unfolding order_refusal first_of only_if
       other_options ne = rw (sheet, book, ne_eqb (options_of b) (options_in t.sheet) ne)
 
       module _ (same : options_of b ≡ options_in t.sheet) where
-        pub no_order : has_lines_in_order t ≡ false → some sheet-refused ≡ order_refusal t b
+        pub no_order : has_lines_in_order t ≡ false → some sheet_refused ≡ order_refusal t b
         unfolding order_refusal first_of only_if
         no_order o = rw (sheet, book, eq-eqb (options_of b) (options_in t.sheet) same, o)
 

@@ -8,7 +8,7 @@ use lib.ListN.{length}
 use Rattle.model.specs.Base.{only_if, placed}
 use Rattle.model.specs.Sheet.{is_sheet}
 use Rattle.model.specs.Results.{run_through}
-use Rattle.calls.specs.Refusals.{Refusal, due, sheet-refused}
+use Rattle.calls.specs.Refusals.{Refusal, due, sheet_refused}
 use Rattle.calls.specs.Outcomes.{refused, accepted, outcome}
 use Rattle.calls.specs.Index.{fresh_count}
 use Rattle.calls.specs.Conditions.{index_length}
@@ -22,7 +22,7 @@ use Rattle.call_laws.specs.RefusalChains.{first_last}
 use Rattle.call_laws.specs.Accepted.{run_accepted}
 
 module _ (s : List ℕ) where
-  pub no_sheet : is_sheet s ≡ false → some sheet-refused ≡ run_refusal s
+  pub no_sheet : is_sheet s ≡ false → some sheet_refused ≡ run_refusal s
   unfolding run_refusal only_if
   no_sheet h = rw h
 
@@ -33,7 +33,7 @@ module _ (s : List ℕ) where
   -- Where none is due that comes before an index's, it is a sheet.
   pub sheet_tested : early (run_refusal s) ≡ none → is_sheet s ≡ true
   unfolding run_refusal
-  sheet_tested e = sheet_first s none (ap early (first_last (due (not (is_sheet s)) sheet-refused)) ∙ e)
+  sheet_tested e = sheet_first s none (ap early (first_last (due (not (is_sheet s)) sheet_refused)) ∙ e)
 
 -- The answer by the refusal that is due.
 module _ (s : List ℕ) (budget : ℕ) where

@@ -10,7 +10,7 @@ use Rattle.model.specs.Base.{only_if, first_of, placed}
 use Rattle.model.specs.Rules.{is_rule}
 use Rattle.model.specs.Sheet.{used_in, is_sheet}
 use Rattle.model.specs.Results.{stepped}
-use Rattle.calls.specs.Refusals.{Refusal, sheet-refused, rule-refused, step-refused}
+use Rattle.calls.specs.Refusals.{Refusal, sheet_refused, rule_refused, step_refused}
 use Rattle.calls.specs.Outcomes.{refused, accepted}
 use Rattle.calls.specs.Index.{fresh_count}
 use Rattle.calls.specs.Conditions.{applies, index_length}
@@ -25,21 +25,21 @@ use Rattle.theory_index.specs.IndexedCalls.{sheet_first, index_accepted, refused
 use Rattle.theory_index.specs.Left.{left_room, stepped_left}
 
 module _ (s : List ℕ) (r p i j : ℕ) where
-  pub no_sheet : is_sheet s ≡ false → some sheet-refused ≡ step_refusal s r p i j
+  pub no_sheet : is_sheet s ≡ false → some sheet_refused ≡ step_refusal s r p i j
   unfolding step_refusal first_of only_if
   no_sheet h = rw h
 
   module _ (h : is_sheet s ≡ true) where
-    pub no_rule : is_rule r ≡ false → some rule-refused ≡ step_refusal s r p i j
+    pub no_rule : is_rule r ≡ false → some rule_refused ≡ step_refusal s r p i j
     unfolding step_refusal first_of only_if
     no_rule bad = rw (h, bad)
 
     module _ (rule : is_rule r ≡ true) where
-      pub no_step : applies s r p i j ≡ false → some step-refused ≡ step_refusal s r p i j
+      pub no_step : applies s r p i j ≡ false → some step_refused ≡ step_refusal s r p i j
       unfolding step_refusal first_of only_if
       no_step e = rw (h, rule, e)
 
-      pub no_place : used_in s ≤ p → some step-refused ≡ step_refusal s r p i j
+      pub no_place : used_in s ≤ p → some step_refused ≡ step_refusal s r p i j
       no_place past = no_step (fails_if (applies s r p i j) (λ t. let l = place_used s (sheet_formed s h) r p i j t in omega arith))
 
       pub none_refused : applies s r p i j ≡ true → none ≡ step_refusal s r p i j

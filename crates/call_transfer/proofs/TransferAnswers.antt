@@ -10,14 +10,14 @@ use Rattle.model.specs.Base.{only_if, first_of, placed}
 use Rattle.model.specs.Limits.{sheet_length}
 use Rattle.model.specs.Sheet.{options_in, is_sheet, sheet_of}
 use Rattle.model.specs.Book.{options_of, book_nodes, written}
-use Rattle.calls.specs.Refusals.{Refusal, sheet-refused, output-refused}
+use Rattle.calls.specs.Refusals.{Refusal, sheet_refused, output_refused}
 use Rattle.calls.specs.Outcomes.{refused, accepted, outcome}
 use Rattle.calls.specs.Chains.{book_refusal, load_refusal, write_refusal}
 use Rattle.calls.specs.Calls.{load_of, write_of}
 use Rattle.call_answers.specs.AnswerMeaning.{after_call}
 
 module _ (b target : List ℕ) where
-  pub load_short : (length target ≡ sheet_length → ⊥) → after_call (refused sheet-refused) target ≡ load_of b target
+  pub load_short : (length target ≡ sheet_length → ⊥) → after_call (refused sheet_refused) target ≡ load_of b target
   unfolding load_of load_refusal outcome first_of only_if
   load_short h = rw (ne_eqb (length target) sheet_length h)
 
@@ -33,7 +33,7 @@ module _ (b target : List ℕ) where
   load_done h e = rw (eq-eqb (length target) sheet_length h, e)
 
 module _ (s b out : List ℕ) where
-  pub write_none : is_sheet s ≡ false → after_call (refused sheet-refused) out ≡ write_of s b out
+  pub write_none : is_sheet s ≡ false → after_call (refused sheet_refused) out ≡ write_of s b out
   unfolding write_of write_refusal outcome first_of only_if
   write_none h = rw h
 
@@ -45,7 +45,7 @@ module _ (s b out : List ℕ) where
       is_sheet s ≡ true →
       book_refusal b ≡ none →
       (options_of b ≡ options_in s → ⊥) →
-      after_call (refused sheet-refused) out ≡ write_of s b out
+      after_call (refused sheet_refused) out ≡ write_of s b out
   unfolding write_of write_refusal outcome first_of only_if
   write_other h e n = rw (h, e, ne_eqb (options_of b) (options_in s) n)
 
@@ -54,7 +54,7 @@ module _ (s b out : List ℕ) where
       book_refusal b ≡ none →
       options_of b ≡ options_in s →
       length out < length (written s b) →
-      after_call (refused output-refused) out ≡ write_of s b out
+      after_call (refused output_refused) out ≡ write_of s b out
   unfolding write_of write_refusal outcome first_of only_if
   write_short h e n l =
       rw (h, e, eq-eqb (options_of b) (options_in s) n, lt-ltb (length out) (length (written s b)) l)

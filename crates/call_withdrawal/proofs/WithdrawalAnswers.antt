@@ -15,7 +15,7 @@ use Rattle.model.specs.Code.{weight}
 use Rattle.model.specs.Limits.{most_weight, literal_weight, sheet_length}
 use Rattle.model.specs.Sheet.{options_in, nodes_in, is_sheet, sheet_of}
 use Rattle.model.specs.Book.{options_of, book_nodes}
-use Rattle.calls.specs.Refusals.{Refusal, sheet-refused, line_refused, full-refused}
+use Rattle.calls.specs.Refusals.{Refusal, sheet_refused, line_refused, full_refused}
 use Rattle.calls.specs.Outcomes.{refused, accepted}
 use Rattle.calls.specs.Lines.{most_lines, State, counted, without, moved_up, with_marks}
 use Rattle.calls.specs.Index.{fresh_count}
@@ -42,7 +42,7 @@ module _ (b : List ℕ) (c k : ℕ) where
   pub no_room :
       k < c →
       most_weight < weight (book_nodes b) + literal_weight * (c - 1) →
-      some full-refused ≡ line_refusal b c k
+      some full_refused ≡ line_refusal b c k
   unfolding line_refusal first_of only_if
   no_room h over = rw (lt-ltb k c h, lt-ltb most_weight (weight (book_nodes b) + literal_weight * (c - 1)) over)
 

@@ -7,11 +7,11 @@ use Rattle.model.specs.Base.{then}
 use Rattle.model.specs.Rules.{is_rule}
 use Rattle.model.specs.Sheet.{options_in, is_sheet}
 use Rattle.model.specs.Book.{head_in_limits, written}
-use Rattle.calls.specs.Refusals.{Refusal, due, ◌or-else◌}
-use Rattle.calls.specs.Refusals.{length-refused, head-refused, code-refused, contents-refused, body_refused, weight-refused}
-use Rattle.calls.specs.Refusals.{option-refused, full-refused, rule-refused, step-refused, sheet-refused, output-refused}
+use Rattle.calls.specs.Refusals.{Refusal, due, ◌or_else◌}
+use Rattle.calls.specs.Refusals.{length_refused, head_refused, code_refused, contents_refused, body_refused, weight_refused}
+use Rattle.calls.specs.Refusals.{option_refused, full_refused, rule_refused, step_refused, sheet_refused, output_refused}
 use Rattle.calls.specs.Conditions.{lacks_head, is_length_due, has_good_codes, has_good_contents, has_good_bodies, is_light}
-use Rattle.calls.specs.Refusals.{line_refused, list-refused, text-refused, size-refused, refusal_number}
+use Rattle.calls.specs.Refusals.{line_refused, list_refused, text_refused, size_refused, refusal_number}
 use Rattle.calls.specs.Lines.{State}
 use Rattle.calls.specs.Conditions.{has_option, has_code, is_full, applies, is_book_of, is_long_enough, is_shorter}
 use Rattle.calls.specs.Conditions.{leaves_too_much, has_lines_in_order, has_line, has_full_list}
@@ -20,57 +20,57 @@ use Rattle.calls.specs.Conditions.{has_short_index, has_stale_index, is_clause_f
 -- What is tested of a book once its head and its length are right.
 unfoldable pub part_refusal : List ℕ → Option Refusal
 part_refusal b =
-    due (not (has_good_codes b)) code-refused
-    or_else due (not (has_good_contents b)) contents-refused
+    due (not (has_good_codes b)) code_refused
+    or_else due (not (has_good_contents b)) contents_refused
     or_else due (not (has_good_bodies b)) body_refused
-    or_else due (not (is_light b)) weight-refused
+    or_else due (not (is_light b)) weight_refused
 
 unfoldable pub book_refusal : List ℕ → Option Refusal
 book_refusal b =
-    due (lacks_head b) length-refused
-    or_else due (not (head_in_limits b)) head-refused
-    or_else due (not (is_length_due b)) length-refused
+    due (lacks_head b) length_refused
+    or_else due (not (head_in_limits b)) head_refused
+    or_else due (not (is_length_due b)) length_refused
     or_else part_refusal b
 
 unfoldable pub lookup_refusal : List ℕ → List ℕ → Option Refusal
-lookup_refusal b code = book_refusal b or_else due (not (has_code b code)) option-refused
+lookup_refusal b code = book_refusal b or_else due (not (has_code b code)) option_refused
 
 unfoldable pub load_refusal : List ℕ → List ℕ → Option Refusal
-load_refusal b target = due (not (is_long_enough target)) sheet-refused or_else book_refusal b
+load_refusal b target = due (not (is_long_enough target)) sheet_refused or_else book_refusal b
 
 unfoldable pub write_refusal : List ℕ → List ℕ → List ℕ → Option Refusal
 write_refusal s b out =
-    due (not (is_sheet s)) sheet-refused
+    due (not (is_sheet s)) sheet_refused
     or_else book_refusal b
-    or_else due (not (is_book_of s b)) sheet-refused
-    or_else due (is_shorter out (length (written s b))) output-refused
+    or_else due (not (is_book_of s b)) sheet_refused
+    or_else due (is_shorter out (length (written s b))) output_refused
 
 -- Document 02, U1: "Refusal 12 is now for a shorter output only."
 unfoldable pub report_refusal : List ℕ → List ℕ → Option Refusal
 report_refusal s out =
-    due (not (is_sheet s)) sheet-refused or_else due (is_shorter out (options_in s)) output-refused
+    due (not (is_sheet s)) sheet_refused or_else due (is_shorter out (options_in s)) output_refused
 
 unfoldable pub key_refusal : State → ℕ → Option Refusal
 key_refusal t v =
-    due (not (is_sheet t.sheet)) sheet-refused
-    or_else due (not (has_lines_in_order t)) sheet-refused
-    or_else due (has_full_list t) list-refused
-    or_else due (not (has_option t.sheet v)) option-refused
-    or_else due (is_full t.sheet) full-refused
+    due (not (is_sheet t.sheet)) sheet_refused
+    or_else due (not (has_lines_in_order t)) sheet_refused
+    or_else due (has_full_list t) list_refused
+    or_else due (not (has_option t.sheet v)) option_refused
+    or_else due (is_full t.sheet) full_refused
 
 -- A sheet with a book and lines lent beside it. Document 02, U2: "Every 11 but the sheet's own is tested after 6, with that for N."
 unfoldable pub order_refusal : State → List ℕ → Option Refusal
 order_refusal t b =
-    due (not (is_sheet t.sheet)) sheet-refused
+    due (not (is_sheet t.sheet)) sheet_refused
     or_else book_refusal b
-    or_else due (not (is_book_of t.sheet b)) sheet-refused
-    or_else due (not (has_lines_in_order t)) sheet-refused
+    or_else due (not (is_book_of t.sheet b)) sheet_refused
+    or_else due (not (has_lines_in_order t)) sheet_refused
 
 unfoldable pub withdraw_refusal : State → List ℕ → ℕ → Option Refusal
 withdraw_refusal t b k =
     order_refusal t b
     or_else due (not (has_line t k)) line_refused
-    or_else due (leaves_too_much t b) full-refused
+    or_else due (leaves_too_much t b) full_refused
 
 -- Document 02, U6: book and choices "are lent with the sheet, and checked by 1 to 6 and 11 as for a withdrawal, by no others".
 unfoldable pub complete_refusal : State → List ℕ → Option Refusal
@@ -79,24 +79,24 @@ complete_refusal t b = order_refusal t b
 -- Document 02, U4: "refusal 9 is for rules outside 1 to 17".
 unfoldable pub step_refusal : List ℕ → ℕ → ℕ → ℕ → ℕ → Option Refusal
 step_refusal s rule place i j =
-    due (not (is_sheet s)) sheet-refused
-    or_else due (not (is_rule rule)) rule-refused
-    or_else due (not (applies s rule place i j)) step-refused
+    due (not (is_sheet s)) sheet_refused
+    or_else due (not (is_rule rule)) rule_refused
+    or_else due (not (applies s rule place i j)) step_refused
 
 unfoldable pub run_refusal : List ℕ → Option Refusal
-run_refusal s = due (not (is_sheet s)) sheet-refused
+run_refusal s = due (not (is_sheet s)) sheet_refused
 
 -- Document 02, U5: the call that fills an index, "from any sheet, whatever it held".
 unfoldable pub fill_refusal : List ℕ → List ℕ → Option Refusal
 fill_refusal s index =
-    due (not (is_sheet s)) sheet-refused or_else due (has_short_index s index) output-refused
+    due (not (is_sheet s)) sheet_refused or_else due (has_short_index s index) output_refused
 
 -- Document 02, U7: "15 goes first, 12 last."
 unfoldable pub import_refusal : List ℕ → List ℕ → Option Refusal
 import_refusal text out =
-    due (not (is_clause_file text)) text-refused
-    or_else due (gives_too_much text) size-refused
-    or_else due (is_shorter out (length (imported text))) output-refused
+    due (not (is_clause_file text)) text_refused
+    or_else due (gives_too_much text) size_refused
+    or_else due (is_shorter out (length (imported text))) output_refused
 
 -- The refusals that come before the 11 of an index: a book's, 1 to 6, and every other 11.
 unfoldable pub is_early : Refusal → Bool
@@ -110,6 +110,6 @@ early own = then own (λ r. due (is_early r) r)
 unfoldable pub index_refusal : List ℕ → List ℕ → Option Refusal → Option Refusal
 index_refusal s index own =
     early own
-    or_else due (has_stale_index s index) sheet-refused
+    or_else due (has_stale_index s index) sheet_refused
     or_else own
-    or_else due (has_short_index s index) output-refused
+    or_else due (has_short_index s index) output_refused

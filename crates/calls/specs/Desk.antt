@@ -5,7 +5,7 @@ use Rattle.model.specs.Limits.{sheet_length}
 use Rattle.model.specs.Book.{codes_of, characters}
 use Rattle.model.specs.Literal.{pos}
 use Rattle.texts.specs.Decimals.{decimal}
-use Rattle.calls.specs.Refusals.{refusal_number, option-refused, list-refused}
+use Rattle.calls.specs.Refusals.{refusal_number, option_refused, list_refused}
 use Rattle.calls.specs.Outcomes.{Answer, refused, accepted, Outcome}
 use Rattle.calls.specs.Lines.{most_lines, State}
 use Rattle.calls.specs.Conditions.{has_full_list}
@@ -27,15 +27,15 @@ key_found (accepted v) negative t = key_of t v negative
 
 -- "+ or - and a code (any other line, an empty one too, is 7)."
 unfoldable pub key_signed : List ℕ → List ℕ → State → Outcome State (Unit {0})
-key_signed book [] t = record { answer = refused option-refused; lent = t }
+key_signed book [] t = record { answer = refused option_refused; lent = t }
 key_signed book (x ∷ code) t =
     pick (eqb x 43)
     (key_found (lookup_of book code) false t)
-    (pick (eqb x 45) (key_found (lookup_of book code) true t) (record { answer = refused option-refused; lent = t }))
+    (pick (eqb x 45) (key_found (lookup_of book code) true t) (record { answer = refused option_refused; lent = t }))
 
 -- Document 02, U2: "its 65th line is 14 whatever it holds".
 unfoldable pub keyed : List ℕ → List ℕ → State → Outcome State (Unit {0})
-keyed book l t = pick (has_full_list t) (record { answer = refused list-refused; lent = t }) (key_signed book l t)
+keyed book l t = pick (has_full_list t) (record { answer = refused list_refused; lent = t }) (key_signed book l t)
 
 -- "It keys them in order"; a refusal "ends the program".
 unfoldable pub go_on : Answer (Unit {0}) → State → (State → Outcome State (Unit {0})) → Outcome State (Unit {0})

@@ -4,7 +4,7 @@ use Rattle.std.specs.Prelude.{Bool, true, false, List, [], ◌∷◌, ◌++◌, 
 use Rattle.model.specs.Literal.{Literal, pos, neg}
 use Rattle.model.specs.Propagation.{complete}
 use Rattle.model.specs.Sheet.{report_in}
-use Rattle.calls.specs.Refusals.{sheet-refused}
+use Rattle.calls.specs.Refusals.{sheet_refused}
 use Rattle.calls.specs.Outcomes.{Answer, refused, accepted}
 use Rattle.calls.specs.Calls.{complete_of}
 use Rattle.case_samples.specs.Opened.{definitions}
@@ -151,11 +151,11 @@ lines_lent =
 
 pub lines_lent_so :
     lines_lent
-    ≡ refused sheet-refused
-    ∷ refused sheet-refused
+    ≡ refused sheet_refused
+    ∷ refused sheet_refused
     ∷ accepted true
-    ∷ refused sheet-refused
-    ∷ refused sheet-refused
+    ∷ refused sheet_refused
+    ∷ refused sheet_refused
     ∷ []
 unfolding definitions samples asked lines_lent
 lines_lent_so = refl

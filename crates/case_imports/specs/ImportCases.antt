@@ -5,7 +5,7 @@ use Prim.Native.String.{String}
 use Rattle.model.specs.Literal.{pos, neg}
 use Rattle.texts.specs.ClauseFile.{file_of}
 use Rattle.texts.specs.ClauseBook.{is_too_large}
-use Rattle.calls.specs.Refusals.{output-refused, text-refused, size-refused}
+use Rattle.calls.specs.Refusals.{output_refused, text_refused, size_refused}
 use Rattle.calls.specs.Outcomes.{Answer, refused, accepted}
 use Rattle.calls.specs.Calls.{import_of}
 use Rattle.case_samples.specs.Opened.{definitions}
@@ -16,9 +16,9 @@ use Rattle.case_samples.specs.Imports.{imports, gives, spelling}
 pub files_read :
     map
     (λ t. file_of (text t))
-    ("p cnf 3 2\n3 -1 2 0\n-3 0"
+    ("p cnf 3 2\n3 -1 2 0\n_3 0"
     ∷ "p cnf 0 0"
-    ∷ "p cnf 100000000000000000000 1\n-100000000000000000000 0"
+    ∷ "p cnf 100000000000000000000 1\n_100000000000000000000 0"
     ∷ "p cnf 3 1\n4 0"
     ∷ [])
     ≡ some (record { options = 3; clauses = (pos 2 ∷ neg 0 ∷ pos 1 ∷ []) ∷ (neg 2 ∷ []) ∷ [] })
@@ -51,8 +51,8 @@ bytes_given = refl
 pub books_given :
     map
     imports
-    ("p cnf 3 6\n3 1 1 0\n0\n-2 0\n2 -2 0\n-3 -1 -3 2 0\n-2 0\n"
-    ∷ "p cnf 4 1\n-3 1 0\n"
+    ("p cnf 3 6\n3 1 1 0\n0\n_2 0\n2 -2 0\n_3 -1 -3 2 0\n_2 0\n"
+    ∷ "p cnf 4 1\n_3 1 0\n"
     ∷ "p cnf 1 3\n1 0 -1 0 0\n"
     ∷ "p cnf 12 1\n9 10 -12 -11 1 0\n"
     ∷ [])
@@ -87,7 +87,7 @@ pub up_to_long_v_too_large :
     map
     answers
     ("p cnf 123456789012345678901 1\n123456789012345678901 0"
-    ∷ "p cnf 123456789012345678901 1\n-123456789012345678901 0"
+    ∷ "p cnf 123456789012345678901 1\n_123456789012345678901 0"
     ∷ "p cnf 123456789012345678901 1\n123456789012345678900 0"
     ∷ "p cnf 123456789012345678901 1\n123456788999999999999 0"
     ∷ "p cnf 123456789012345678901 1\n99999999999999999999 0"
@@ -95,7 +95,7 @@ pub up_to_long_v_too_large :
     ∷ "p cnf 123456789012345678901 0"
     ∷ "p cnf 18446744073709551617 1\n1 2 0"
     ∷ [])
-    ≡ replicate 8 (refused size-refused)
+    ≡ replicate 8 (refused size_refused)
 unfolding definitions samples answered answers
 up_to_long_v_too_large = refl
 
@@ -104,18 +104,18 @@ pub past_long_v_refused :
     map
     answers
     ("p cnf 123456789012345678901 1\n123456789012345678902 0"
-    ∷ "p cnf 123456789012345678901 1\n-123456789012345678902 0"
+    ∷ "p cnf 123456789012345678901 1\n_123456789012345678902 0"
     ∷ "p cnf 123456789012345678901 1\n123456789112345678900 0"
     ∷ "p cnf 123456789012345678901 1\n223456789012345678901 0"
     ∷ "p cnf 123456789012345678901 1\n1000000000000000000000 0"
     ∷ "p cnf 123456789012345678901 1\n0123456789012345678901 0"
     ∷ "p cnf 1 1\n18446744073709551617 0"
-    ∷ "p cnf 1 1\n-340282366920938463463374607431768211457 0"
+    ∷ "p cnf 1 1\n_340282366920938463463374607431768211457 0"
     ∷ "p cnf 1 1\n18446744073709551616"
     ∷ "p cnf 1 18446744073709551617\n1 0"
     ∷ "p cnf 0 18446744073709551616"
     ∷ [])
-    ≡ replicate 11 (refused text-refused)
+    ≡ replicate 11 (refused text_refused)
 unfolding definitions samples answered answers
 past_long_v_refused = refl
 
@@ -125,8 +125,8 @@ times n t = joined (replicate n (text t))
 
 -- "16 V over 512": 512 options, the last of them barred, whose last codes are V511 and V512; 513 options.
 pub most_options :
-    answered (text "p cnf 512 1\n-512 0") 6672 ∷ answered (text "p cnf 513 0") 6677 ∷ []
-    ≡ accepted 6672 ∷ refused size-refused ∷ []
+    answered (text "p cnf 512 1\n_512 0") 6672 ∷ answered (text "p cnf 513 0") 6677 ∷ []
+    ≡ accepted 6672 ∷ refused size_refused ∷ []
 unfolding definitions samples answered
 most_options = refl
 
@@ -148,7 +148,7 @@ pub heaviest_texts :
     answered (text "p cnf 1 1\n" ++ (times 2047 "-1 " ++ text "0")) 4121
     ∷ answered (text "p cnf 1 2\n" ++ (times 2047 "-1 " ++ text "0 0")) 4127
     ∷ []
-    ≡ accepted 4121 ∷ refused size-refused ∷ []
+    ≡ accepted 4121 ∷ refused size_refused ∷ []
 unfolding definitions samples answered times
 heaviest_texts = refl
 
@@ -162,32 +162,32 @@ pub in_order :
     ∷ answered (text "p cnf 0 0") 0
     ∷ answered (text "") 0
     ∷ []
-    ≡ replicate 3 (refused text-refused)
-    ++ (refused size-refused ∷ [])
-    ++ replicate 2 (refused output-refused)
-    ++ (refused text-refused ∷ [])
+    ≡ replicate 3 (refused text_refused)
+    ++ (refused size_refused ∷ [])
+    ++ replicate 2 (refused output_refused)
+    ++ (refused text_refused ∷ [])
 unfolding definitions samples answered
 in_order = refl
 
 -- The output, "by the writer's rules for its output": it "fills from the start and returns the length; bytes beyond stay". Just long enough;
 -- a byte too short; longer; and what it held before a text that is too large, or none.
 pub outputs_filled :
-    import_of (text "p cnf 1 1\n-1 0") (replicate 29 7)
-    ∷ import_of (text "p cnf 1 1\n-1 0") (replicate 28 7)
-    ∷ import_of (text "p cnf 1 1\n-1 0") (replicate 29 7 ++ (1 ∷ 2 ∷ 3 ∷ []))
+    import_of (text "p cnf 1 1\n_1 0") (replicate 29 7)
+    ∷ import_of (text "p cnf 1 1\n_1 0") (replicate 28 7)
+    ∷ import_of (text "p cnf 1 1\n_1 0") (replicate 29 7 ++ (1 ∷ 2 ∷ 3 ∷ []))
     ∷ import_of (text "p cnf 0 0") (1 ∷ 2 ∷ 3 ∷ 4 ∷ 5 ∷ 6 ∷ 7 ∷ 8 ∷ 9 ∷ [])
     ∷ import_of (text "p cnf 0 0") (1 ∷ 2 ∷ 3 ∷ 4 ∷ 5 ∷ 6 ∷ 7 ∷ [])
     ∷ import_of (text "p cnf 513 0") (replicate 6700 7)
-    ∷ import_of (text "p cnf 1 1\n-1 1") (1 ∷ 2 ∷ 3 ∷ [])
+    ∷ import_of (text "p cnf 1 1\n_1 1") (1 ∷ 2 ∷ 3 ∷ [])
     ∷ []
     ≡ (let b = book ("V1" ∷ []) ((any_of 1 ∷ not_P ∷ []) ∷ []) in
     record { answer = accepted 29; lent = b }
-    ∷ record { answer = refused output-refused; lent = replicate 28 7 }
+    ∷ record { answer = refused output_refused; lent = replicate 28 7 }
     ∷ record { answer = accepted 29; lent = b ++ (1 ∷ 2 ∷ 3 ∷ []) }
     ∷ record { answer = accepted 8; lent = replicate 8 0 ++ (9 ∷ []) }
-    ∷ record { answer = refused output-refused; lent = 1 ∷ 2 ∷ 3 ∷ 4 ∷ 5 ∷ 6 ∷ 7 ∷ [] }
-    ∷ record { answer = refused size-refused; lent = replicate 6700 7 }
-    ∷ record { answer = refused text-refused; lent = 1 ∷ 2 ∷ 3 ∷ [] }
+    ∷ record { answer = refused output_refused; lent = 1 ∷ 2 ∷ 3 ∷ 4 ∷ 5 ∷ 6 ∷ 7 ∷ [] }
+    ∷ record { answer = refused size_refused; lent = replicate 6700 7 }
+    ∷ record { answer = refused text_refused; lent = 1 ∷ 2 ∷ 3 ∷ [] }
     ∷ [])
 unfolding definitions samples
 outputs_filled = refl

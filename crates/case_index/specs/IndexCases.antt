@@ -2,7 +2,7 @@
 -- (65,535 if none)."
 use Rattle.std.specs.Prelude.{true, false, List, [], ◌∷◌, ◌++◌, map, ◌≡◌, refl, ℕ, replicate}
 use Rattle.model.specs.Literal.{pos, neg}
-use Rattle.calls.specs.Refusals.{option-refused, sheet-refused, output-refused}
+use Rattle.calls.specs.Refusals.{option_refused, sheet_refused, output_refused}
 use Rattle.calls.specs.Outcomes.{Outcome, refused, accepted}
 use Rattle.calls.specs.Lines.{State}
 use Rattle.calls.specs.Index.{fresh_count, Indexed}
@@ -74,8 +74,8 @@ pub fills_so :
     fills
     ≡ record { answer = accepted tt; lent = of_nested }
     ∷ record { answer = accepted tt; lent = of_nested ++ (7 ∷ 65536 ∷ []) }
-    ∷ record { answer = refused output-refused; lent = replicate 5 9 }
-    ∷ record { answer = refused sheet-refused; lent = replicate 6 9 }
+    ∷ record { answer = refused output_refused; lent = replicate 5 9 }
+    ∷ record { answer = refused sheet_refused; lent = replicate 6 9 }
     ∷ record { answer = accepted tt; lent = 5 ∷ [] }
     ∷ []
 unfolding definitions samples nested of_nested fills
@@ -157,10 +157,10 @@ kept =
 pub kept_so :
     let t = lined nested (pos 0 ∷ []) 1 in
     kept
-    ≡ record { answer = refused option-refused; lent = record { own = t; index = of_nested } }
-    ∷ record { answer = refused sheet-refused; lent = record { own = t; index = 2 ∷ 2 ∷ 0 ∷ 65535 ∷ 2 ∷ 6 ∷ [] } }
-    ∷ record { answer = refused sheet-refused; lent = record { own = t; index = 2 ∷ 2 ∷ 1 ∷ 65535 ∷ 2 ∷ 4 ∷ [] } }
-    ∷ record { answer = refused output-refused; lent = record { own = t; index = 2 ∷ 2 ∷ 0 ∷ 65535 ∷ 2 ∷ [] } }
+    ≡ record { answer = refused option_refused; lent = record { own = t; index = of_nested } }
+    ∷ record { answer = refused sheet_refused; lent = record { own = t; index = 2 ∷ 2 ∷ 0 ∷ 65535 ∷ 2 ∷ 6 ∷ [] } }
+    ∷ record { answer = refused sheet_refused; lent = record { own = t; index = 2 ∷ 2 ∷ 1 ∷ 65535 ∷ 2 ∷ 4 ∷ [] } }
+    ∷ record { answer = refused output_refused; lent = record { own = t; index = 2 ∷ 2 ∷ 0 ∷ 65535 ∷ 2 ∷ [] } }
     ∷ []
 unfolding definitions samples nested of_nested kept
 kept_so = refl

@@ -1,7 +1,7 @@
 -- Document 02, U2: one keying and one withdrawal, slot by slot.
 use Rattle.std.specs.Prelude.{true, false, List, [], ◌∷◌, ◌++◌, map, ◌≡◌, refl, ℕ, ◌+◌, ◌/◌, ◌%◌, replicate}
 use Rattle.model.specs.Literal.{Literal, pos, neg}
-use Rattle.calls.specs.Refusals.{full-refused}
+use Rattle.calls.specs.Refusals.{full_refused}
 use Rattle.calls.specs.Outcomes.{Outcome, refused, accepted}
 use Rattle.calls.specs.Lines.{State}
 use Rattle.calls.specs.Calls.{key_of, withdraw_of}
@@ -36,7 +36,7 @@ last_keyed_so = refl
 unfoldable pub full : State
 full = lined (sheet 1 (root 1 ∷ any_of 2047 ∷ replicate 2047 P)) (pos 0 ∷ neg 300 ∷ []) 1
 
-pub refused_so : key_of full 0 true ≡ record { answer = refused full-refused; lent = full }
+pub refused_so : key_of full 0 true ≡ record { answer = refused full_refused; lent = full }
 unfolding definitions samples full
 refused_so = refl
 

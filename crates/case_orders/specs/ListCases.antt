@@ -21,7 +21,7 @@ after_first_choice = lined (sheet 2 (root 2 ∷ any_of 2 ∷ P ∷ Q ∷ not_Q �
 
 -- Document 02, U5: each call names an index. For P and for Q: how many marks, and where the first stands.
 abbrev pub mentions : ℕ → ℕ → ℕ → ℕ → List ℕ
-mentions p at_p q at-q = p ∷ at_p ∷ q ∷ at-q ∷ []
+mentions p at_p q at_q = p ∷ at_p ∷ q ∷ at_q ∷ []
 
 -- A stretch: no such option, a run of one step, a step that does not apply, a choice whose index is not the fresh count, a step that
 -- applies, a run whose index is too short.

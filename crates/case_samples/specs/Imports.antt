@@ -1,7 +1,7 @@
 -- What the cases of clause files are spelled with: imports into an output of 200 bytes that hold 7 each, and what may come of them.
 use Rattle.std.specs.Prelude.{List, ◌∷◌, [], ◌++◌, ℕ, ◌-◌, length, replicate}
 use Prim.Native.String.{String}
-use Rattle.calls.specs.Refusals.{text-refused}
+use Rattle.calls.specs.Refusals.{text_refused}
 use Rattle.calls.specs.Outcomes.{refused, accepted, Outcome}
 use Rattle.calls.specs.Calls.{import_of}
 use Rattle.case_samples.specs.Samples.{text, book}
@@ -29,7 +29,7 @@ gives cs rs = record { answer = accepted (length (book cs rs)); lent = book cs r
 
 -- "15 text of any other form": and nothing is written.
 unfoldable pub no_file : Outcome (List ℕ) ℕ
-no_file = record { answer = refused text-refused; lent = replicate 200 7 }
+no_file = record { answer = refused text_refused; lent = replicate 200 7 }
 
 -- What all of these see through, by one name.
 unfoldable pub spelling : Unit {0}

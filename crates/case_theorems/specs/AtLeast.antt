@@ -51,11 +51,11 @@ some_are (l ∷ ls) zero c m =
 some_are (l ∷ ls) (suc r) c m =
     let fewer = some_are ls r in
     let same = some_are ls (suc r) c in
-    let with-l = map (λ d. l ∷ d) (some_of (marks ls) r) in
+    let with_l = map (λ d. l ∷ d) (some_of (marks ls) r) in
     ⊎_elim
-    (λ m. with_first fewer (Memᴰ.of_map (λ d. l ∷ d) (some_of (marks ls) r) (rw (append-nil with-l) at m)))
+    (λ m. with_first fewer (Memᴰ.of_map (λ d. l ∷ d) (some_of (marks ls) r) (rw (append-nil with_l) at m)))
     (λ m. let w = same m in (left w.0, w.1))
-    (Memᴰ.append_cases (with-l ++ []) m)
+    (Memᴰ.append_cases (with_l ++ []) m)
   where
     with_first :
         ((d : Clause) → Memᴰ d (some_of (marks ls) r) → Some d ls × (length d ≡ r)) →

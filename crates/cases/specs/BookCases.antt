@@ -1,7 +1,7 @@
 -- Small books: what the book check, the code lookup, the loader and the writer make of them.
 use Rattle.std.specs.Prelude.{List, [], ◌∷◌, ◌++◌, map, ◌≡◌, refl, ℕ, ◌+◌, ◌-◌, ◌*◌, ◌/◌, ◌%◌, take, replicate}
 use Prim.Native.String.{String}
-use Rattle.calls.specs.Refusals.{option-refused}
+use Rattle.calls.specs.Refusals.{option_refused}
 use Rattle.calls.specs.Outcomes.{Answer, refused, accepted, Outcome}
 use Rattle.calls.specs.Calls.{check_of, lookup_of, load_of, write_of}
 use Rattle.case_samples.specs.Opened.{definitions}
@@ -194,8 +194,8 @@ lookups =
 
 pub lookups_answered :
     lookups
-    ≡ accepted 0 ∷ accepted 1 ∷ replicate 5 (refused option-refused)
-    ++ (accepted 0 ∷ accepted 1 ∷ replicate 2 (refused option-refused))
+    ≡ accepted 0 ∷ accepted 1 ∷ replicate 5 (refused option_refused)
+    ++ (accepted 0 ∷ accepted 1 ∷ replicate 2 (refused option_refused))
 unfolding definitions samples lookups
 lookups_answered = refl
 

@@ -1,7 +1,7 @@
 -- One call at a time: reports on sheets with kind 6 before any step, of a chain, into outputs of any length; runs with any budget; choices
 -- of high options, and the last that fits.
 use Rattle.std.specs.Prelude.{Bool, true, false, List, [], ◌∷◌, ◌++◌, map, ◌≡◌, refl, ℕ, ◌+◌, replicate}
-use Rattle.calls.specs.Refusals.{output-refused}
+use Rattle.calls.specs.Refusals.{output_refused}
 use Rattle.calls.specs.Outcomes.{refused, accepted, Outcome}
 use Rattle.calls.specs.Lines.{State}
 use Rattle.calls.specs.Calls.{Ran, key_of, run_of, report_of}
@@ -91,7 +91,7 @@ outputs =
     ∷ map (λ s. report_of s (7 ∷ [])) (sheet 0 (root 0 ∷ []) ∷ sheet 0 (root 1 ∷ False ∷ []) ∷ []))
 
 abbrev pub too_short : List ℕ → Outcome (List ℕ) Bool
-too_short out = record { answer = refused output-refused; lent = out }
+too_short out = record { answer = refused output_refused; lent = out }
 
 pub outputs_filled :
     outputs

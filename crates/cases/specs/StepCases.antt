@@ -5,7 +5,7 @@ use Rattle.model.specs.Base.{maybe}
 use Rattle.model.specs.Code.{node_of, number_of}
 use Rattle.model.specs.Rules.{step}
 use Rattle.model.specs.Strategy.{Redex, redex, next}
-use Rattle.calls.specs.Refusals.{rule-refused, step-refused}
+use Rattle.calls.specs.Refusals.{rule_refused, step_refused}
 use Rattle.calls.specs.Outcomes.{refused, accepted, Outcome}
 use Rattle.calls.specs.Calls.{step_of}
 use Rattle.case_samples.specs.Opened.{definitions}
@@ -373,11 +373,11 @@ answers =
 pub steps_answered :
     answers
     ≡ record { answer = accepted tt; lent = sheet 1 (root 1 ∷ P ∷ []) }
-    ∷ record { answer = refused step-refused; lent = sheet 1 (root 1 ∷ all_of 1 ∷ P ∷ []) }
-    ∷ record { answer = refused step-refused; lent = sheet 1 (root 1 ∷ all_of 1 ∷ P ∷ []) }
-    ∷ record { answer = refused step-refused; lent = sheet 1 (root 1 ∷ all_of 1 ∷ P ∷ []) }
-    ∷ record { answer = refused rule-refused; lent = sheet 1 (root 1 ∷ all_of 1 ∷ P ∷ []) }
-    ∷ record { answer = refused rule-refused; lent = sheet 1 (root 1 ∷ all_of 1 ∷ P ∷ []) }
+    ∷ record { answer = refused step_refused; lent = sheet 1 (root 1 ∷ all_of 1 ∷ P ∷ []) }
+    ∷ record { answer = refused step_refused; lent = sheet 1 (root 1 ∷ all_of 1 ∷ P ∷ []) }
+    ∷ record { answer = refused step_refused; lent = sheet 1 (root 1 ∷ all_of 1 ∷ P ∷ []) }
+    ∷ record { answer = refused rule_refused; lent = sheet 1 (root 1 ∷ all_of 1 ∷ P ∷ []) }
+    ∷ record { answer = refused rule_refused; lent = sheet 1 (root 1 ∷ all_of 1 ∷ P ∷ []) }
     ∷ []
 unfolding definitions samples answers
 steps_answered = refl

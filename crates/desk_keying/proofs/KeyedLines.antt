@@ -15,7 +15,7 @@ use Rattle.model.specs.Base.{pick}
 use Rattle.model.specs.Literal.{literal}
 use Rattle.model.specs.Limits.{most_options}
 use Rattle.model.specs.Results.{appended}
-use Rattle.calls.specs.Refusals.{Refusal, option-refused, list-refused}
+use Rattle.calls.specs.Refusals.{Refusal, option_refused, list_refused}
 use Rattle.calls.specs.Outcomes.{Answer, refused, accepted, Outcome, outcome}
 use Rattle.calls.specs.Lines.{most_lines, State}
 use Rattle.calls.specs.Chains.{key_refusal}
@@ -42,7 +42,7 @@ by_sign book [] t = refl
 by_sign book (x ∷ code) t = go (eqb x 43) refl (eqb x 45) refl
   where
     none : Outcome State (Unit {0})
-    none = record { answer = refused option-refused; lent = t }
+    none = record { answer = refused option_refused; lent = t }
 
     go :
         (plus : Bool) →
@@ -50,7 +50,7 @@ by_sign book (x ∷ code) t = go (eqb x 43) refl (eqb x 45) refl
         (minus : Bool) →
         eqb x 45 ≡ minus →
         pick plus (key_found (lookup_of book code) false t) (pick minus (key_found (lookup_of book code) true t) none)
-        ≡ key_found (pick (plus || minus) (lookup_of book code) (refused option-refused)) minus t
+        ≡ key_found (pick (plus || minus) (lookup_of book code) (refused option_refused)) minus t
     go true e true f = absurd (omega (arith, eqb-true x 43 e, eqb-true x 45 f))
     go true e false f = refl
     go false e true f = refl
@@ -58,12 +58,12 @@ by_sign book (x ∷ code) t = go (eqb x 43) refl (eqb x 45) refl
 
 -- The option of a line, by its first byte.
 module _ (book : List ℕ) where
-  pub asked_nothing : (l : List ℕ) → length l ≡ 0 → refused option-refused ≡ asked book l
+  pub asked_nothing : (l : List ℕ) → length l ≡ 0 → refused option_refused ≡ asked book l
   unfolding asked
   asked_nothing [] e = refl
   asked_nothing (x ∷ l) e = absurd (omega (arith, e))
 
-  pub asked_unsigned : (l : List ℕ) → (eqb (get_or l 0 0) 43 || eqb (get_or l 0 0) 45) ≡ false → refused option-refused ≡ asked book l
+  pub asked_unsigned : (l : List ℕ) → (eqb (get_or l 0 0) 43 || eqb (get_or l 0 0) 45) ≡ false → refused option_refused ≡ asked book l
   unfolding asked pick
   asked_unsigned [] e = refl
   asked_unsigned (x ∷ l) e = rw e
@@ -79,7 +79,7 @@ unfolding asked pick
 asked_small book [] v e = let z : ◌≡◌ {A = ℕ} 0 1 = cc in absurd (omega arith)
 asked_small book (x ∷ code) v e = (omega arith, go (eqb x 43 || eqb x 45) e)
   where
-    go : (sign : Bool) → pick sign (lookup_of book code) (refused option-refused) ≡ accepted v → v ≤ most_options
+    go : (sign : Bool) → pick sign (lookup_of book code) (refused option_refused) ≡ accepted v → v ≤ most_options
     go true e = found_small book code v (sym e)
     go false e = let z : ◌≡◌ {A = ℕ} 0 1 = cc in absurd (omega arith)
 
@@ -97,7 +97,7 @@ same_refusal {q} {r} {u} {w} e =
 -- A line on its own: where the list is full, where it names no option, and where it is keyed.
 module _ (book l s : List ℕ) (ls : List Line) (c : ℕ) where
   abbrev none_taken : Outcome State (Unit {0})
-  none_taken = record { answer = refused list-refused; lent = order s ls c }
+  none_taken = record { answer = refused list_refused; lent = order s ls c }
 
   keyed_is :
       keyed book l (order s ls c)
@@ -105,7 +105,7 @@ module _ (book l s : List ℕ) (ls : List Line) (c : ℕ) where
   unfolding keyed
   keyed_is = ap (pick (eqb c most_lines) none_taken) (by_sign book l (order s ls c))
 
-  pub line_full : c ≡ most_lines → after_call (refused list-refused) s ≡ line_keyed book l (order s ls c)
+  pub line_full : c ≡ most_lines → after_call (refused list_refused) s ≡ line_keyed book l (order s ls c)
   unfolding line_keyed with_option pick
   line_full e = rw (keyed_is, eq-eqb c most_lines e)
 

@@ -1,7 +1,7 @@
 -- Where the first line of the input ends; the option that a line asks for; answers with a number and without it.
 use Rattle.std.specs.Prelude.{◌||◌, List, [], ◌∷◌, ℕ, suc, eqb}
 use Rattle.model.specs.Base.{pick}
-use Rattle.calls.specs.Refusals.{option-refused}
+use Rattle.calls.specs.Refusals.{option_refused}
 use Rattle.calls.specs.Outcomes.{Answer, refused, accepted, Outcome}
 use Rattle.calls.specs.Lines.{State}
 use Rattle.calls.specs.Calls.{lookup_of}
@@ -14,8 +14,8 @@ ending (x ∷ xs) = pick (eqb x 10) 0 (suc (ending xs))
 
 -- The option of a line: a sign, plus or minus, and a code.
 unfoldable pub asked : List ℕ → List ℕ → Answer ℕ
-asked book [] = refused option-refused
-asked book (x ∷ code) = pick (eqb x 43 || eqb x 45) (lookup_of book code) (refused option-refused)
+asked book [] = refused option_refused
+asked book (x ∷ code) = pick (eqb x 43 || eqb x 45) (lookup_of book code) (refused option_refused)
 
 -- A number, where the answer beside it is no refusal.
 unfoldable pub with_option : Answer ℕ → Answer (Unit {0}) → Answer ℕ

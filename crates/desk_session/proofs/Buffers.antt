@@ -14,7 +14,7 @@ use Rattle.model.specs.Base.{pick, same_list, first_of, only_if, is_some, maybe}
 use Rattle.model.specs.Book.{word, options_of, rules_of, size_of, head_in_limits, length_due, same_code, characters, pieces}
 use Rattle.model.specs.Book.{codes_of, option_of_code}
 use Rattle.model.specs.Limits.{sheet_length}
-use Rattle.calls.specs.Refusals.{Refusal, length-refused, head-refused, option-refused, list-refused}
+use Rattle.calls.specs.Refusals.{Refusal, length_refused, head_refused, option_refused, list_refused}
 use Rattle.calls.specs.Outcomes.{Answer, refused, accepted, answer, Outcome, outcome}
 use Rattle.calls.specs.Lines.{Line, most_lines, State}
 use Rattle.calls.specs.Conditions.{has_full_list}
@@ -51,17 +51,17 @@ none_spelled given (suc n) v b h =
 
 -- What a line with such a code is refused for: its first byte, the book and the count say it alone.
 unfoldable unknown_due : List ℕ → Refusal
-unknown_due book = maybe option-refused (λ r. r) (book_refusal book)
+unknown_due book = maybe option_refused (λ r. r) (book_refusal book)
 
 unfoldable long_due : List ℕ → State → ℕ → Refusal
 long_due book t x =
-    pick (has_full_list t) list-refused (pick (eqb x 43) (unknown_due book) (pick (eqb x 45) (unknown_due book) option-refused))
+    pick (has_full_list t) list_refused (pick (eqb x 43) (unknown_due book) (pick (eqb x 45) (unknown_due book) option_refused))
 
 lookup_long : (book code : List ℕ) → 13 < length code → lookup_of book code ≡ refused (unknown_due book)
 unfolding lookup_of lookup_refusal unknown_due codes_of is_some only_if maybe answer first_of
 lookup_long book code h = rw (none_spelled code (options_of book) 0 (drop 8 book) h) (go (book_refusal book))
   where
-    go : (o : Option Refusal) → answer {A = ℕ} (first_of o (some option-refused)) 0 ≡ refused (maybe option-refused (λ r. r) o)
+    go : (o : Option Refusal) → answer {A = ℕ} (first_of o (some option_refused)) 0 ≡ refused (maybe option_refused (λ r. r) o)
     go none = refl
     go (some r) = refl
 
@@ -74,10 +74,10 @@ keyed_long book code t x h = rw (lookup_long book code h) (go (has_full_list t) 
   where
     go :
         (full plus minus : Bool) →
-        pick full (after_call {A = Unit {0}} (refused list-refused) t)
+        pick full (after_call {A = Unit {0}} (refused list_refused) t)
         (pick plus (after_call (refused (unknown_due book)) t)
-        (pick minus (after_call (refused (unknown_due book)) t) (after_call (refused option-refused) t)))
-        ≡ after_call (refused (pick full list-refused (pick plus (unknown_due book) (pick minus (unknown_due book) option-refused)))) t
+        (pick minus (after_call (refused (unknown_due book)) t) (after_call (refused option_refused) t)))
+        ≡ after_call (refused (pick full list_refused (pick plus (unknown_due book) (pick minus (unknown_due book) option_refused)))) t
     go true plus minus = refl
     go false true minus = refl
     go false false true = refl
@@ -113,7 +113,7 @@ signed_counts book (x ∷ code) t e = go (eqb x 43) (eqb x 45) e
         (plus minus : Bool) →
         let done =
         pick plus (key_found (lookup_of book code) false t)
-        (pick minus (key_found (lookup_of book code) true t) (record { answer = refused option-refused; lent = t })) in
+        (pick minus (key_found (lookup_of book code) true t) (record { answer = refused option_refused; lent = t })) in
         done.answer ≡ accepted tt →
         done.lent.count ≡ t.count + 1
     go true minus f = found_counts (lookup_of book code) false t f
@@ -126,7 +126,7 @@ keyed_counts book l t e = go (has_full_list t) e
   where
     go :
         (full : Bool) →
-        let done = pick full (record { answer = refused list-refused; lent = t }) (key_signed book l t) in
+        let done = pick full (record { answer = refused list_refused; lent = t }) (key_signed book l t) in
         done.answer ≡ accepted tt →
         done.lent.count ≡ t.count + 1
     go true f = let z : ◌≡◌ {A = ℕ} 0 1 = cc in absurd (omega arith)
@@ -237,7 +237,7 @@ one_line book (x ∷ ys) t (suc m) h later =
         (λ a. later (suc m - suc end) (drop (suc end) (x ∷ ys)) (keyed book l t).lent (omega arith) (keyed_counts book l t a)))
 
 -- With a full list any line is refused, whatever it holds.
-full_line : (book ys : List ℕ) (t : State) (x : ℕ) → t.count ≡ most_lines → all_keyed book (lines (x ∷ ys)) t ≡ after_call (refused list-refused) t
+full_line : (book ys : List ℕ) (t : State) (x : ℕ) → t.count ≡ most_lines → all_keyed book (lines (x ∷ ys)) t ≡ after_call (refused list_refused) t
 unfolding all_keyed keyed go_on pick
 full_line book ys t x e = rw (first_of_lines x ys, eq-eqb t.count most_lines e)
 
@@ -275,12 +275,12 @@ input_cut book input n loaded h =
 
 -- A book that is longer than any due length is refused by its head, or for its length.
 unfoldable too_long_due : List ℕ → Refusal
-too_long_due b = pick (head_in_limits b) length-refused head-refused
+too_long_due b = pick (head_in_limits b) length_refused head_refused
 
 head_or_length :
     (t u : Bool) (rest : Option Refusal) →
     (t ≡ true → u ≡ false) →
-    first_of (only_if (not t) head-refused) (first_of (only_if (not u) length-refused) rest) ≡ some (pick t length-refused head-refused)
+    first_of (only_if (not t) head_refused) (first_of (only_if (not u) length_refused) rest) ≡ some (pick t length_refused head_refused)
 unfolding first_of only_if pick
 head_or_length false u rest h = refl
 head_or_length true u rest h = rw (h refl)
@@ -332,7 +332,7 @@ book_cut book input =
     cut h =
         let long : length (take 65536 book) ≡ 65536 = length-take-le 65536 book (omega arith) in
         let same : too_long_due (take 65536 book) ≡ too_long_due book =
-        ap (λ t. pick t length-refused head-refused) (head_cut 65536 book (omega arith)) in
+        ap (λ t. pick t length_refused head_refused) (head_cut 65536 book (omega arith)) in
         sym (desk_refused (take 65536 book) (too_long_due book) (too_long (take 65536 book) (omega arith) ∙ ap some same))
         ∙ desk_refused book (too_long_due book) (too_long book (omega arith))
 

@@ -183,12 +183,12 @@ module _
                 State text body n rules old k first (next + 1) later l₁
             mark_more end later l₁ past e same far last =
                 let (m, f, room, after) = left_mark n contents bodies rules nodes made (word_at b) open_here (word_left end past) in
-                let same-mark : literal v barred ≡ m =
+                let same_mark : literal v barred ≡ m =
                 some_inj (sym told ∙ mark_wider n most_options (word_at b) good.few_options f) in
                 record {
                   within = last;
                   here = word_here text end later far;
                   in_order = omega (arith, s.in_order);
                   long = same ∙ s.long;
-                  left = rw (e, same-mark, words_same text end later far) after;
+                  left = rw (e, same_mark, words_same text end later far) after;
                 }

@@ -110,8 +110,8 @@ module _ {x : Family} {p i j : ℕ} {ns ms : List Node} (w : Turned x p i j ns m
   pub beside_place : (q : ℕ) → q < p → (Holds q p ns → ⊥) → first 1 (decode (drop q ns)) ≡ first 1 (decode (drop q ms))
   beside_place q lt out =
       let h = within_before lt in
-      let none-reached = fails_if (reaches (node_here q h) (nodes_after q) old_tree) (λ t. out (lt, reaches_holds q h t)) in
-      ap (first 1) (read_old q h) ∙ beside_onto (node_here q h) (nodes_after q) differs none-reached ∙ ap (first 1) (sym (read_new q h))
+      let none_reached = fails_if (reaches (node_here q h) (nodes_after q) old_tree) (λ t. out (lt, reaches_holds q h t)) in
+      ap (first 1) (read_old q h) ∙ beside_onto (node_here q h) (nodes_after q) differs none_reached ∙ ap (first 1) (sym (read_new q h))
 
   pub above_place : (q : ℕ) → Holds q p ns → after 1 (decode (drop q ns)) ≡ after 1 (decode (drop q ms))
   above_place q t =

@@ -134,9 +134,9 @@ module _ (c : Conn) (l : Literal) (a d f : Forest) {p : ℕ} {ns ms : List Node}
     after_literal : place < q → q < p + suc (length (encode (a ⊕ lit l d))) → Quiet s q ms
     unfolding ◌⊕◌ encode
     after_literal late within =
-        let literal-old = further old (past_children c a (lit l d) f) in
+        let literal_old = further old (past_children c a (lit l d) f) in
         let parts : length (encode (a ⊕ lit l d)) ≡ length (encode a) + suc (length (encode d)) = ap length (encode-⊕ a (lit l d)) ∙ length-append (encode a) (encode (lit l d)) in
-        part_inside c l d f f (further literal-old (rest_one _ _)) (further literal_new (rest_one _ _)) q s (omega arith) (omega arith) free quiet
+        part_inside c l d f f (further literal_old (rest_one _ _)) (further literal_new (rest_one _ _)) q s (omega arith) (omega arith) free quiet
 
     children_inside : p < q → q < p + suc (length (encode (a ⊕ lit l d))) → Quiet s q ms
     children_inside later within =

@@ -137,10 +137,10 @@ module _ {n : ℕ} {k m : Forest} (x : Alike (suc n) k m) (c : Conn) (i j : ℕ)
       has_unit a p ≡ has_unit a q →
       shares a k ≡ shares a m →
       Fades (only_if (literals_only (first i k) && not (has_unit a p) && shares a k && leb 2 (groups k)) g) (only_if (literals_only (first i m) && not (has_unit a q) && shares a m && leb 2 (groups m)) h)
-  factor_test a p q g h same-unit same-shares =
+  factor_test a p q g h same_unit same_shares =
       fades_same _ _ g h
       (ap₂ (λ s t. s && t)
-      (ap₂ (λ s t. s && t) (ap₂ (λ s t. s && not t) (alike_literals (alike_first i x)) same-unit) same-shares)
+      (ap₂ (λ s t. s && t) (ap₂ (λ s t. s && not t) (alike_literals (alike_first i x)) same_unit) same_shares)
       (ap (leb 2) (alike_groups x)))
 
   module _ (lift_fades : Fades (lift c i j k) (lift c i j m)) (factor_fades : Fades (factor c i j k) (factor c i j m)) where

@@ -31,7 +31,7 @@ pub use seplogic.Ra.TreeShare.{full_share}
 pub use seplogic.Ra.Ura.{Ura}
 pub use lib.Dec.{T, ltb, ltb→lt, nltb→le, eqb, eqb→eq}
 pub use lib.ListN.{length, get_or, set, length-set}
-pub use lib.WfN.{lt-wf_rel as Nat·lt-wfRel}
+pub use lib.WfN.{lt-wf_rel as Nat·lt_wf_rel}
 pub use mathlib.Core.Bool.{Bool, not, true, false}
 pub use mathlib.Core.List.{List, [], ◌∷◌, ◌++◌}
 pub use mathlib.Core.Path.{◌∙◌, refl, sym, ap, subst, ◌≡◌}

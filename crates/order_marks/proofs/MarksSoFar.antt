@@ -57,8 +57,8 @@ module _
     pub next_known : i < to → (get_or ls i blank).option < options_in s
     next_known h =
         let d = get_or ls i blank in
-        let all-long = length-take-le to (lines_of ls) (omega (arith, length-map ls line_of)) in
-        let below = known_at (options_in s) i (take to (lines_of ls)) (line_of blank) (omega (arith, all-long)) known in
+        let all_long = length-take-le to (lines_of ls) (omega (arith, length-map ls line_of)) in
+        let below = known_at (options_in s) i (take to (lines_of ls)) (line_of blank) (omega (arith, all_long)) known in
         let same : option (get_or (take to (lines_of ls)) i (line_of blank)) ≡ d.option =
         ap option (get_or-take to (lines_of ls) i (line_of blank) h ∙ get_or-map line_of ls i blank)
         ∙ option_literal d.option d.negative in

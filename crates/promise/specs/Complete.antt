@@ -13,7 +13,7 @@ use Rattle.model.specs.Clauses.{Clause, Derived, Contradictory}
 use Rattle.model.specs.Propagation.{Report, count_from, report, complete}
 use Rattle.model.specs.Sheet.{is_sheet, options_in, clauses_in, report_in}
 use Rattle.model.specs.Book.{options_of}
-use Rattle.calls.specs.Refusals.{sheet-refused}
+use Rattle.calls.specs.Refusals.{sheet_refused}
 use Rattle.calls.specs.Outcomes.{refused, accepted, answer}
 use Rattle.calls.specs.Lines.{Line, State, counted}
 use Rattle.calls.specs.Named.{is_named, is_decided, complete_among}
@@ -36,7 +36,7 @@ pub record Complete (n : ℕ) (cs : List Clause) (named : ℕ → Bool) : Type 0
   pub consistent : Contradictory cs → ⊥
   pub decided :
       (v : ℕ) →
-      (is-option : v < n) →
+      (is_option : v < n) →
       (named_so : named v ≡ true) →
       Derived cs (pos v) ⊎ Derived cs (neg v)
 
@@ -143,7 +143,7 @@ complete_exact order book h = says_by order book _ _ _ (given order book h)
 pub complete_as_before :
     (order : State) (book : List ℕ) →
     (lent : Lent order book) →
-    (was-complete : complete (report_in order.sheet) ≡ true) →
+    (was_complete : complete (report_in order.sheet) ≡ true) →
     complete_of order book ≡ accepted true
 unfolding complete complete_among is_decided report_in
 complete_as_before order book h e =
@@ -168,10 +168,10 @@ pub record CompleteAfter (account : Account) (start end : State) : Type 0 where
       (lines_in_order : has_lines_in_order end ≡ true) →
       SaysComplete end account.book (options_of account.book) (meaning account) (account_names account)
   pub else_refused :
-      (lines-not-in-order : has_lines_in_order end ≡ false) →
-      complete_of end account.book ≡ refused sheet-refused
+      (lines_not_in_order : has_lines_in_order end ≡ false) →
+      complete_of end account.book ≡ refused sheet_refused
   pub stays_in_order :
-      (first-lines-in-order : has_lines_in_order start ≡ true) →
+      (first_lines_in_order : has_lines_in_order start ≡ true) →
       has_lines_in_order end ≡ true
 
 -- For every list of demand 3, whatever sheet it ends in: complete exactly if the account is consistent and every option that it names is
@@ -179,7 +179,7 @@ pub record CompleteAfter (account : Account) (start end : State) : Type 0 where
 pub complete_after :
     (book target : List ℕ) (lines : List Line) (count : ℕ) →
     (book_accepted : check_of book ≡ accepted tt) →
-    (target-long-enough : length target ≡ sheet_length) →
+    (target_long_enough : length target ≡ sheet_length) →
     (calls : List Call) →
     let start = order_of book target lines count in
     CompleteAfter (account_calls calls start (loaded book start)) start (after_calls calls start)

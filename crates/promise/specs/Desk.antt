@@ -11,7 +11,7 @@ use Rattle.model.specs.Propagation.{Report, report}
 use Rattle.model.specs.Sheet.{is_sheet}
 use Rattle.model.specs.Book.{options_of, codes_of, clauses_of_book}
 use Rattle.texts.specs.Decimals.{decimal}
-use Rattle.calls.specs.Refusals.{Refusal, refusal_number, sheet-refused}
+use Rattle.calls.specs.Refusals.{Refusal, refusal_number, sheet_refused}
 use Rattle.calls.specs.Outcomes.{refused, accepted, Outcome}
 use Rattle.calls.specs.Chains.{load_refusal}
 use Rattle.calls.specs.Calls.{Ran, check_of, load_of, run_of, report_of}
@@ -73,12 +73,12 @@ module _ (book input : List ℕ) where
         (before rest : List (List ℕ)) (one : List ℕ) (r : Refusal) →
         (lines_are : lines input ≡ before ++ (one ∷ rest)) →
         (load_accepted : load.answer ≡ accepted tt) →
-        (earlier-accepted : (all_keyed book before first).answer ≡ accepted tt) →
-        (one-refused : (keyed book one (all_keyed book before first).lent).answer ≡ refused r) →
+        (earlier_accepted : (all_keyed book before first).answer ≡ accepted tt) →
+        (one_refused : (keyed book one (all_keyed book before first).lent).answer ≡ refused r) →
         desk_of book input ≡ refusal_line r
     pub all_accepted :
         (load_accepted : load.answer ≡ accepted tt) →
-        (lines-accepted : (all_keyed book (lines input) first).answer ≡ accepted tt) →
+        (lines_accepted : (all_keyed book (lines input) first).answer ≡ accepted tt) →
         Printed book (all_keyed book (lines input) first).lent (desk_of book input)
 
   -- A book that is loaded is accepted.
@@ -86,7 +86,7 @@ module _ (book input : List ℕ) where
   unfolding load_of load_refusal
   loaded_book e =
       let none = (accepted_due (load_refusal book (replicate sheet_length 0)) tt tt _ _ (sym e)).0 in
-      (check_none book).1 (none_due _ sheet-refused _ none).1
+      (check_none book).1 (none_due _ sheet_refused _ none).1
 
   -- Lines that are all accepted leave what a list of keyings leaves, so demand 3 speaks of the sheet, and of what a run makes of it.
   module _
@@ -135,8 +135,8 @@ module _ (book input : List ℕ) where
           let index = fresh_count s in
           let last : List Call = run index desk_budget ∷ [] in
           let screen : List ℕ = replicate screen_length 0 in
-          let same-run = ap (λ o. o.lent.own) (run_right s index (fresh_right s) desk_budget) in
-          let left : (after_calls (cs ++ last) first).sheet ≡ (run_of s desk_budget).lent = rw (after_append cs last first, ← e) same-run in
+          let same_run = ap (λ o. o.lent.own) (run_right s index (fresh_right s) desk_budget) in
+          let left : (after_calls (cs ++ last) first).sheet ≡ (run_of s desk_budget).lent = rw (after_append cs last first, ← e) same_run in
           let same : account_calls (cs ++ last) first (loaded book first) ≡ account = account_append cs last first (loaded book first) in
           let few = ((accepted_exactly book).0 (loaded_book good)).options in
           let room : options_of account.book ≤ length screen =

@@ -9,10 +9,10 @@ use Rattle.model.specs.Base.{all}
 use Rattle.model.specs.Rules.{is_rule}
 use Rattle.model.specs.Sheet.{options_in, is_sheet}
 use Rattle.model.specs.Book.{head_in_limits, written}
-use Rattle.calls.specs.Refusals.{length-refused, head-refused, code-refused, contents-refused, body_refused, weight-refused}
-use Rattle.calls.specs.Refusals.{option-refused, full-refused, rule-refused, step-refused, sheet-refused, output-refused}
+use Rattle.calls.specs.Refusals.{length_refused, head_refused, code_refused, contents_refused, body_refused, weight_refused}
+use Rattle.calls.specs.Refusals.{option_refused, full_refused, rule_refused, step_refused, sheet_refused, output_refused}
 use Rattle.calls.specs.Conditions.{lacks_head, is_length_due, has_good_codes, has_good_contents, has_good_bodies, is_light}
-use Rattle.calls.specs.Refusals.{due, ◌or-else◌, line_refused, list-refused, text-refused, size-refused, refusal_number}
+use Rattle.calls.specs.Refusals.{due, ◌or_else◌, line_refused, list_refused, text_refused, size_refused, refusal_number}
 use Rattle.calls.specs.Lines.{State}
 use Rattle.calls.specs.Conditions.{has_option, has_code, is_full, applies, is_book_of, is_long_enough, is_shorter}
 use Rattle.calls.specs.Conditions.{leaves_too_much, has_lines_in_order, has_line, has_full_list}
@@ -26,18 +26,18 @@ use Rattle.call_laws.specs.RefusalChains.{Test, ◌on◌, first_due, ByChain, fi
 -- "The book as 1 (under 8), 2, 1, 3, 4, 5, 6."
 unfoldable pub of_book : List ℕ → List Test
 of_book b =
-    length-refused on lacks_head b
-    ∷ head-refused on not (head_in_limits b)
-    ∷ length-refused on not (is_length_due b)
-    ∷ code-refused on not (has_good_codes b)
-    ∷ contents-refused on not (has_good_contents b)
+    length_refused on lacks_head b
+    ∷ head_refused on not (head_in_limits b)
+    ∷ length_refused on not (is_length_due b)
+    ∷ code_refused on not (has_good_codes b)
+    ∷ contents_refused on not (has_good_contents b)
     ∷ body_refused on not (has_good_bodies b)
-    ∷ weight-refused on not (is_light b)
+    ∷ weight_refused on not (is_light b)
     ∷ []
 
 -- "11 for the sheet."
 abbrev pub of_sheet : List ℕ → Test
-of_sheet s = sheet-refused on not (is_sheet s)
+of_sheet s = sheet_refused on not (is_sheet s)
 
 pub record FirstDue : Type 0 where
   pub check : (book : List ℕ) → ByChain (check_of book) (of_book book)
@@ -46,13 +46,13 @@ pub record FirstDue : Type 0 where
       ByChain
       (lookup_of book code)
       (of_book book
-      ++ (option-refused on not (has_code book code)
+      ++ (option_refused on not (has_code book code)
       ∷ []))
   pub load :
       (book target : List ℕ) →
       ByChain
       (load_of book target).answer
-      (sheet-refused on not (is_long_enough target)
+      (sheet_refused on not (is_long_enough target)
       ∷ of_book book)
   pub write :
       (s book out : List ℕ) →
@@ -60,15 +60,15 @@ pub record FirstDue : Type 0 where
       (write_of s book out).answer
       (of_sheet s
       ∷ (of_book book
-      ++ (sheet-refused on not (is_book_of s book)
-      ∷ output-refused on is_shorter out (length (written s book))
+      ++ (sheet_refused on not (is_book_of s book)
+      ∷ output_refused on is_shorter out (length (written s book))
       ∷ [])))
   pub report :
       (s out : List ℕ) →
       ByChain
       (report_of s out).answer
       (of_sheet s
-      ∷ output-refused on is_shorter out (options_in s)
+      ∷ output_refused on is_shorter out (options_in s)
       ∷ [])
   -- Document 02, U7: "15 text of any other form; 16 V over 512, C or the body nodes over 4,095, or weight over 4,096; 15 goes first, 12
   -- last".
@@ -76,9 +76,9 @@ pub record FirstDue : Type 0 where
       (text out : List ℕ) →
       ByChain
       (import_of text out).answer
-      (text-refused on not (is_clause_file text)
-      ∷ size-refused on gives_too_much text
-      ∷ output-refused on is_shorter out (length (imported text))
+      (text_refused on not (is_clause_file text)
+      ∷ size_refused on gives_too_much text
+      ∷ output_refused on is_shorter out (length (imported text))
       ∷ [])
   -- Document 02, U6: "both are lent with the sheet, and checked by 1 to 6 and 11 as for a withdrawal, by no others".
   pub complete :
@@ -87,8 +87,8 @@ pub record FirstDue : Type 0 where
       (complete_of order book)
       (of_sheet order.sheet
       ∷ (of_book book
-      ++ (sheet-refused on not (is_book_of order.sheet book)
-      ∷ sheet-refused on not (has_lines_in_order order)
+      ++ (sheet_refused on not (is_book_of order.sheet book)
+      ∷ sheet_refused on not (has_lines_in_order order)
       ∷ [])))
   -- Document 02, U5: "An index long enough but unequal to the fresh count before the call is refused 11", with the other 11s; "one shorter
   -- than twice N 12", which is last.
@@ -97,12 +97,12 @@ pub record FirstDue : Type 0 where
       ByChain
       (key_with t index v negative).answer
       (of_sheet t.sheet
-      ∷ sheet-refused on not (has_lines_in_order t)
-      ∷ sheet-refused on has_stale_index t.sheet index
-      ∷ list-refused on has_full_list t
-      ∷ option-refused on not (has_option t.sheet v)
-      ∷ full-refused on is_full t.sheet
-      ∷ output-refused on has_short_index t.sheet index
+      ∷ sheet_refused on not (has_lines_in_order t)
+      ∷ sheet_refused on has_stale_index t.sheet index
+      ∷ list_refused on has_full_list t
+      ∷ option_refused on not (has_option t.sheet v)
+      ∷ full_refused on is_full t.sheet
+      ∷ output_refused on has_short_index t.sheet index
       ∷ [])
   pub withdraw :
       (order : State) (book index : List ℕ) (k : ℕ) →
@@ -110,12 +110,12 @@ pub record FirstDue : Type 0 where
       (withdraw_with order book index k).answer
       (of_sheet order.sheet
       ∷ (of_book book
-      ++ (sheet-refused on not (is_book_of order.sheet book)
-      ∷ sheet-refused on not (has_lines_in_order order)
-      ∷ sheet-refused on has_stale_index order.sheet index
+      ++ (sheet_refused on not (is_book_of order.sheet book)
+      ∷ sheet_refused on not (has_lines_in_order order)
+      ∷ sheet_refused on has_stale_index order.sheet index
       ∷ line_refused on not (has_line order k)
-      ∷ full-refused on leaves_too_much order book
-      ∷ output-refused on has_short_index order.sheet index
+      ∷ full_refused on leaves_too_much order book
+      ∷ output_refused on has_short_index order.sheet index
       ∷ [])))
   -- Document 02, U4: "refusal 9 is for rules outside 1 to 17", those that the table has no row for.
   pub step :
@@ -123,18 +123,18 @@ pub record FirstDue : Type 0 where
       ByChain
       (step_with s index r p i j).answer
       (of_sheet s
-      ∷ sheet-refused on has_stale_index s index
-      ∷ rule-refused on not (is_rule r)
-      ∷ step-refused on not (applies s r p i j)
-      ∷ output-refused on has_short_index s index
+      ∷ sheet_refused on has_stale_index s index
+      ∷ rule_refused on not (is_rule r)
+      ∷ step_refused on not (applies s r p i j)
+      ∷ output_refused on has_short_index s index
       ∷ [])
   pub run :
       (sheet index : List ℕ) (budget : ℕ) →
       ByChain
       (run_with sheet index budget).answer
       (of_sheet sheet
-      ∷ sheet-refused on has_stale_index sheet index
-      ∷ output-refused on has_short_index sheet index
+      ∷ sheet_refused on has_stale_index sheet index
+      ∷ output_refused on has_short_index sheet index
       ∷ [])
   -- The call that fills an index, "whatever it held".
   pub fill :
@@ -142,7 +142,7 @@ pub record FirstDue : Type 0 where
       ByChain
       (fill_of s index).answer
       (of_sheet s
-      ∷ output-refused on has_short_index s index
+      ∷ output_refused on has_short_index s index
       ∷ [])
   -- The desk keeps no index: its keyings, and its run.
   pub desk_key :
@@ -150,10 +150,10 @@ pub record FirstDue : Type 0 where
       ByChain
       (key_of order v negative).answer
       (of_sheet order.sheet
-      ∷ sheet-refused on not (has_lines_in_order order)
-      ∷ list-refused on has_full_list order
-      ∷ option-refused on not (has_option order.sheet v)
-      ∷ full-refused on is_full order.sheet
+      ∷ sheet_refused on not (has_lines_in_order order)
+      ∷ list_refused on has_full_list order
+      ∷ option_refused on not (has_option order.sheet v)
+      ∷ full_refused on is_full order.sheet
       ∷ [])
   pub desk_run : (s : List ℕ) (budget : ℕ) → ByChain (run_of s budget).answer (of_sheet s ∷ [])
 
@@ -167,12 +167,12 @@ abbrev of_order : State → List ℕ → List Test
 of_order order b =
     of_sheet order.sheet
     ∷ (of_book b
-    ++ (sheet-refused on not (is_book_of order.sheet b)
-    ∷ sheet-refused on not (has_lines_in_order order)
+    ++ (sheet_refused on not (is_book_of order.sheet b)
+    ∷ sheet_refused on not (has_lines_in_order order)
     ∷ []))
 
 abbrev after_index : State → List ℕ → ℕ → List Test
-after_index order b k = line_refused on not (has_line order k) ∷ full-refused on leaves_too_much order b ∷ []
+after_index order b k = line_refused on not (has_line order k) ∷ full_refused on leaves_too_much order b ∷ []
 
 order_early : (order : State) (b : List ℕ) → all (λ t. is_early t.refusal) (of_order order b) ≡ true
 unfolding is_early refusal_number all of_book
@@ -184,7 +184,7 @@ order_chain order b = simp (first_append, first_last, book_chain)
 
 line_chain :
     (order : State) (b : List ℕ) (k : ℕ) →
-    (due (not (has_line order k)) line_refused or_else due (leaves_too_much order b) full-refused) ≡ first_due (after_index order b k)
+    (due (not (has_line order k)) line_refused or_else due (leaves_too_much order b) full_refused) ≡ first_due (after_index order b k)
 unfolding first_due
 line_chain order b k = simp first_last
 
@@ -193,7 +193,7 @@ withdraw_chain :
     withdraw_refusal order b k ≡ first_due (of_order order b ++ after_index order b k)
 unfolding withdraw_refusal
 withdraw_chain order b k =
-    ap₂ ◌or-else◌ (order_chain order b) (line_chain order b k) ∙ sym (first_append (of_order order b) (after_index order b k))
+    ap₂ ◌or_else◌ (order_chain order b) (line_chain order b k) ∙ sym (first_append (of_order order b) (after_index order b k))
 
 pub first_due_refused : FirstDue
 unfolding check_of lookup_of load_of write_of report_of import_of complete_of key_of withdraw_of step_of run_of key_with withdraw_with step_with run_with fill_of
@@ -210,10 +210,10 @@ first_due_refused =
       complete = λ order b. answered _ _ (order_chain order b);
       key = λ order index v negative.
           answered_with (λ u. u.sheet) order index tt _ (key_refusal order v)
-          (of_sheet order.sheet ∷ sheet-refused on not (has_lines_in_order order) ∷ [])
-          (list-refused on has_full_list order
-          ∷ option-refused on not (has_option order.sheet v)
-          ∷ full-refused on is_full order.sheet
+          (of_sheet order.sheet ∷ sheet_refused on not (has_lines_in_order order) ∷ [])
+          (list_refused on has_full_list order
+          ∷ option_refused on not (has_option order.sheet v)
+          ∷ full_refused on is_full order.sheet
           ∷ [])
           (simp first_last) refl refl;
       withdraw = λ order b index k.
@@ -224,7 +224,7 @@ first_due_refused =
       step = λ s index r p i j.
           answered_with (λ u. u) s index tt _ (step_refusal s r p i j)
           (of_sheet s ∷ [])
-          (rule-refused on not (is_rule r) ∷ step-refused on not (applies s r p i j) ∷ [])
+          (rule_refused on not (is_rule r) ∷ step_refused on not (applies s r p i j) ∷ [])
           (simp first_last) refl refl;
       run = λ s index budget. answered_with (λ u. u) s index _ _ (run_refusal s) (of_sheet s ∷ []) [] (simp first_last) refl refl;
       fill = λ s index. answered_lent _ _ _ _ (simp first_last);

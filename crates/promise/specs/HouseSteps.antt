@@ -99,10 +99,10 @@ pub record Does (sheet left : List ℕ) (budget : ℕ) (ran : Ran) : Type 0 wher
 
 -- Where not every rule fails, the next step is one that applies.
 some_applies : (ns : List Node) → (NoRule ns → ⊥) → SomeRule ns
-some_applies ns not-Calm = go (next ns) refl
+some_applies ns not_Calm = go (next ns) refl
   where
     go : (o : Option Redex) → next ns ≡ o → SomeRule ns
-    go none e = absurd (not-Calm ((none_iff ns).0 e))
+    go none e = absurd (not_Calm ((none_iff ns).0 e))
     go (some x) e = (x.rule, x.place, x.i, x.j, next_applies ns e)
 
 -- A run on a sheet, and the sheet that holds the nodes it leaves.
@@ -132,7 +132,7 @@ ran_does s budget h =
 
 pub run_does :
     (sheet index : List ℕ) (budget : ℕ) (ran : Ran) →
-    (run-is-accepted : (run_with sheet index budget).answer ≡ accepted ran) →
+    (run_is_accepted : (run_with sheet index budget).answer ≡ accepted ran) →
     Does sheet (run_with sheet index budget).lent.own budget ran
 unfolding run_with run_of
 run_does s index budget ran e =
@@ -161,7 +161,7 @@ kept_before r p i j ns e =
 -- An accepted step is one application of its rule, and leaves a sheet of the same N.
 pub step_leads :
     (sheet index : List ℕ) (r p i j : ℕ) →
-    (step-is-accepted : (step_with sheet index r p i j).answer ≡ accepted tt) →
+    (step_is_accepted : (step_with sheet index r p i j).answer ≡ accepted tt) →
     let left = (step_with sheet index r p i j).lent.own in
     (is_sheet left ≡ true)
     × (options_in left ≡ options_in sheet)
@@ -178,6 +178,6 @@ step_leads s index r p i j e =
 
 pub nodes_before_the_place_stay :
     (sheet index : List ℕ) (r p i j : ℕ) →
-    (step-is-accepted : (step_with sheet index r p i j).answer ≡ accepted tt) →
+    (step_is_accepted : (step_with sheet index r p i j).answer ≡ accepted tt) →
     take p (nodes_in (step_with sheet index r p i j).lent.own) ≡ take p (nodes_in sheet)
 nodes_before_the_place_stay s index r p i j e = kept_before r p i j (nodes_in s) (step_leads s index r p i j e).2

@@ -49,7 +49,7 @@ pub record BookOf (file : File) (book : List ℕ) : Type 0 where
   pub code_given :
       (v : ℕ) →
       (from_one : 1 ≤ v) →
-      (to-the-last : v ≤ file.options) →
+      (to_the_last : v ≤ file.options) →
       lookup_of book (86 ∷ decimal v) ≡ accepted (v - 1)
   -- "Each clause becomes one any-of, a lone mark too, clauses and marks in file order."
   pub bodies : bodies_of book ≡ map (λ c. map number_of (nodes_of_clause c)) file.clauses
@@ -62,19 +62,19 @@ pub record BookOf (file : File) (book : List ℕ) : Type 0 where
   -- So a sheet that is loaded from it reports what propagation derives from the file's clauses.
   pub report_is :
       (target out : List ℕ) →
-      (target-long-enough : length target ≡ sheet_length) →
-      (out-has-room : file.options ≤ length out) →
+      (target_long_enough : length target ≡ sheet_length) →
+      (out_has_room : file.options ≤ length out) →
       report_of (load_of book target).lent out ≡ reported (report file.options file.clauses) out
   pub report_says :
       (target out : List ℕ) →
-      (target-long-enough : length target ≡ sheet_length) →
-      (out-has-room : file.options ≤ length out) →
+      (target_long_enough : length target ≡ sheet_length) →
+      (out_has_room : file.options ≤ length out) →
       Reported file.options file.clauses out (report_of (load_of book target).lent out)
   -- "Written by the writer's rules": that sheet, written with the book's codes, is the book again.
   pub written_again :
       (target out : List ℕ) →
-      (target-long-enough : length target ≡ sheet_length) →
-      (out-has-room : length book ≤ length out) →
+      (target_long_enough : length target ≡ sheet_length) →
+      (out_has_room : length book ≤ length out) →
       write_of (load_of book target).lent book out ≡ record { answer = accepted (length book); lent = placed book out }
 
 -- An import that was accepted with this answer: the text is a clause file, and as many of the output's first bytes as the answer says are
@@ -135,8 +135,8 @@ module _ (file : File) (ok : Usable file) where
 pub import_given :
     (text out : List ℕ) (file : File) →
     (is_file : file_of text ≡ some file) →
-    (not-too-large : is_too_large file ≡ false) →
-    (out-has-room : length (book_of_file file) ≤ length out) →
+    (not_too_large : is_too_large file ≡ false) →
+    (out_has_room : length (book_of_file file) ≤ length out) →
     import_of text out
     ≡ record { answer = accepted (length (book_of_file file)); lent = placed (book_of_file file) out }
 unfolding import_of import_refusal outcome maybe is_some first_of only_if
@@ -145,7 +145,7 @@ import_given text out file e small room = rw (e, small, le-ltb (length out) (len
 -- So that is what every accepted import has done.
 pub accepted_import :
     (text out : List ℕ) (n : ℕ) →
-    (import-is-accepted : (import_of text out).answer ≡ accepted n) →
+    (import_is_accepted : (import_of text out).answer ≡ accepted n) →
     Imported text out n
 unfolding import_of
 accepted_import text out n e =
@@ -173,7 +173,7 @@ accepted_import text out n e =
 -- file.
 pub spelled_is_read :
     (file : File) →
-    (marks-are-1-to-v : all (all (λ l. ltb (option l) file.options)) file.clauses ≡ true) →
+    (marks_are_1_to_v : all (all (λ l. ltb (option l) file.options)) file.clauses ≡ true) →
     file_of (spelled file) ≡ some file
 unfolding named_in
 spelled_is_read file h = spelled_read file h
@@ -189,10 +189,10 @@ unfolding import_of import_refusal
 same_file text other out e = rw e
 
 pub p_line_and_words_decide :
-    (text other out p_line : List ℕ) (after others-after : List (List ℕ)) →
-    (lines-of-text : past_comments (lines text) ≡ p_line ∷ after) →
-    (lines-of-other : past_comments (lines other) ≡ p_line ∷ others-after) →
-    (same_words : flatten (map words_of_line after) ≡ flatten (map words_of_line others-after)) →
+    (text other out p_line : List ℕ) (after others_after : List (List ℕ)) →
+    (lines_of_text : past_comments (lines text) ≡ p_line ∷ after) →
+    (lines_of_other : past_comments (lines other) ≡ p_line ∷ others_after) →
+    (same_words : flatten (map words_of_line after) ≡ flatten (map words_of_line others_after)) →
     import_of text out ≡ import_of other out
 unfolding file_of file_of_lines
 p_line_and_words_decide text other out p ls ms e f g = same_file text other out (rw (e, f, g))
@@ -200,7 +200,7 @@ p_line_and_words_decide text other out p ls ms e f g = same_file text other out 
 -- "Comment lines starting with c" (99): one more in front of a text changes nothing. It ends at byte 10.
 pub comment_changes_nothing :
     (comment text out : List ℕ) →
-    (comment-is-one-line : all (λ x. not (eqb x 10)) comment ≡ true) →
+    (comment_is_one_line : all (λ x. not (eqb x 10)) comment ≡ true) →
     import_of (99 ∷ (comment ++ 10 ∷ text)) out ≡ import_of text out
 comment_changes_nothing comment text out h = same_file _ text out (comment_before comment text h)
 
@@ -208,7 +208,7 @@ comment_changes_nothing comment text out h = same_file _ text out (comment_befor
 -- the bytes before it do not end in a 13, which would be its own.)
 pub with_or_without_13 :
     (before after out : List ℕ) →
-    (no-13-before : No13Last before) →
+    (no_13_before : No13Last before) →
     import_of (before ++ 13 ∷ 10 ∷ after) out ≡ import_of (before ++ 10 ∷ after) out
 with_or_without_13 before after out h = same_file _ _ out (end_with_13 before after h)
 
@@ -227,8 +227,8 @@ p_line_is_such v c =
 
 pub comment_before_is_such :
     (comment opening : List ℕ) →
-    (comment-is-one-line : all (λ x. not (eqb x 10)) comment ≡ true) →
-    (p-line-ends : UpToPLine opening) →
+    (comment_is_one_line : all (λ x. not (eqb x 10)) comment ≡ true) →
+    (p_line_ends : UpToPLine opening) →
     UpToPLine (99 ∷ (comment ++ 10 ∷ opening))
 comment_before_is_such c a h p =
     record { p_line = p.p_line; nothing_else = layout.comment_more c a p.p_line h p.nothing_else }
@@ -237,8 +237,8 @@ comment_before_is_such c a h p =
 -- tab or a 10; whether 13 stands before a 10 was said above.) Before the first,
 pub blanks_before_the_first :
     (opening blanks rest out : List ℕ) →
-    (p-line-ends : UpToPLine opening) →
-    (are-blanks : all is_layout blanks ≡ true) →
+    (p_line_ends : UpToPLine opening) →
+    (are_blanks : all is_layout blanks ≡ true) →
     import_of (opening ++ 10 ∷ (blanks ++ rest)) out ≡ import_of (opening ++ 10 ∷ rest) out
 blanks_before_the_first a s b out p h =
     same_file _ _ out (layout.same_words a (s ++ b) b p.p_line p.nothing_else (past_layout s b h))
@@ -246,9 +246,9 @@ blanks_before_the_first a s b out p h =
 -- after the last,
 pub blanks_after_the_last :
     (opening rest blanks out : List ℕ) →
-    (p-line-ends : UpToPLine opening) →
-    (no-13-before : No13Last rest) →
-    (are-blanks : all is_layout blanks ≡ true) →
+    (p_line_ends : UpToPLine opening) →
+    (no_13_before : No13Last rest) →
+    (are_blanks : all is_layout blanks ≡ true) →
     import_of (opening ++ 10 ∷ (rest ++ blanks)) out ≡ import_of (opening ++ 10 ∷ rest) out
 blanks_after_the_last a b s out p n h =
     same_file _ _ out (layout.same_words a (b ++ s) b p.p_line p.nothing_else (words_ended b s n h))
@@ -256,12 +256,12 @@ blanks_after_the_last a b s out p n h =
 -- and wherever some stand, any others may stand in their place.
 pub blanks_between :
     (opening rest blanks others later out : List ℕ) →
-    (p-line-ends : UpToPLine opening) →
-    (no-13-before : No13Last rest) →
-    (some-blanks : 1 ≤ length blanks) →
-    (are-blanks : all is_layout blanks ≡ true) →
-    (some-others : 1 ≤ length others) →
-    (others-are-blanks : all is_layout others ≡ true) →
+    (p_line_ends : UpToPLine opening) →
+    (no_13_before : No13Last rest) →
+    (some_blanks : 1 ≤ length blanks) →
+    (are_blanks : all is_layout blanks ≡ true) →
+    (some_others : 1 ≤ length others) →
+    (others_are_blanks : all is_layout others ≡ true) →
     import_of (opening ++ 10 ∷ (rest ++ (blanks ++ later))) out ≡ import_of (opening ++ 10 ∷ (rest ++ (others ++ later))) out
 blanks_between a b s t c out p n i h j k =
     same_file _ _ out

@@ -8,7 +8,7 @@ use Rattle.model.specs.Base.{only_if, first_of, placed}
 use Rattle.model.specs.Limits.{sheet_length}
 use Rattle.model.specs.Sheet.{options_in, nodes_in, is_sheet}
 use Rattle.model.specs.Book.{options_of}
-use Rattle.calls.specs.Refusals.{Refusal, sheet-refused, output-refused}
+use Rattle.calls.specs.Refusals.{Refusal, sheet_refused, output_refused}
 use Rattle.calls.specs.Outcomes.{accepted, Outcome, outcome}
 use Rattle.calls.specs.Lines.{Line, State}
 use Rattle.calls.specs.Index.{mark_count, fresh_count, Indexed}
@@ -38,27 +38,27 @@ pub record BroughtUpToDate : Type 0 where
   pub key :
       (order : State) (index : List ℕ) (v : ℕ) (negative : Bool) →
       let o = key_with order index v negative in
-      (is-accepted : o.answer ≡ accepted tt) →
+      (is_accepted : o.answer ≡ accepted tt) →
       UpToDate o.lent.own.sheet index o.lent.index
   pub withdraw :
       (order : State) (book index : List ℕ) (k : ℕ) →
       let o = withdraw_with order book index k in
-      (is-accepted : o.answer ≡ accepted tt) →
+      (is_accepted : o.answer ≡ accepted tt) →
       UpToDate o.lent.own.sheet index o.lent.index
   pub step :
       (sheet index : List ℕ) (r p i j : ℕ) →
       let o = step_with sheet index r p i j in
-      (is-accepted : o.answer ≡ accepted tt) →
+      (is_accepted : o.answer ≡ accepted tt) →
       UpToDate o.lent.own index o.lent.index
   pub run :
       (sheet index : List ℕ) (budget : ℕ) (ran : Ran) →
       let o = run_with sheet index budget in
-      (is-accepted : o.answer ≡ accepted ran) →
+      (is_accepted : o.answer ≡ accepted ran) →
       UpToDate o.lent.own index o.lent.index
   pub fill :
       (sheet index : List ℕ) →
       let o = fill_of sheet index in
-      (is-accepted : o.answer ≡ accepted tt) →
+      (is_accepted : o.answer ≡ accepted tt) →
       UpToDate sheet index o.lent
 
 -- An index with the fresh count put at its start.
@@ -91,7 +91,7 @@ filled_up : (s index : List ℕ) → (fill_of s index).answer ≡ accepted tt �
 unfolding fill_of fill_refusal outcome
 filled_up s index e =
     let clear = (accepted_due (fill_refusal s index) tt tt index _ (sym e)).0 in
-    let short = only_none (has_short_index s index) output-refused (none_due (not (is_sheet s)) sheet-refused _ clear).1 in
+    let short = only_none (has_short_index s index) output_refused (none_due (not (is_sheet s)) sheet_refused _ clear).1 in
     rw (clear, fill_of) (placed_up s index (ltb-false (length index) (index_length s) short))
 
 pub brought_up_to_date : BroughtUpToDate
@@ -225,8 +225,8 @@ module _ (book target : List ℕ) (lines : List Line) (count : ℕ) (index : Lis
   -- refused for its index, which is right after each and as long as it was.
   pub index_lent_on :
       (book_accepted : check_of book ≡ accepted tt) →
-      (target-long-enough : length target ≡ sheet_length) →
-      (index-has-room : 2 * options_of book ≤ length index) →
+      (target_long_enough : length target ≡ sheet_length) →
+      (index_has_room : 2 * options_of book ≤ length index) →
       ((fill_of order.sheet index).answer ≡ accepted tt) × ((calls : List Call) → LentOn filled calls)
   unfolding fill_of fill_refusal outcome first_of only_if
   index_lent_on ok long room =

@@ -34,11 +34,11 @@ pub record Means (account : Account) (sheet : List ℕ) : Type 0 where
   pub options : options_in sheet ≡ options_of account.book
   pub report_is :
       (out : List ℕ) →
-      (out-has-room : options_of account.book ≤ length out) →
+      (out_has_room : options_of account.book ≤ length out) →
       report_of sheet out ≡ reported (report (options_of account.book) (meaning account)) out
   pub report_says :
       (out : List ℕ) →
-      (out-has-room : options_of account.book ≤ length out) →
+      (out_has_room : options_of account.book ≤ length out) →
       Reported (options_of account.book) (meaning account) out (report_of sheet out)
 
 -- "No rule applies to the sheet; it holds the lone contradiction exactly when those rules and choices are contradictory, and
@@ -58,7 +58,7 @@ abbrev pub Bounded : List Call → State → Type 0
 Bounded calls start =
     (before stretch rest : List Call) →
     (calls_are : calls ≡ before ++ (stretch ++ rest)) →
-    (nothing-rekeyed : is_stretch stretch (after_calls before start) ≡ true) →
+    (nothing_rekeyed : is_stretch stretch (after_calls before start) ≡ true) →
     steps_of stretch (after_calls before start) ≤ most_steps (nodes_in (after_calls before start).sheet)
 
 -- A list of calls on a state that begins with a freshly loaded book. The account is "reckoned from those first lines and the accepted
@@ -95,8 +95,8 @@ from_rules book start h calls =
             no_rule = calm;
             falsum = Iff·trans normal.0 (same_contradictory k.models);
             units = λ fine l.
-                let fine-here : Contradictory (clauses_in left) → ⊥ = λ c. fine ((same_contradictory k.models).0 c) in
-                Iff·trans (normal.1 fine-here l) (same_derived k.models fine-here l);
+                let fine_here : Contradictory (clauses_in left) → ⊥ = λ c. fine ((same_contradictory k.models).0 c) in
+                Iff·trans (normal.1 fine_here l) (same_derived k.models fine_here l);
           };
       bounded = λ before stretch rest parts quiet.
           let b = (calls_effect before start (loaded book start) h).agrees in
@@ -147,7 +147,7 @@ loaded_agrees book target lines count ok long =
 pub demand_3 :
     (book target : List ℕ) (lines : List Line) (count : ℕ) →
     (book_accepted : check_of book ≡ accepted tt) →
-    (target-long-enough : length target ≡ sheet_length) →
+    (target_long_enough : length target ≡ sheet_length) →
     (calls : List Call) →
     Demand3 book (order_of book target lines count) calls
 demand_3 book target lines count ok long calls =

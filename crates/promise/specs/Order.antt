@@ -41,14 +41,14 @@ module _
 
     pub order_does_not_matter :
         (book_accepted : check_of book ≡ accepted tt) →
-        (other-accepted : check_of other ≡ accepted tt) →
-        (target-long-enough : length target ≡ sheet_length) →
-        (target'-long-enough : length target' ≡ sheet_length) →
-        (same-n : options_of book ≡ options_of other) →
-        (same-bodies : Permᴰ (bodies_of account.book) (bodies_of account'.book)) →
-        (same-choices : Permᴰ account.choices account'.choices) →
+        (other_accepted : check_of other ≡ accepted tt) →
+        (target_long_enough : length target ≡ sheet_length) →
+        (target'_long_enough : length target' ≡ sheet_length) →
+        (same_n : options_of book ≡ options_of other) →
+        (same_bodies : Permᴰ (bodies_of account.book) (bodies_of account'.book)) →
+        (same_choices : Permᴰ account.choices account'.choices) →
         (out : List ℕ) →
-        (out-has-room : options_of book ≤ length out) →
+        (out_has_room : options_of book ≤ length out) →
         report_of (after_calls calls start).sheet out ≡ report_of (after_calls calls' start').sheet out
     unfolding meaning clauses_of_book
     order_does_not_matter ok ok' long long' n p q out room =

@@ -4,9 +4,9 @@
 use Rattle.std.specs.Prelude.{Bool, List, ◌↔◌, ◌≡◌, refl, ℕ, ◌≤◌}
 use Rattle.std.proofs.Math.Option.{Option, none, some}
 use Rattle.std.proofs.Common.{arith}
-use Rattle.calls.specs.Refusals.{Refusal, length-refused, head-refused, code-refused, contents-refused, body_refused, weight-refused}
-use Rattle.calls.specs.Refusals.{option-refused, full-refused, rule-refused, step-refused, sheet-refused, output-refused}
-use Rattle.calls.specs.Refusals.{line_refused, list-refused, text-refused, size-refused, refusal_number}
+use Rattle.calls.specs.Refusals.{Refusal, length_refused, head_refused, code_refused, contents_refused, body_refused, weight_refused}
+use Rattle.calls.specs.Refusals.{option_refused, full_refused, rule_refused, step_refused, sheet_refused, output_refused}
+use Rattle.calls.specs.Refusals.{line_refused, list_refused, text_refused, size_refused, refusal_number}
 use Rattle.calls.specs.Outcomes.{refused, accepted, answer, Outcome, outcome}
 use Rattle.calls.specs.Chains.{book_refusal, key_refusal, withdraw_refusal, step_refusal, run_refusal}
 use Rattle.calls.specs.Lines.{State}
@@ -19,28 +19,28 @@ use Rattle.call_laws.specs.Books.{accepted_book, book_accepted}
 -- "A result or one refusal numbered 1 to 12"; with 13 and 14 since document 02, U2, and 15 and 16 since U7.
 pub numbered : (r : Refusal) → (1 ≤ refusal_number r) × (refusal_number r ≤ 16)
 unfolding refusal_number
-numbered length-refused = omega arith
-numbered head-refused = omega arith
-numbered code-refused = omega arith
-numbered contents-refused = omega arith
+numbered length_refused = omega arith
+numbered head_refused = omega arith
+numbered code_refused = omega arith
+numbered contents_refused = omega arith
 numbered body_refused = omega arith
-numbered weight-refused = omega arith
-numbered option-refused = omega arith
-numbered full-refused = omega arith
-numbered rule-refused = omega arith
-numbered step-refused = omega arith
-numbered sheet-refused = omega arith
-numbered output-refused = omega arith
+numbered weight_refused = omega arith
+numbered option_refused = omega arith
+numbered full_refused = omega arith
+numbered rule_refused = omega arith
+numbered step_refused = omega arith
+numbered sheet_refused = omega arith
+numbered output_refused = omega arith
 numbered line_refused = omega arith
-numbered list-refused = omega arith
-numbered text-refused = omega arith
-numbered size-refused = omega arith
+numbered list_refused = omega arith
+numbered text_refused = omega arith
+numbered size_refused = omega arith
 
 -- An outcome whose answer is a refusal has left what was lent as it was.
 abbrev pub Keeps : {L A : Type 0} → Outcome L A → L → Type 0
 Keeps o kept =
     (r : Refusal) →
-    (is-refused : o.answer ≡ refused r) →
+    (is_refused : o.answer ≡ refused r) →
     o.lent ≡ kept
 
 outcome_keeps :

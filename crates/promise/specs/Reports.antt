@@ -8,7 +8,7 @@ use Rattle.model.specs.Literal.{pos, neg}
 use Rattle.model.specs.Clauses.{Clause, Derived, Contradictory}
 use Rattle.model.specs.Propagation.{Report, report}
 use Rattle.model.specs.Sheet.{is_sheet, options_in, clauses_in, report_in}
-use Rattle.calls.specs.Refusals.{due, sheet-refused}
+use Rattle.calls.specs.Refusals.{due, sheet_refused}
 use Rattle.calls.specs.Outcomes.{accepted, Outcome, outcome}
 use Rattle.calls.specs.Chains.{report_refusal}
 use Rattle.calls.specs.Calls.{report_of}
@@ -36,23 +36,23 @@ pub record Reported (n : ℕ) (cs : List Clause) (out : List ℕ) (o : Outcome (
   pub is_in :
       (consistent : Contradictory cs → ⊥) →
       (v : ℕ) →
-      (is-option : v < n) →
+      (is_option : v < n) →
       (get_or o.lent v 0 ≡ 1) ↔ Derived cs (pos v)
   pub is_out :
       (consistent : Contradictory cs → ⊥) →
       (v : ℕ) →
-      (is-option : v < n) →
+      (is_option : v < n) →
       (get_or o.lent v 0 ≡ 2) ↔ Derived cs (neg v)
   pub is_open :
       (consistent : Contradictory cs → ⊥) →
       (v : ℕ) →
-      (is-option : v < n) →
+      (is_option : v < n) →
       (get_or o.lent v 0 ≡ 0) ↔ ((Derived cs (pos v) → ⊥) × (Derived cs (neg v) → ⊥))
 
 -- The literal propagation on the clauses says exactly what they mean.
 pub propagation_exact :
     (n : ℕ) (cs : List Clause) (out : List ℕ) →
-    (out-has-room : n ≤ length out) →
+    (out_has_room : n ≤ length out) →
     Reported n cs out (reported (report n cs) out)
 propagation_exact n cs out room =
     let t = report_tells n cs in
@@ -75,8 +75,8 @@ propagation_exact n cs out room =
 -- A report on a sheet, into an output of at least its N bytes, gives what propagation on the multiplied-out rules gives.
 pub report_given :
     (sheet out : List ℕ) →
-    (sheet-is-one : is_sheet sheet ≡ true) →
-    (out-has-room : options_in sheet ≤ length out) →
+    (sheet_is_one : is_sheet sheet ≡ true) →
+    (out_has_room : options_in sheet ≤ length out) →
     report_of sheet out ≡ reported (report (options_in sheet) (clauses_in sheet)) out
 unfolding report_of report_refusal report_in outcome only_if first_of
 report_given sheet out h room = rw (h, le-ltb (length out) (options_in sheet) room)
@@ -84,8 +84,8 @@ report_given sheet out h room = rw (h, le-ltb (length out) (options_in sheet) ro
 -- So it says exactly what the sheet's rules mean.
 pub report_exact :
     (sheet out : List ℕ) →
-    (sheet-is-one : is_sheet sheet ≡ true) →
-    (out-has-room : options_in sheet ≤ length out) →
+    (sheet_is_one : is_sheet sheet ≡ true) →
+    (out_has_room : options_in sheet ≤ length out) →
     Reported (options_in sheet) (clauses_in sheet) out (report_of sheet out)
 report_exact sheet out h room =
     rw (report_given sheet out h room) (propagation_exact (options_in sheet) (clauses_in sheet) out room)
@@ -93,14 +93,14 @@ report_exact sheet out h room =
 -- "Calls with exactly N bytes answer as before": 11 where there is no sheet, and else the report is all that the output holds.
 pub exactly_n_as_before :
     (sheet out : List ℕ) →
-    (out-is-n-long : length out ≡ options_in sheet) →
+    (out_is_n_long : length out ≡ options_in sheet) →
     report_of sheet out
-    ≡ outcome (due (not (is_sheet sheet)) sheet-refused) (report_in sheet).contradictory out (report_in sheet).marks
+    ≡ outcome (due (not (is_sheet sheet)) sheet_refused) (report_in sheet).contradictory out (report_in sheet).marks
 unfolding report_of report_refusal report_in only_if
 exactly_n_as_before sheet out e =
     let width = (report_tells (options_in sheet) (clauses_in sheet)).width in
     rw (
       le-ltb (length out) (options_in sheet) (omega (arith, e)),
       placed_whole (report (options_in sheet) (clauses_in sheet)).marks out width e,
-      first_last (due (not (is_sheet sheet)) sheet-refused),
+      first_last (due (not (is_sheet sheet)) sheet_refused),
     )

@@ -18,9 +18,9 @@ use Rattle.promise.specs.Refusals.{check_none}
 pub load_then_write :
     (book target out : List ℕ) →
     (book_accepted : check_of book ≡ accepted tt) →
-    (book-is-bytes : (i : ℕ) → get_or book i 0 < 256) →
-    (target-long-enough : length target ≡ sheet_length) →
-    (out-has-room : length book ≤ length out) →
+    (book_is_bytes : (i : ℕ) → get_or book i 0 < 256) →
+    (target_long_enough : length target ≡ sheet_length) →
+    (out_has_room : length book ≤ length out) →
     write_of (load_of book target).lent book out
     ≡ record { answer = accepted (length book); lent = placed book out }
 load_then_write book target out ok bytes = round.load_then_write book target out ((check_none book).0 ok) bytes
@@ -34,11 +34,11 @@ pub record WrittenAndLoaded (sheet book target out : List ℕ) : Type 0 where
 
 pub write_then_load :
     (sheet book target out : List ℕ) →
-    (sheet-is-one : is_sheet sheet ≡ true) →
+    (sheet_is_one : is_sheet sheet ≡ true) →
     (book_accepted : check_of book ≡ accepted tt) →
-    (book-of-its-n : options_of book ≡ options_in sheet) →
-    (out-has-room : length (written sheet book) ≤ length out) →
-    (target-long-enough : length target ≡ sheet_length) →
+    (book_of_its_n : options_of book ≡ options_in sheet) →
+    (out_has_room : length (written sheet book) ≤ length out) →
+    (target_long_enough : length target ≡ sheet_length) →
     WrittenAndLoaded sheet book target out
 write_then_load sheet book target out h ok same room long =
     let fine = (check_none book).0 ok in

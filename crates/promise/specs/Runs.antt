@@ -76,7 +76,7 @@ module _ (book target : List ℕ) (lines : List Line) (count : ℕ) where
   -- which is to say neither stale nor short.
   pub run_counts :
       (book_accepted : check_of book ≡ accepted tt) →
-      (target-long-enough : length target ≡ sheet_length) →
+      (target_long_enough : length target ≡ sheet_length) →
       (calls before rest : List Call) (index : List ℕ) (budget : ℕ) →
       (calls_are : calls ≡ before ++ (run index budget ∷ rest)) →
       (index_right : Right (after_calls before start).sheet index) →
@@ -88,10 +88,10 @@ module _ (book target : List ℕ) (lines : List Line) (count : ℕ) where
   -- settled.
   pub run_settles :
       (book_accepted : check_of book ≡ accepted tt) →
-      (target-long-enough : length target ≡ sheet_length) →
+      (target_long_enough : length target ≡ sheet_length) →
       (before : List Call) (index : List ℕ) (budget : ℕ) →
       (index_right : Right (after_calls before start).sheet index) →
-      (budget-enough : most_steps (nodes_in (after_calls before start).sheet) ≤ budget) →
+      (budget_enough : most_steps (nodes_in (after_calls before start).sheet) ≤ budget) →
       Settles book start before index budget
   unfolding says_settled if_accepted
   run_settles ok long before index budget right enough =

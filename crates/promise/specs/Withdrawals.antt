@@ -45,7 +45,7 @@ pub taken_back_as_afresh :
     (order : State) (book index : List ℕ) (k : ℕ) →
     (taken_back : (withdraw_with order book index k).answer ≡ accepted tt) →
     (target : List ℕ) →
-    (target-long-enough : length target ≡ sheet_length) →
+    (target_long_enough : length target ≡ sheet_length) →
     (slots : List Line) →
     (all_slots : length slots ≡ most_lines) →
     AsKeyedAfresh order book index k (order_of book target slots 0)
@@ -134,14 +134,14 @@ module _
 
     pub taken_back_as_never_keyed :
         (book_accepted : check_of book ≡ accepted tt) →
-        (target-long-enough : length target ≡ sheet_length) →
+        (target_long_enough : length target ≡ sheet_length) →
         (same_book : account.book ≡ book) →
-        (no-line-unkeyed : account.choices ≡ account.ledger) →
+        (no_line_unkeyed : account.choices ≡ account.ledger) →
         (key_accepted : (key_with here index v negative).answer ≡ accepted tt) →
-        (only-steps-between : is_stretch between keyed ≡ true) →
+        (only_steps_between : is_stretch between keyed ≡ true) →
         (withdraw_accepted : (withdraw_with (after_calls between keyed) book index' here.count).answer ≡ accepted tt) →
         (out : List ℕ) →
-        (out-has-room : options_of book ≤ length out) →
+        (out_has_room : options_of book ≤ length out) →
         report_of (after_calls calls start).sheet out ≡ report_of here.sheet out
     unfolding key_with key_of
     taken_back_as_never_keyed ok long same all_in e quiet f out room =
@@ -155,9 +155,9 @@ module _
         last_removed account.ledger l here.count long_as ∙ sym all_in in
         let end = reckoned e quiet f in
         let left : Account = without_line (with_choice account l) book here.count in
-        let room-end : options_of (account_calls calls start (loaded book start)).book ≤ length out =
+        let room_end : options_of (account_calls calls start (loaded book start)).book ≤ length out =
         rw (ap (λ a. a.book) end) room in
-        (d calls).means.report_is out room-end
+        (d calls).means.report_is out room_end
         ∙ ap (λ a. reported (report (options_of a.book) (meaning a)) out) end
         ∙ ap (λ r. reported r out) (same_account left account (sym same) choices)
         ∙ sym ((d before).means.report_is out (rw same room))

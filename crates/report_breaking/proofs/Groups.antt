@@ -118,13 +118,13 @@ module _ (v : ℕ → Bool) (ls fs : List ℕ) (s : Stacked (length ls) fs) (ins
 
   pub makes_standing : (new : List ℕ) → base ≤ length new → take base new ≡ take base ls → InTable new →
       ((q : ℕ) → among q (drop base new) ≡ v q) → Made v ls fs new (2 * base)
-  makes_standing new long same inside-new h =
+  makes_standing new long same inside_new h =
       let o = even_entry base in
       record {
         first = o.0 ∙ e;
         long = omega arith;
         same = rw o.0 same;
-        inside = inside-new;
+        inside = inside_new;
         each = λ q. rw (o.0, o.1) (h q);
         none = λ z. true_false (sym z ∙ o.1);
       }

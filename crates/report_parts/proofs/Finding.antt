@@ -183,8 +183,8 @@ module _ {s ends homes : List ℕ} {i : ℕ} (sheet : Formed s) (w : Finding s e
             one = ap (λ xs. trees (map node_of xs)) (sym (stretch_start i (2 + used_in s) k s within)) ∙ rw same (first_one (stretch i (2 + used_in s) s) known spelled.1 some_left);
             inside = λ m l e.
                 let short : m < i + k - i = omega (arith, stretch_long i (i + k) s (omega arith)) in
-                let at-m = stretch_number i (i + k) m s short in
-                rw at-m (literal_place s sheet (i + m) (omega arith) (omega arith) (rw at-m at e));
+                let at_m = stretch_number i (i + k) m s short in
+                rw at_m (literal_place s sheet (i + m) (omega arith) (omega arith) (rw at_m at e));
             seated =
                 ap (λ xs. all_seated (decode (map node_of xs))) (sym (stretch_start i (2 + used_in s) k s within))
                 ∙ rw same (first_seated (stretch i (2 + used_in s) s) known spelled.1 some_left seated_left);
@@ -198,7 +198,7 @@ module _ {s ends homes : List ℕ} {i : ℕ} (sheet : Formed s) (w : Finding s e
         let within = part_within in
         let wide = w.wide in
         let own : get_or (set ends i (i + k)) i 0 ≡ i + k = get_or-set_same ends i (i + k) 0 (omega arith) in
-        let same-own : (j : ℕ) → j ≡ i → get_or (set ends i (i + k)) j 0 ≡ i + k = λ j e. ap (λ m. get_or (set ends i (i + k)) m 0) e ∙ own in
+        let same_own : (j : ℕ) → j ≡ i → get_or (set ends i (i + k)) j 0 ≡ i + k = λ j e. ap (λ m. get_or (set ends i (i + k)) m 0) e ∙ own in
         let other : (j : ℕ) → (j ≡ i → ⊥) → get_or (set ends i (i + k)) j 0 ≡ get_or ends j 0 = λ j d. get_or-set_other ends i j (i + k) 0 d in
         let before : (j : ℕ) → (get_or ends j 0 ≡ 0 → ⊥) → j < i = λ j d. omega (arith, w.passed j d, (w.part j d).goes_on) in
         record {
@@ -214,15 +214,15 @@ module _ {s ends homes : List ℕ} {i : ℕ} (sheet : Formed s) (w : Finding s e
               (either (ltb m (i + k))))
               (either (ltb m i));
           passed = λ j d. ⊎_elim
-              (λ e. rw (same-own j e) (omega arith))
+              (λ e. rw (same_own j e) (omega arith))
               (λ e. rw (other j e) (omega (arith, w.passed j (λ z. d (other j e ∙ z)))))
               (same_or_not j i);
           part = λ j d. ⊎_elim
-              (λ e. rw (same-own j e, e) here)
+              (λ e. rw (same_own j e, e) here)
               (λ e. rw (other j e) (w.part j (λ z. d (other j e ∙ z))))
               (same_or_not j i);
           home = λ j n d l m. ⊎_elim
-              (λ e. claimed.inside n (omega arith) (rw (same-own j e) at m) ∙ sym e)
+              (λ e. claimed.inside n (omega arith) (rw (same_own j e) at m) ∙ sym e)
               (λ e.
               let old : get_or ends j 0 ≡ 0 → ⊥ = λ z. d (other j e ∙ z) in
               let near : n < get_or ends j 0 = rw (other j e) at m in

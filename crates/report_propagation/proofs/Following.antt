@@ -35,11 +35,11 @@ use Rattle.report_propagation.proofs.Looking.{part_inside}
 use Rattle.report_propagation.proofs.Watching.{watching_looked, noted_later, noted_now}
 
 -- A place of the chain is passed: its part is not due.
-module _ {s ends homes links : List ℕ} (table : Parted s ends homes) (links-of : Linked s links) {q : ℕ}
+module _ {s ends homes links : List ℕ} (table : Parted s ends homes) (links_of : Linked s links) {q : ℕ}
     (small : q < most_literals) {seen : List ℕ} {turn : Turn} where
   pub passed_none : OnChain s q turn.place → Passed s ends seen q turn (get_or links turn.place 0)
   passed_none c =
-      let latest = links-of.before q turn.place small c in
+      let latest = links_of.before q turn.place small c in
       record {
         there = ⊎_elim (λ e. inl e) (λ p. inr p.1) latest.there;
         looked = λ i k l b d e z o. absurd (omega (arith, latest.last k b o));
@@ -50,7 +50,7 @@ module _ {s ends homes links : List ℕ} (table : Parted s ends homes) (links-of
   unfolding due
   passed_more {m} l {part} f t idle w =
       let o : Occurs s q m = ⊎_elim (λ e. absurd (omega arith)) (λ p. p) w.there in
-      let latest = links-of.before q m small (inr o) in
+      let latest = links_of.before q m small (inr o) in
       record {
         there = ⊎_elim (λ e. inl e) (λ p. inr p.1) latest.there;
         looked = λ i k a b d e z p. ⊎_elim
@@ -101,7 +101,7 @@ following_none w z p =
       done = λ h i k l. absurd (omega arith);
     }
 
-module _ {s ends homes links : List ℕ} (sheet : Formed s) (table : Parted s ends homes) (links-of : Linked s links)
+module _ {s ends homes links : List ℕ} (sheet : Formed s) (table : Parted s ends homes) (links_of : Linked s links)
     {seen t trail : List ℕ} {n large : ℕ} {turn : Turn} (v : Following s ends seen t trail n large turn) where
   -- From a place of the chain on, which the turn leads to.
   from_place : {m : ℕ} → NextDue ends homes links seen turn m → (h i k : ℕ) → h < large →
@@ -125,7 +125,7 @@ module _ {s ends homes links : List ℕ} (sheet : Formed s) (table : Parted s en
           let q = get_or trail h 0 in
           let small : q < most_literals = v.watching.facts.placed h (omega (arith, v.ahead)) in
           let on : OnChain s q turn.place = rw same at c.0 in
-          let passed = next.passed s q table links-of small on in
+          let passed = next.passed s q table links_of small on in
           let w = passed.looked i k (after all last) before a b (omega (arith, p.begins, p.ends, sheet.used)) o in
           omega arith
 
@@ -164,7 +164,7 @@ module _ {s ends homes links : List ℕ} (sheet : Formed s) (table : Parted s en
           let q = get_or trail turn.index 0 in
           let small : q < most_literals = v.watching.facts.placed turn.index (omega arith) in
           let same : get_or trail' turn'.index 0 ≡ q = w.grown.old turn'.index index ∙ ap (λ x. get_or trail x 0) a in
-          let there = (next.passed s q table links-of small u.0).there in
+          let there = (next.passed s q table links_of small u.0).there in
           (rw (same, b) (inr (⊎_elim (λ z. absurd (omega arith)) (λ z. z) there)), omega (arith, u.1))
 
   -- The chain is passed; and another literal's turn, for some parts or for all.

@@ -210,11 +210,11 @@ module _ {s t trail : List ℕ} {n : ℕ} {t' trail' : List ℕ} {n' : ℕ} (g :
       }
 
   pub exhausted_on : {c : ℕ} → c ≤ n → ExhaustedAt s i e c t trail n → ExhaustedAt s i e c t' trail' n'
-  exhausted_on {c} below was-so free =
+  exhausted_on {c} below was_so free =
       let more = g.more in
       let before : Untouched s i e c trail n = λ h m' a b d f o. free h m' a (omega arith) d f (rw (g.old h b) o) in
       let after : Untouched s i e n trail' n' = λ h m' a b d f o. free h m' (omega arith) b d f o in
-      let was = was-so before in
+      let was = was_so before in
       record {
         stands = untouched_as_it_is after ∙ was.stands;
         known = λ q m small from to occurs fall.

@@ -38,7 +38,7 @@ looked sheet part before after grown answered =
     }
 
 -- Of the literals that break a part, the first k are known.
-pub record Breaks-known (s : List ℕ) (i e : ℕ) (t₀ trail₀ : List ℕ) (n₀ : ℕ) (places : List ℕ) (count : ℕ)
+pub record BreaksKnown (s : List ℕ) (i e : ℕ) (t₀ trail₀ : List ℕ) (n₀ : ℕ) (places : List ℕ) (count : ℕ)
     (t trail : List ℕ) (n k : ℕ) : Type 0 where
   pub sheet : Formed s
   pub part : Part s i e
@@ -50,7 +50,7 @@ pub record Breaks-known (s : List ℕ) (i e : ℕ) (t₀ trail₀ : List ℕ) (n
 
 module _ {s : List ℕ} {i e : ℕ} {t₀ trail₀ : List ℕ} {n₀ : ℕ} {places : List ℕ} {count : ℕ} where
   pub breaks_none : Formed s → Part s i e → Facts s t₀ trail₀ n₀ → IsBrokenBy t₀ (stretch i e s) places count →
-      Breaks-known s i e t₀ trail₀ n₀ places count t₀ trail₀ n₀ 0
+      BreaksKnown s i e t₀ trail₀ n₀ places count t₀ trail₀ n₀ 0
   breaks_none sheet part start broken =
       record {
         sheet = sheet;
@@ -62,10 +62,10 @@ module _ {s : List ℕ} {i e : ℕ} {t₀ trail₀ : List ℕ} {n₀ : ℕ} {pla
         known = λ j l. absurd (omega arith);
       }
 
-  module _ {t trail : List ℕ} {n k : ℕ} (w : Breaks-known s i e t₀ trail₀ n₀ places count t trail n k) where
+  module _ {t trail : List ℕ} {n k : ℕ} (w : BreaksKnown s i e t₀ trail₀ n₀ places count t trail n k) where
     pub breaks_more : k < count → {p : ℕ} → p ≡ get_or places k 0 → {t' trail' : List ℕ} {n' : ℕ} → n' ≡ pick (fresh t p) (n + 1) n →
         t' ≡ pick (fresh t p) (set t (opposite p) 1) t → trail' ≡ pick (fresh t p) (set trail n (opposite p)) trail →
-        Breaks-known s i e t₀ trail₀ n₀ places count t' trail' n' (k + 1)
+        BreaksKnown s i e t₀ trail₀ n₀ places count t' trail' n' (k + 1)
     breaks_more l {p} z {t'} a b c =
         let here = w.broken.each k l in
         let near : p < most_literals = rw z here.0 in

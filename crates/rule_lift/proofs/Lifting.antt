@@ -175,7 +175,7 @@ module _ {r : ℕ} {l : List ℕ} (s : Stretch l) (h : Headed r l) (i j : ℕ) (
       m ≡ children (get_or l (child_at i l) 0) → let new = set l 0 (x + m - 1) in
       out ≡ take a new ++ (drop (a + 1) new ++ replicate 1 0) → out ≡ rewritten_to r i j l
   unfolding family_at pick change merge ◌⊕◌
-  turns_merge q n at_place at_head more-children e =
+  turns_merge q n at_place at_head more_children e =
       let c = h.conn in
       let k = h.children in
       let g = headed_group s h in
@@ -185,7 +185,7 @@ module _ {r : ℕ} {l : List ℕ} (s : Stretch l) (h : Headed r l) (i j : ℕ) (
       let here = conjunction_here i k o.1 in
       let more : get_or l 0 0 + children (get_or l (child_at i l) 0) - 1 + 1 ≡ get_or l 0 0 + size m =
       rw (← first_left (child_at i l) l) (omega (arith, group_children (child_group g i here), group_bounds g)) in
-      rw (at_place, at_head, more-children) at e ∙ child_opened g i here _ (headed_groups h (omega arith)) more ∙ ap (λ f. spell (f ⊕ h.rest) (h.zeros + 1)) (only_some _ (node c (first i k ⊕ m ⊕ after (suc i) k) nil) o.2).1)
+      rw (at_place, at_head, more_children) at e ∙ child_opened g i here _ (headed_groups h (omega arith)) more ∙ ap (λ f. spell (f ⊕ h.rest) (h.zeros + 1)) (only_some _ (node c (first i k ⊕ m ⊕ after (suc i) k) nil) o.2).1)
       n
 
   -- The literal moves.
@@ -194,10 +194,10 @@ module _ {r : ℕ} {l : List ℕ} (s : Stretch l) (h : Headed r l) (i j : ℕ) (
       let new = set (set l 0 (get_or l 0 0 + 1)) a (y - 1) in
       out ≡ take a new ++ (get_or new (a + d) 0 ∷ take (a + d - a) (drop a new) ++ drop (a + d + 1) new) → out ≡ rewritten_to r i j l
   unfolding change lift ◌⊕◌
-  turns_lift a b n at_place inner-place head-there e =
+  turns_lift a b n at_place inner_place head_there e =
       let k = h.children in
       family_turn h i j h.zeros t
       (λ new w. let o = then_some (conjunction_at (after i k)) _ (rw (family_11 r a b) at w) in
       let v = then_some (literal_at (after j o.0)) _ o.2 in
-      rw (head-there, at_place, inner-place) at e ∙ literal_moved (headed_group s h) (headed_groups h (omega arith)) i j (conjunction_here i k o.1) (literal_here j o.0 v.1) ∙ ap (λ f. spell (f ⊕ h.rest) h.zeros) (some_inj v.2))
+      rw (head_there, at_place, inner_place) at e ∙ literal_moved (headed_group s h) (headed_groups h (omega arith)) i j (conjunction_here i k o.1) (literal_here j o.0 v.1) ∙ ap (λ f. spell (f ⊕ h.rest) h.zeros) (some_inj v.2))
       n

@@ -102,9 +102,9 @@ module _ (a : Literal) (fit : fits (leaf a) ≡ true) where
       let long : length (code k) ≡ u + (1 + length (code q)) = omega (arith, ap length all, length-append (code p) (x ∷ code q)) in
       let spread : code k ++ s ≡ code p ++ (x ∷ (code q ++ s)) = ap (λ t. t ++ s) all ∙ append_assoc (code p) (x ∷ code q) s in
       let upto : List ℕ = y ∷ (code p ++ (x ∷ [])) in
-      let cut-after : l ≡ upto ++ (code q ++ s) = ap (λ t. y ∷ t) (spread ∙ sym (append_assoc (code p) (x ∷ []) (code q ++ s))) in
+      let cut_after : l ≡ upto ++ (code q ++ s) = ap (λ t. y ∷ t) (spread ∙ sym (append_assoc (code p) (x ∷ []) (code q ++ s))) in
       let left : take (1 + u - 1) (code k ++ s) ≡ code p = ap (take (1 + u - 1)) spread ∙ take_at (code p) (x ∷ (code q ++ s)) (1 + u - 1) (omega arith) in
-      let rest : drop (1 + u + 1) l ≡ code q ++ s = ap (drop (1 + u + 1)) cut-after ∙ drop_at upto (code q ++ s) (1 + u + 1) (omega (arith, length-append (code p) (x ∷ []))) in
+      let rest : drop (1 + u + 1) l ≡ code q ++ s = ap (drop (1 + u + 1)) cut_after ∙ drop_at upto (code q ++ s) (1 + u + 1) (omega (arith, length-append (code p) (x ∷ []))) in
       let right : take (suc (length (code k)) - (1 + u + 1)) (drop (1 + u + 1) l) ≡ code q = ap (take (suc (length (code k)) - (1 + u + 1))) rest ∙ take_at (code q) s (suc (length (code k)) - (1 + u + 1)) (omega arith) in
       let fewer : y - 1 ≡ number_of (head c (size (without_unit a k))) = omega (arith, head_number c (size k) o, head_number c (size (without_unit a k)) o, ap size d.whole, size-⊕ p (lit a q), ap size d.less, size-⊕ p q) in
       parts ∙ ap₂ (λ z t. z ∷ t) fewer (ap₂ ◌++◌ left right ∙ sym (ap code d.less ∙ code-⊕ p q))

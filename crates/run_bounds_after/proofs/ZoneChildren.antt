@@ -53,16 +53,16 @@ here s h p i lt =
     let g = (group_of f w.0 l w.1 w.2 (omega arith)).2 in
     let place = child_place g i (omega arith) in
     let room = child_room g i (omega arith) in
-    let size-long = length-drop (2 + p) s in
+    let size_long = length-drop (2 + p) s in
     record {
       whole = h.whole;
       within = within;
       few = h.used;
-      short = omega (arith, h.whole, size-long);
-      long = omega (arith, h.whole, size-long, h.used);
+      short = omega (arith, h.whole, size_long);
+      long = omega (arith, h.whole, size_long, h.used);
       at = omega (arith, place, length-map (encode (first i (kids f))) number_of);
-      inside = omega (arith, room, h.whole, size-long, h.used);
-      index = omega (arith, room, child_later g i (omega arith), h.whole, size-long);
+      inside = omega (arith, room, h.whole, size_long, h.used);
+      index = omega (arith, room, child_later g i (omega arith), h.whole, size_long);
     }
 
 some_tree : (f : Forest) → 1 ≤ length (encode f) → 1 ≤ size f
@@ -80,5 +80,5 @@ size_here s h p lt =
     let w = sheet_spelled h p (omega arith) in
     let t = trees_drop p ns (shaped_trees h.shaped) in
     let code : encode f ≡ drop p ns = (encode_decode (drop p ns) t.0 t.1).0 in
-    let some-here : 1 ≤ size f = some_tree f (omega (arith, ap length code, length-drop p ns, h.count)) in
-    ap (span 1) (drop-drop p 2 s ∙ w.1) ∙ start_at 1 f w.0 some-here w.2
+    let some_here : 1 ≤ size f = some_tree f (omega (arith, ap length code, length-drop p ns, h.count)) in
+    ap (span 1) (drop-drop p 2 s ∙ w.1) ∙ start_at 1 f w.0 some_here w.2

@@ -100,7 +100,7 @@ module _ {s t low : List ℕ} {x : Redex} (c : ComeTo x.rule x.place s t low) (a
     all_high = subst (λ k. High x.rule 0 k low) (sym h.count) c.high
 
     pub moved_on : {r : Reach} → r.from ≡ p.outer → x.place + 1 ≤ r.to → p.zone.new ≤ r.to → MovedOn x.rule r u v up
-    moved_on {r} from past-place past-zone =
+    moved_on {r} from past_place past_zone =
         let right = bounds_after s h x a f low up n c.tables.right in
         let ones = high_one s h x a f low up n c.some_rule all_high in
         let outside = high_outside s h x a f low up n c.some_rule all_high in

@@ -53,7 +53,7 @@ pub nearest_two :
     (q : ℕ) →
     Holds q p (nodes_in s) →
     (q ≡ inner) ⊎ ((q < inner) × ((q ≡ outer) ⊎ Twice q p (nodes_in s)))
-nearest_two {s} {t} m p inner outer within reach near reach-2 near-2 q held = go q held (near q held.0 (wide q held)) (either (eqb q inner))
+nearest_two {s} {t} m p inner outer within reach near reach_2 near_2 q held = go q held (near q held.0 (wide q held)) (either (eqb q inner))
   where
     ends : (q : ℕ) → q < used_in s → q + get_or t q 0 ≡ tree_end q (nodes_in s)
     ends q l =
@@ -76,7 +76,7 @@ nearest_two {s} {t} m p inner outer within reach near reach-2 near-2 q held = go
         (q ≡ outer) ⊎ Twice q p (nodes_in s)
     deeper q held l lt w (inl e) = inl (eqb-true q outer e)
     deeper q held l lt w (inr e) =
-        inr (record { outer = outer; inner = inner; later = omega (arith, w.1, eqb-false q outer e); deeper = w.0; outer_holds = holds outer (omega (arith, w.0)) (reach-2 w.0); inner_holds = holds inner lt (reach lt) })
+        inr (record { outer = outer; inner = inner; later = omega (arith, w.1, eqb-false q outer e); deeper = w.0; outer_holds = holds outer (omega (arith, w.0)) (reach_2 w.0); inner_holds = holds inner lt (reach lt) })
 
     go :
         (q : ℕ) →
@@ -87,4 +87,4 @@ nearest_two {s} {t} m p inner outer within reach near reach-2 near-2 q held = go
     go q held w (inl e) = inl (eqb-true q inner e)
     go q held w (inr e) =
         let lt : q < inner = omega (arith, w.1, eqb-false q inner e) in
-        inr (lt, deeper q held lt w.0 (near-2 q lt (wide q held)) (either (eqb q outer)))
+        inr (lt, deeper q held lt w.0 (near_2 q lt (wide q held)) (either (eqb q outer)))

@@ -57,7 +57,7 @@ passing_all {groups} {l} {held} {left} {from} p past x lit two =
     let over : groups_in left (drop from l) ≡ 0 = ⊎_elim (groups_none left from l) (groups_end left from l) past in
     ⊎_elim
     (λ all. (omega (arith, sharing_all x k (drop 1 l) all, p.counted, over), (p.reached x lit all).1))
-    (λ not-all. absurd (omega (arith, sharing_not x k (drop 1 l) not-all)))
+    (λ not_all. absurd (omega (arith, sharing_not x k (drop 1 l) not_all)))
     (either (all_share x k (drop 1 l)))
 
 -- A child that is neither a literal nor a conjunction shares no literal.
@@ -76,5 +76,5 @@ passing_other {groups} {l} {held} {left} {from} last p some inside other x lit t
     let no : shares_here x (drop from l) ≡ false = shares_not x (drop from l) inner (λ e. omega (arith, ap kind (first_left from l))) in
     ⊎_elim
     (λ all. true_false (sym (p.reached x lit all).0 ∙ share_fails x left from l some inside no))
-    (λ not-all. absurd (omega (arith, sharing_not x k (drop 1 l) not-all)))
+    (λ not_all. absurd (omega (arith, sharing_not x k (drop 1 l) not_all)))
     (either (all_share x k (drop 1 l)))

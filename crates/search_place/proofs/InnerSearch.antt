@@ -131,11 +131,11 @@ module _ {r : ℕ} {l : List ℕ} (s : Stretch l) (h : Headed r l) (i : ℕ) whe
           ((j : ℕ) → j < children (get_or l at 0) → is_some (rewrite r i j (forest_in l)) ≡ false) →
           (p : ℕ) →
           none ≡ least_j r p i (forest_in l)
-      inner_none h-below p = j_none r p (forest_in l) i (λ j m. go j (either (ltb j (children (get_or l at 0)))))
+      inner_none h_below p = j_none r p (forest_in l) i (λ j m. go j (either (ltb j (children (get_or l at 0)))))
         where
           go :
               (j : ℕ) →
               (ltb j (children (get_or l at 0)) ≡ true) ⊎ (ltb j (children (get_or l at 0)) ≡ false) →
               is_some (rewrite r i j (forest_in l)) ≡ false
-          go j (inl t) = h-below j (ltb-true j (children (get_or l at 0)) t)
+          go j (inl t) = h_below j (ltb-true j (children (get_or l at 0)) t)
           go j (inr t) = sym (asked j) ∙ ap (λ t. t && is_literal (get_or l (at + child_at j (drop at l)) 0)) t

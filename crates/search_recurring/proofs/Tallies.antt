@@ -133,11 +133,11 @@ module _ {q to x : ℕ} {l t : List ℕ} (some_left : 1 < q) (within : q ≤ to)
     pub tallied_full : 2 ≤ get_or t o 0 → Tallied (q - 1) to l t
     tallied_full full =
         let few : get_or t o 0 ≤ 2 = subst (λ n. n ≤ 2) (sym (w.counted o (omega (arith, option_small, w.long)))) (tally_few (names o) (slice q to l)) in
-        let own-option : (v : ℕ) → v ≡ o → get_or t v 0 ≡ pick (names v x) (up (get_or t v 0)) (get_or t v 0) =
+        let own_option : (v : ℕ) → v ≡ o → get_or t v 0 ≡ pick (names v x) (up (get_or t v 0)) (get_or t v 0) =
         λ v e. rw e (sym (pick_keeps (λ n. n ≡ get_or t o 0) (names o x) (up_full (get_or t o 0) full few) refl)) in
         record {
           long = w.long;
-          counted = λ v h. ⊎_elim (λ e. own-option v (eqb-true v o e)) (other_option v) (either (eqb v o)) ∙ one_before v h;
+          counted = λ v h. ⊎_elim (λ e. own_option v (eqb-true v o e)) (other_option v) (either (eqb v o)) ∙ one_before v h;
         }
 
     pub tallied_up : is_literal x ≡ true → get_or t o 0 < 2 → Tallied (q - 1) to l (set t o (get_or t o 0 + 1))

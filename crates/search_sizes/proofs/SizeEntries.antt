@@ -39,17 +39,17 @@ pub sheet_sizes : {s t : List ℕ} → Measured s t → SizesOf (drop 2 s) t
 sheet_sizes {s} w = record { long = omega (arith, w.long, w.sheet.whole, length-drop 2 s); each = w.each }
 
 -- The nearest place before a bound whose tree reaches past another place.
-module _ (t : List ℕ) (below place from : ℕ) (none-later : NonePast place from below t) where
+module _ (t : List ℕ) (below place from : ℕ) (none_later : NonePast place from below t) where
   pub nearest : (q : ℕ) → q < below → place < q + get_or t q 0 → q ≤ from - 1
   nearest q l h =
       ⊎_elim
       (λ e. let lt = ltb-true q from e in omega arith)
-      (λ e. absurd (none-later q (ltb-false q from e) l h))
+      (λ e. absurd (none_later q (ltb-false q from e) l h))
       (either (ltb q from))
 
   pub one_more : (place < from - 1 + get_or t (from - 1) 0 → ⊥) → NonePast place (from - 1) below t
   one_more short k le l h =
       ⊎_elim
       (λ e. let same : k ≡ from - 1 = omega (arith, ltb-true k from e) in short (subst (λ x. place < x + get_or t x 0) same h))
-      (λ e. none-later k (ltb-false k from e) l h)
+      (λ e. none_later k (ltb-false k from e) l h)
       (either (ltb k from))

@@ -238,15 +238,15 @@ pub assigned_lit :
     (same l x ≡ false → same (complement l) x ≡ false → P (lit x (assigned c l f))) →
     P (assigned c l (lit x f))
 unfolding assigned pick
-assigned_lit P c l x f same-one other-one neither = go (same l x) (same (complement l) x) refl refl
+assigned_lit P c l x f same_one other_one neither = go (same l x) (same (complement l) x) refl refl
   where
     go :
         (a b : Bool) →
         same l x ≡ a →
         same (complement l) x ≡ b →
         P (pick a (node (neutral c) nil (assigned c l f)) (pick b (node (deciding c) nil (assigned c l f)) (lit x (assigned c l f))))
-    go true b e o = same-one e
-    go false true e o = other-one o
+    go true b e o = same_one e
+    go false true e o = other_one o
     go false false e o = neither e o
 
 pub size_assigned : (c : Conn) (l : Literal) (f : Forest) → size (assigned c l f) ≡ size f

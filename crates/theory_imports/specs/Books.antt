@@ -185,9 +185,9 @@ module _ (f : File) (ok : Usable f) where
   file_in_line : in_line (length (body_numbers f)) 0 (places 0 (body_counts f)) ≡ true
   file_in_line =
       let ks : List ℕ = body_counts f in
-      let some-each : all (leb 1) ks ≡ true = ap (all (leb 1)) (sym (counts_trees f.clauses)) ∙ counts_some (trees f.clauses) in
+      let some_each : all (leb 1) ks ≡ true = ap (all (leb 1)) (sym (counts_trees f.clauses)) ∙ counts_some (trees f.clauses) in
       in_line_places (length (body_numbers f)) 0 ks
-      ∙ and_join some-each (eq-eqb (0 + total ks) (length (body_numbers f)) (omega (arith, numbers_total f, long f)))
+      ∙ and_join some_each (eq-eqb (0 + total ks) (length (body_numbers f)) (omega (arith, numbers_total f, long f)))
 
   -- None of the conditions of 1 to 6 is against it.
   pub file_accepted : Accepted (book_of_file f)

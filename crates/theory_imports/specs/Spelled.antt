@@ -52,9 +52,9 @@ some_mark (neg v) = omega arith
 digits_mark : (n v : ℕ) (barred : Bool) → v < n → mark_by n barred (decimal (suc v)) ≡ some (literal v barred)
 unfolding mark_by between only_if
 digits_mark n v barred h =
-    let in-range = and_join (le-leb 1 (suc v) (omega arith)) (le-leb (suc v) n (omega arith)) in
+    let in_range = and_join (le-leb 1 (suc v) (omega arith)) (le-leb (suc v) n (omega arith)) in
     let before : suc v - 1 ≡ v = omega arith in
-    rw (decimal_number (suc v), decimal_is (suc v), in-range, before)
+    rw (decimal_number (suc v), decimal_is (suc v), in_range, before)
 
 plain_mark : (n : ℕ) (w : List ℕ) → 0 < length w → 45 < get_or w 0 0 → mark_of_word n w ≡ mark_by n false w
 unfolding mark_of_word

@@ -4,7 +4,7 @@ use Rattle.std.proofs.Math.Option.{Option, none, some}
 use Rattle.std.proofs.Common.{sym, arith}
 use Rattle.model.specs.Base.{only_if, first_of, then, placed}
 use Rattle.model.specs.Sheet.{is_sheet}
-use Rattle.calls.specs.Refusals.{Refusal, due, ◌or-else◌, sheet-refused, refusal_number}
+use Rattle.calls.specs.Refusals.{Refusal, due, ◌or_else◌, sheet_refused, refusal_number}
 use Rattle.calls.specs.Outcomes.{refused, accepted, Outcome, outcome, refusal_in, unless}
 use Rattle.calls.specs.Index.{fresh_count, Indexed}
 use Rattle.calls.specs.Conditions.{index_length}
@@ -17,12 +17,12 @@ use Rattle.theory_index.specs.WithIndex.{none_right, with_index_is}
 -- The first refusal of a choice, withdrawal, step or run is the sheet's 11, which is early: where no early one is due, it is a sheet.
 pub sheet_first :
     (s : List ℕ) (later : Option Refusal) →
-    early (due (not (is_sheet s)) sheet-refused or_else later) ≡ none →
+    early (due (not (is_sheet s)) sheet_refused or_else later) ≡ none →
     is_sheet s ≡ true
 unfolding early is_early refusal_number then first_of only_if
 sheet_first s later e = go (is_sheet s) e
   where
-    go : (b : Bool) → then (first_of (only_if (not b) sheet-refused) later) (λ r. only_if (is_early r) r) ≡ none → b ≡ true
+    go : (b : Bool) → then (first_of (only_if (not b) sheet_refused) later) (λ r. only_if (is_early r) r) ≡ none → b ≡ true
     go true e = refl
     go false e = none_some (sym e)
 

@@ -4,7 +4,7 @@ use Rattle.std.proofs.Math.Option.{Option, none, some}
 use Rattle.std.proofs.Math.Path.{refl, ap, subst}
 use Rattle.std.proofs.Common.{sym, ◌∙◌, arith}
 use Rattle.model.specs.Base.{only_if, first_of, then, placed}
-use Rattle.calls.specs.Refusals.{Refusal, sheet-refused, output-refused}
+use Rattle.calls.specs.Refusals.{Refusal, sheet_refused, output_refused}
 use Rattle.calls.specs.Outcomes.{refused, accepted, Outcome, outcome, refusal_in, unless}
 use Rattle.calls.specs.Index.{fresh_count, Indexed}
 use Rattle.calls.specs.Conditions.{has_short_index, has_stale_index}
@@ -24,9 +24,9 @@ pub index_none :
 unfolding index_refusal
 index_none s index own e =
     let p = first_none (early own) _ e in
-    let q = first_none (only_if (has_stale_index s index) sheet-refused) _ p.1 in
+    let q = first_none (only_if (has_stale_index s index) sheet_refused) _ p.1 in
     let r = first_none own _ q.1 in
-    (r.0, only_none (has_stale_index s index) sheet-refused q.0, only_none (has_short_index s index) output-refused r.1)
+    (r.0, only_none (has_stale_index s index) sheet_refused q.0, only_none (has_short_index s index) output_refused r.1)
 
 pub none_right : (s index : List ℕ) (own : Option Refusal) → index_refusal s index own ≡ none → (own ≡ none) × Right s index
 none_right s index own e = let w = index_none s index own e in (w.0, tests_right s index w.1 w.2)

@@ -71,6 +71,7 @@ module _ (facts : List Literal) where
 
   forced_in_none : (c ls : Clause) {l : Literal} → forced_in facts c ls ≡ none → Memᴰ l ls → forces facts c l ≡ false
   unfolding forced_in
+  forced_in_none c [] {l = l} e x'' = elim x'' [ ]
   forced_in_none c (y ∷ ls) {l} e (Memᴰ.head q) = rw q (only_none (forces facts c y) y (first_none (only_if (forces facts c y) y) (forced_in facts c ls) e).0)
   forced_in_none c (y ∷ ls) e (Memᴰ.tail m) = forced_in_none c ls (first_none (only_if (forces facts c y) y) (forced_in facts c ls) e).1 m
 
@@ -96,6 +97,7 @@ module _ (facts : List Literal) where
       Memᴰ l c →
       forces facts c l ≡ false
   unfolding forced
+  forced_none [] {c = c} {l = l} e x3 k = elim x3 [ ]
   forced_none (d ∷ cs) {c} e (Memᴰ.head q) k = forced_in_none c c (rw q (first_none (forced_in facts d d) (forced facts cs) e).0) k
   forced_none (d ∷ cs) e (Memᴰ.tail m) k = forced_none cs (first_none (forced_in facts d d) (forced facts cs) e).1 m k
 

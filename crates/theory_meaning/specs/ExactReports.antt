@@ -73,8 +73,8 @@ report_by_tells n {cs} {facts} s =
     here : (Contradictory cs → ⊥) → (v : ℕ) → v < n → Says (get_or (pick (conflict facts cs) (replicate n 3) marks) v 0) v
     here d v h =
         let quiet : conflict facts cs ≡ false = fails_if (conflict facts cs) (λ e. d ((exact_contradictory s).0 e)) in
-        let same-mark : get_or marks v 0 ≡ mark facts v = count_at (mark facts) 0 n v h ∙ ap (mark facts) (zero-add v) in
-        told (get_or (pick (conflict facts cs) (replicate n 3) marks) v 0) (has (pos v) facts) (has (neg v) facts) (rw quiet same-mark) (exact_derived s (pos v)) (exact_derived s (neg v)) (consistent d (pos v))
+        let same_mark : get_or marks v 0 ≡ mark facts v = count_at (mark facts) 0 n v h ∙ ap (mark facts) (zero-add v) in
+        told (get_or (pick (conflict facts cs) (replicate n 3) marks) v 0) (has (pos v) facts) (has (neg v) facts) (rw quiet same_mark) (exact_derived s (pos v)) (exact_derived s (neg v)) (consistent d (pos v))
 
 -- The report that contracts cite tells.
 pub report_tells : (n : ℕ) (cs : List Clause) → Tells n cs (report n cs)

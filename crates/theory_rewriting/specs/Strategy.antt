@@ -134,14 +134,14 @@ record Chosen (ns : List Node) (x : Redex) : Type 0 where
 next_chosen : (ns : List Node) {x : Redex} → next ns ≡ some x → Chosen ns x
 next_chosen ns {x} e =
     let f = decode (drop x.place ns) in
-    let at-rule = found_rule ns e in
-    let at_place = found_place x.rule ns at-rule.0 in
+    let at_rule = found_rule ns e in
+    let at_place = found_place x.rule ns at_rule.0 in
     let at_i = found_i x.rule x.place f at_place.0 in
     let at_j = found_j x.rule x.place x.i f at_i.0 in
     let w = is_some_of (rewrite x.rule x.i x.j f) at_j.1 in
     record {
       applies = (take x.place ns ++ encode w.0, step_some x.rule x.place x.i x.j ns w.1);
-      lower_rule = at-rule.1;
+      lower_rule = at_rule.1;
       lower_place = λ p i j l. (step_none x.rule p i j ns).1 (at_place.1 p i j l);
       lower_i = λ i j l. (step_none x.rule x.place i j ns).1 (at_i.1 i j l);
       lower_j = λ j l. (step_none x.rule x.place x.i j ns).1 (at_j.2 j l);

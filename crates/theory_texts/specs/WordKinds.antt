@@ -34,8 +34,8 @@ first_kind n (w ∷ ws) = kind_of_word n w
 
 -- By the digits after a minus, or without one: what "0" is by itself, and what another decimal is.
 unfoldable pub kind_of_digits : ℕ → ℕ → List ℕ → ℕ
-kind_of_digits zero-kind n ds =
-    pick (is_decimal ds) (pick (eqb (get_or ds 0 0) 48) zero-kind (pick (leb (number_in ds) n) 2 0)) 0
+kind_of_digits zero_kind n ds =
+    pick (is_decimal ds) (pick (eqb (get_or ds 0 0) 48) zero_kind (pick (leb (number_in ds) n) 2 0)) 0
 
 -- Marks are the decimals from 1 to V.
 is_mark : (n : ℕ) (barred : Bool) (ds : List ℕ) → is_some (mark_by n barred ds) ≡ (is_decimal ds && (leb 1 (number_in ds) && leb (number_in ds) n))
@@ -129,7 +129,7 @@ no_decimal w r e h =
 
 -- What the first word is, by its digits and what follows them; and what it is by its bytes, where no blank stands.
 unfoldable pub kind_here : ℕ → ℕ → List ℕ → ℕ
-kind_here zero-kind n b = pick (breaks (past_digits b)) (kind_of_digits zero-kind n (digits_of b)) 0
+kind_here zero_kind n b = pick (breaks (past_digits b)) (kind_of_digits zero_kind n (digits_of b)) 0
 
 unfoldable pub kind_at : ℕ → List ℕ → ℕ
 kind_at n b = pick (eqb (get_or b 0 0) 45) (kind_here 0 n (drop 1 b)) (kind_here 1 n b)
@@ -140,7 +140,7 @@ part_plain (suc k) [] h = refl
 part_plain (suc k) (x ∷ b) h = h
 
 module _ (n : ℕ) where
-  no_kind : (zero-kind : ℕ) (w : List ℕ) → is_decimal w ≡ false → kind_of_digits zero-kind n w ≡ 0
+  no_kind : (zero_kind : ℕ) (w : List ℕ) → is_decimal w ≡ false → kind_of_digits zero_kind n w ≡ 0
   unfolding kind_of_digits pick
   no_kind z w e = rw e
 

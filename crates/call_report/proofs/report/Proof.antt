@@ -10,7 +10,7 @@ use lib.ListN.{length, take, drop}
 use lib.Seq.{length-take-le}
 use Rattle.model.specs.Base.{only_if, first_of, placed}
 use Rattle.model.specs.Sheet.{is_sheet, options_in, report_in}
-use Rattle.calls.specs.Refusals.{sheet-refused, output-refused}
+use Rattle.calls.specs.Refusals.{sheet_refused, output_refused}
 use Rattle.calls.specs.Outcomes.{refused, accepted, outcome}
 use Rattle.calls.specs.Chains.{report_refusal}
 use Rattle.calls.specs.Calls.{report_of}
@@ -21,11 +21,11 @@ use Rattle.call_report.proofs.report.Tie as tie
 
 -- What is answered, by the tests.
 module _ (s out : List ℕ) where
-  no_sheet : is_sheet s ≡ false → after_call (refused sheet-refused) out ≡ report_of s out
+  no_sheet : is_sheet s ≡ false → after_call (refused sheet_refused) out ≡ report_of s out
   unfolding report_of report_refusal only_if first_of outcome
   no_sheet h = rw h
 
-  no_room : is_sheet s ≡ true → length out < options_in s → after_call (refused output-refused) out ≡ report_of s out
+  no_room : is_sheet s ≡ true → length out < options_in s → after_call (refused output_refused) out ≡ report_of s out
   unfolding report_of report_refusal only_if first_of outcome
   no_room h d = rw (h, lt-ltb (length out) (options_in s) d)
 

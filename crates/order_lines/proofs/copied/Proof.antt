@@ -2,7 +2,7 @@
 use types.Logic.{Logic}
 use denote.Slice.{shr_slice_vals}
 use denote.Ref.{Bor}
-use Rattle.order_lines.proofs.Words.{◌≡◌, refl, ap, ◌∙◌, not, WellFounded, InvImage·wf, ℕ, ◌+◌, ◌-◌, ◌*◌, ◌≤◌, ◌<◌, ◌^◌, arith, List, [], ◌∷◌, ◌++◌, T, ltb, ltb→lt, nltb→le, length, get_or, Nat·lt-wfRel, id⊢, via, fst∗, fm_of, w16, u16, usize, uint_vals, uint_Tells, Contract, Triple, triple_of, cited, land, only, Ura, full_share, Ty, named, w64, ty_bool, ty_int, ty_ptr, ty_ref, Val, vint, vptr, SProp, ent, emp, Lft, Share, ftrue, fsep, fat, froom, fdies, flft, fobor, Memory, Routine, Env, Out, Tables, Wp, WpFn, after_seq, after_block, after_turn, at_return, Atoms, Fun, tables, tables_of, Item, Sq, runs, any_q, at_ret, ‵, some, ◌⊛◌, ◌$◌, ◌∵◌, !, qed, move, keep, drop, use1, use2, split, join, pick, rewrite, fsplit, fjoin, feq_i, suffices, frame, done, agg, whole, sub, look_in, look, look_raw, store, store_raw, init, forget, stop, hop, fld, from, load, lit, addr, of_opd, and_then, no_more, bin, assigns, assigns_last, first, blocks, branches, skips, jumps, exec, again, loops, Below, returns, enter, alloc1, alloc0, params1, pass1, pass0, free0, owns, pure_i, Is, shows, pointee, ShrSlice, Room, slice_ty, slice-vals, slice_val, shr_slice_Tells, RefT, row, elem_out, elem_back, elem_put, looks_slice, shuts_slice, nothing, owned, peeks, on_entry, says, Stays, stay_dropped, walk_of, Walks, ends_at, walked, yes, imm, ty_array, uint_Lawful, Array, Array-Typed}
+use Rattle.order_lines.proofs.Words.{◌≡◌, refl, ap, ◌∙◌, not, WellFounded, InvImage·wf, ℕ, ◌+◌, ◌-◌, ◌*◌, ◌≤◌, ◌<◌, ◌^◌, arith, List, [], ◌∷◌, ◌++◌, T, ltb, ltb→lt, nltb→le, length, get_or, Nat·lt_wf_rel, id⊢, via, fst∗, fm_of, w16, u16, usize, uint_vals, uint_Tells, Contract, Triple, triple_of, cited, land, only, Ura, full_share, Ty, named, w64, ty_bool, ty_int, ty_ptr, ty_ref, Val, vint, vptr, SProp, ent, emp, Lft, Share, ftrue, fsep, fat, froom, fdies, flft, fobor, Memory, Routine, Env, Out, Tables, Wp, WpFn, after_seq, after_block, after_turn, at_return, Atoms, Fun, tables, tables_of, Item, Sq, runs, any_q, at_ret, ‵, some, ◌⊛◌, ◌$◌, ◌∵◌, !, qed, move, keep, drop, use1, use2, split, join, pick, rewrite, fsplit, fjoin, feq_i, suffices, frame, done, agg, whole, sub, look_in, look, look_raw, store, store_raw, init, forget, stop, hop, fld, from, load, lit, addr, of_opd, and_then, no_more, bin, assigns, assigns_last, first, blocks, branches, skips, jumps, exec, again, loops, Below, returns, enter, alloc1, alloc0, params1, pass1, pass0, free0, owns, pure_i, Is, shows, pointee, ShrSlice, Room, slice_ty, slice-vals, slice_val, shr_slice_Tells, RefT, row, elem_out, elem_back, elem_put, looks_slice, shuts_slice, nothing, owned, peeks, on_entry, says, Stays, stay_dropped, walk_of, Walks, ends_at, walked, yes, imm, ty_array, uint_Lawful, Array, Array-Typed}
 use lib.Dec.{lit<}
 use lib.ListN.{replicate}
 use types.Run.{false_lit, free1}
@@ -85,7 +85,7 @@ module _ {M : Type 1} {𝓤 : Ura M} (𝓛 : Logic 𝓤) (mem : Memory → SProp
     Nearer j i = many - j.0 < many - i.0
 
     Nearer-wf : WellFounded Nearer
-    Nearer-wf = InvImage·wf (λ (i : Upto). many - i.0) Nat·lt-wfRel.wf
+    Nearer-wf = InvImage·wf (λ (i : Upto). many - i.0) Nat·lt_wf_rel.wf
 
     module _ (q' : Share) (l₀ l₁ l₂ l₃ l₄ l₅ l₆ l₇ l₈ l₉ l₁₀ l₁₁ l₁₂ l₁₃ l₁₄ : ℕ) where
       abbrev En : Env 𝓤 H

@@ -2,7 +2,7 @@
 use types.Logic.{Logic}
 use denote.Slice.{mut_slice_vals, mut_slice_at}
 use denote.Ref.{MutBor}
-use Rattle.order_lines.proofs.Words.{◌≡◌, refl, sym, ap, subst, not, WellFounded, InvImage·wf, ℕ, ◌+◌, ◌-◌, ◌≤◌, ◌<◌, ◌^◌, arith, List, [], ◌∷◌, ◌++◌, T, ltb, ltb→lt, nltb→le, length, get_or, Nat·lt-wfRel, Ura, full_share, Ty, named, mut, w64, ty_unit, ty_bool, ty_int, ty_ptr, ty_ref, Val, vunit, vint, vptr, SProp, ent, Lft, Share, ftrue, fat, froom, fdies, flft, fobs, fauth, fobor, Memory, Routine, Env, Out, Tables, Wp, WpFn, after_seq, after_block, after_turn, at_return, Atoms, Fun, tables, tables_of, Item, Sq, runs, any_q, at_ret, ‵, ◌⊛◌, ◌$◌, ◌∵◌, !, qed, move, keep, drop, split, join, rewrite, fsplit, fjoin, feq_i, suffices, frame, done, whole, sub, look_in, look, look_raw, store, store_raw, init, forget, stop, hop, fld, from, load, lit, unit_lit, of_opd, bin, assigns, assigns_last, first, blocks, branches, skips, jumps, exec, again, loops, Below, returns, enter, alloc1, alloc0, params1, pass1, pass0, free0, owns, pure_i, Is, shows, pointee, uint_vals, uint_Tells, uint_Makes, usize, MutSlice, Room, slice_ty, slice-vals, slice_val, mut_slice_Tells, at-slice, heres, coded_holeys, Held, RefT, at_last, row, elem_out, elem_back, elem_put, opens_slice, closes_slice, nothing, owned, on_entry, says, needs, Stays, stay_none, stay_slice, walk_of, Goes-none, Goes-slice, Walks, ends_at, walked, yes}
+use Rattle.order_lines.proofs.Words.{◌≡◌, refl, sym, ap, subst, not, WellFounded, InvImage·wf, ℕ, ◌+◌, ◌-◌, ◌≤◌, ◌<◌, ◌^◌, arith, List, [], ◌∷◌, ◌++◌, T, ltb, ltb→lt, nltb→le, length, get_or, Nat·lt_wf_rel, Ura, full_share, Ty, named, mut, w64, ty_unit, ty_bool, ty_int, ty_ptr, ty_ref, Val, vunit, vint, vptr, SProp, ent, Lft, Share, ftrue, fat, froom, fdies, flft, fobs, fauth, fobor, Memory, Routine, Env, Out, Tables, Wp, WpFn, after_seq, after_block, after_turn, at_return, Atoms, Fun, tables, tables_of, Item, Sq, runs, any_q, at_ret, ‵, ◌⊛◌, ◌$◌, ◌∵◌, !, qed, move, keep, drop, split, join, rewrite, fsplit, fjoin, feq_i, suffices, frame, done, whole, sub, look_in, look, look_raw, store, store_raw, init, forget, stop, hop, fld, from, load, lit, unit_lit, of_opd, bin, assigns, assigns_last, first, blocks, branches, skips, jumps, exec, again, loops, Below, returns, enter, alloc1, alloc0, params1, pass1, pass0, free0, owns, pure_i, Is, shows, pointee, uint_vals, uint_Tells, uint_Makes, usize, MutSlice, Room, slice_ty, slice-vals, slice_val, mut_slice_Tells, at-slice, heres, coded_holeys, Held, RefT, at_last, row, elem_out, elem_back, elem_put, opens_slice, closes_slice, nothing, owned, on_entry, says, needs, Stays, stay_none, stay_slice, walk_of, Goes-none, Goes-slice, Walks, ends_at, walked, yes}
 use Rattle.order_lines.specs.declared.Line.{Line}
 use Rattle.order_lines.specs.LineMeaning.{blank}
 use Rattle.order_lines.specs.LentLines.{moved_up}
@@ -65,7 +65,7 @@ module _ {M : Type 1} {𝓤 : Ura M} (𝓛 : Logic 𝓤) (mem : Memory → SProp
     Nearer j i = last - j.0 < last - i.0
 
     Nearer-wf : WellFounded Nearer
-    Nearer-wf = InvImage·wf (λ (i : Upto). last - i.0) Nat·lt-wfRel.wf
+    Nearer-wf = InvImage·wf (λ (i : Upto). last - i.0) Nat·lt_wf_rel.wf
 
     module _ (g : Room R (length ys)) (gk : k < 2 ^ 64) (gl : last < 2 ^ 64) (ends : last < length ys) (l₀ l₁ l₂ l₃ l₄ l₅ l₆ l₇ l₈ l₉ l₁₀ l₁₁ : ℕ) where
       abbrev En : Env 𝓤 H

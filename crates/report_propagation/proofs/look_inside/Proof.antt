@@ -2,13 +2,13 @@
 use Prim.Native.Nat.{◌-◌}
 use native.Mathlib.Omega.{arith}
 use borrow.Author.Rules.{rules}
-use Rattle.report_propagation.proofs.Looking.{part_inside, part_length, part_fallen, Breaks-known, breaks_none, breaks_more, breaks_all}
+use Rattle.report_propagation.proofs.Looking.{part_inside, part_length, part_fallen, BreaksKnown, breaks_none, breaks_more, breaks_all}
 use Rattle.report_propagation.proofs.look_inside.Statement.{statement}
 use Rattle.report_propagation.proofs.look_inside.Tie as tie
 
 abbrev invariant_loop : tie.invariant_loop
 invariant_loop sheet failed₀ trail₀ known places stack from to n grown₀ k₀ failed trail grown k =
-    Breaks-known sheet from to failed₀ trail₀ known places n failed trail grown k
+    BreaksKnown sheet from to failed₀ trail₀ known places n failed trail grown k
 
 abbrev decreases_loop : tie.decreases_loop
 decreases_loop sheet failed₀ trail₀ known places stack from to n grown₀ k₀ failed trail grown k = n - k
