@@ -1,7 +1,7 @@
 -- Document 02, U6: "A sheet is complete from now on if it is not contradictory and every option that some rule of the loaded book or some
 -- choice names is marked 1 or 2."
 use Rattle.std.specs.Prelude.{Bool, true, false, List, ◌⊎◌, ◌↔◌, ◌≡◌, ℕ, ◌<◌, length}
-use Rattle.std.proofs.Math.Logic.{Iff·trans}
+use mathlib.Core.Logic.Iff
 use Rattle.model.specs.Literal.{pos, neg}
 use Rattle.model.specs.Clauses.{Clause, Derived, Contradictory}
 use Rattle.model.specs.Propagation as propagation
@@ -53,13 +53,13 @@ module _
     pub complete_exactly :
         (complete_of order book ≡ accepted true)
         ↔ Complete (options_in order.sheet) (clauses_in order.sheet) (is_named book (counted order))
-    complete_exactly = Iff·trans (promised.complete_exact order book lent).says_complete (as_promised _ _ _)
+    complete_exactly = Iff.trans (promised.complete_exact order book lent).says_complete (as_promised _ _ _)
 
     pub incomplete_exactly :
         (complete_of order book ≡ accepted false)
         ↔ (Complete (options_in order.sheet) (clauses_in order.sheet) (is_named book (counted order)) → ⊥)
     incomplete_exactly =
-        Iff·trans (promised.complete_exact order book lent).says_incomplete (not_as_promised (as_promised _ _ _))
+        Iff.trans (promised.complete_exact order book lent).says_incomplete (not_as_promised (as_promised _ _ _))
 
     -- What was complete by document 01's words, "not contradictory and every option is 1 or 2", is complete now.
     pub complete_as_before :
@@ -92,7 +92,7 @@ module _
         (complete_of end account.book ≡ accepted true)
         ↔ Complete (options_of account.book) (meaning account) (is_named account.book account.ledger)
     complete_after o =
-        Iff·trans
+        Iff.trans
         ((promised.complete_after book target lines count book_accepted target_long_enough calls).says o).says_complete
         (as_promised _ _ _)
 
@@ -101,7 +101,7 @@ module _
         (complete_of end account.book ≡ accepted false)
         ↔ (Complete (options_of account.book) (meaning account) (is_named account.book account.ledger) → ⊥)
     incomplete_after o =
-        Iff·trans
+        Iff.trans
         ((promised.complete_after book target lines count book_accepted target_long_enough calls).says o).says_incomplete
         (not_as_promised (as_promised _ _ _))
 

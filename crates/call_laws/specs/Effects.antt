@@ -2,7 +2,7 @@
 use Rattle.std.specs.Prelude.{Bool, true, false, not, ◌&&◌, List, [], ◌∷◌, ◌++◌, ◌≡◌, refl, ℕ, ◌+◌, ◌-◌, ◌*◌, ◌≤◌, ◌<◌, ltb, length, set}
 use Rattle.std.proofs.lemmas.List.{map-append}
 use Rattle.std.proofs.Common.{append-nil, append_assoc, sym, ap, ◌∙◌, arith, ltb-true, length-take-le}
-use Rattle.std.proofs.Math.Logic.{Iff·rfl, Iff·trans, Iff·symm}
+use mathlib.Core.Logic.Iff
 use Rattle.std.proofs.Math.Option.{Option, none}
 use Rattle.model.specs.Base.{only_if, maybe, all}
 use Rattle.model.specs.Literal.{Literal, option, literal}
@@ -49,15 +49,15 @@ pub steps_models :
     Shaped n ns →
     Steps k ns ms →
     SameModels (clauses root (decode ms)) (clauses root (decode ns))
-steps_models s done u = Iff·rfl
+steps_models s done u = Iff.rfl
 steps_models {ns = ns} s (more {ms = ms} r p i j e t) u =
-    Iff·trans
+    Iff.trans
     (steps_models (step_shaped r p i j s e) t u)
-    (Iff·trans
+    (Iff.trans
     (model_holds u root (decode ms))
-    (Iff·trans
-    (Iff·symm (step_holds u r p i j ns (shaped_rooted s) e))
-    (Iff·symm (model_holds u root (decode ns)))))
+    (Iff.trans
+    (Iff.symm (step_holds u r p i j ns (shaped_rooted s) e))
+    (Iff.symm (model_holds u root (decode ns)))))
 
 -- The account's choices, one more.
 pub choice_append : (ls ms : List Literal) → choice_clauses (ls ++ ms) ≡ choice_clauses ls ++ choice_clauses ms

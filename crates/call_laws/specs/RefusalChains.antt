@@ -2,7 +2,7 @@
 use Rattle.std.specs.Prelude.{Bool, ◌↔◌, ℕ}
 use Rattle.std.proofs.Math.Bool.{true, false, not}
 use mathlib.Core.List.{List, [], ◌∷◌, ◌++◌}
-use Rattle.std.proofs.Math.Logic.{Iff·trans}
+use mathlib.Core.Logic.Iff
 use Rattle.std.proofs.Math.Option.{Option, none, some}
 use Rattle.std.proofs.Math.Path.{◌≡◌, refl, ap}
 use Rattle.std.proofs.Common.{sym, ◌∙◌, arith}
@@ -182,8 +182,8 @@ module _ {A : Type 0} (a : A) {tests : List Test} where
   unfolding answer
   answered o e =
       record {
-        refusal = λ r. Iff·trans (given o r) (rw e (first_is r tests));
-        result = Iff·trans (fine o) (rw e (none_is tests));
+        refusal = λ r. Iff.trans (given o r) (rw e (first_is r tests));
+        result = Iff.trans (fine o) (rw e (none_is tests));
       }
     where
       given : (o : Option Refusal) (r : Refusal) → (answer o a ≡ refused r) ↔ (o ≡ some r)

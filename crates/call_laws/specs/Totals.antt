@@ -58,6 +58,7 @@ module _ (u : Valuation) where
 
   -- A literal of the clause counts in its total.
   counted : (c : Clause) (x : Literal) → Memᴰ x c → value_of u x ≤ total u c
+  counted [] x m = elim m [ ]
   counted (l ∷ c) x m = go (more l c) (Memᴰ.cases_cons m) (counted c)
     where
       go :

@@ -4,7 +4,8 @@ use Rattle.std.specs.Prelude.{Bool, ◌⊎◌, ◌↔◌, ◌≡◌, ℕ, ◌-�
 use Rattle.std.proofs.Math.Bool.{true, false}
 use mathlib.Core.List.Memᴰ
 use mathlib.Core.List.{List, ◌++◌, Memᴰ}
-use Rattle.std.proofs.Math.Logic.{inl, inr, ⊎_elim, Iff·rfl, Iff·trans, Iff·symm, Iff·and}
+use Rattle.std.proofs.Math.Logic.{inl, inr, ⊎_elim}
+use mathlib.Core.Logic.Iff
 use Rattle.std.proofs.Math.Path.{refl}
 use Rattle.std.proofs.Common.{sym, ap, ◌∙◌, subst, arith}
 use Rattle.model.specs.Base.{pick, all}
@@ -191,14 +192,14 @@ module _ {cs ds : List Clause} (e : SameModels cs ds) where
 
 -- Equal clauses have the same models, and the relation is transitive.
 pub same_of : {cs ds : List Clause} → cs ≡ ds → SameModels cs ds
-same_of {cs} e u = subst (λ xs. Model u cs ↔ Model u xs) e Iff·rfl
+same_of {cs} e u = subst (λ xs. Model u cs ↔ Model u xs) e Iff.rfl
 
 pub same_trans :
     {cs ds es : List Clause} →
     SameModels cs ds →
     SameModels ds es →
     SameModels cs es
-same_trans p q u = Iff·trans (p u) (q u)
+same_trans p q u = Iff.trans (p u) (q u)
 
 -- Clauses with the same models, put together; the same clauses more; and two lists of clauses in another order.
 pub same_both :
@@ -207,7 +208,7 @@ pub same_both :
     SameModels ds es →
     SameModels (bs ++ ds) (cs ++ es)
 same_both {bs} {cs} {ds} {es} p q u =
-    Iff·trans (model_append u bs ds) (Iff·trans (Iff·and (p u) (q u)) (Iff·symm (model_append u cs es)))
+    Iff.trans (model_append u bs ds) (Iff.trans (Iff.and (p u) (q u)) (Iff.symm (model_append u cs es)))
 
 pub same_append : {cs ds : List Clause} (es : List Clause) → SameModels cs ds → SameModels (cs ++ es) (ds ++ es)
 same_append es p = same_both p (same_of refl)

@@ -1,7 +1,7 @@
 -- Demand 3: one theorem about every list of keyings, withdrawals, single steps and runs, refused ones included, from a freshly loaded
 -- sheet and any lines.
 use Rattle.std.specs.Prelude.{true, List, ◌++◌, ◌↔◌, ◌≡◌, refl, ℕ, ◌≤◌, length}
-use Rattle.std.proofs.Math.Logic.{Iff·trans}
+use mathlib.Core.Logic.Iff
 use Rattle.std.proofs.Common.{ap, ◌∙◌}
 use Rattle.model.specs.Literal.{Literal}
 use Rattle.model.specs.Clauses.{Derived, Contradictory}
@@ -93,10 +93,10 @@ from_rules book start h calls =
           let normal = sheet_normal left k.sheet calm in
           record {
             no_rule = calm;
-            falsum = Iff·trans normal.0 (same_contradictory k.models);
+            falsum = Iff.trans normal.0 (same_contradictory k.models);
             units = λ fine l.
                 let fine_here : Contradictory (clauses_in left) → ⊥ = λ c. fine ((same_contradictory k.models).0 c) in
-                Iff·trans (normal.1 fine_here l) (same_derived k.models fine_here l);
+                Iff.trans (normal.1 fine_here l) (same_derived k.models fine_here l);
           };
       bounded = λ before stretch rest parts quiet.
           let b = (calls_effect before start (loaded book start) h).agrees in

@@ -1,7 +1,7 @@
 -- The report is exact: what it says is what is derived, so equal facts give equal reports.
 use Rattle.std.specs.Prelude.{Bool, true, false, List, map, ◌↔◌, ◌≡◌, refl, ℕ, ◌<◌, length, get_or, replicate}
 use Rattle.std.proofs.Common.{⊎_elim, sym, ap, ◌∙◌, zero-add, arith, ext_get_or}
-use Rattle.std.proofs.Math.Logic.{Iff·rfl}
+use mathlib.Core.Logic.Iff
 use Rattle.std.proofs.lemmas.List.{length-replicate}
 use Rattle.model.specs.Base.{pick}
 use Rattle.model.specs.Literal.{Literal, pos, neg, complement, has}
@@ -122,4 +122,4 @@ tells_same n {cs} {ds} = tells_equal n (report_tells n cs) (report_tells n ds)
 
 -- Any saturated facts give the report, however they were found.
 pub report_by_saturated : (n : ℕ) {cs : List Clause} {facts : List Literal} → Saturated cs facts → report_by n cs facts ≡ report n cs
-report_by_saturated n {cs} s = tells_equal n (report_by_tells n s) (report_tells n cs) Iff·rfl (λ d l. Iff·rfl)
+report_by_saturated n {cs} s = tells_equal n (report_by_tells n s) (report_tells n cs) Iff.rfl (λ d l. Iff.rfl)
