@@ -56,8 +56,8 @@ def definitions(top, own):
     found = {"line_Refused": CHOSEN["line_Refused"]}
     taken = set().union(*(imported(path.read_text(encoding="utf-8"), own) for path in files(top, ".antt")))
     for path in files(top, ".antt"):
-        if path.name != "Proof.antt":
-            code = re.sub(r"(?m)--\s.*$|\.[\w'-]+", "", path.read_text(encoding="utf-8"))
+        if path.name not in ("Proof.antt", "Invariants.antt", "Answers.antt"):
+            code = re.sub(r"(?m)--\s.*$|\.[\w'-]+|\"(?:[^\"\\]|\\.)*\"", "", path.read_text(encoding="utf-8"))
             for word in WORD.findall(code):
                 if re.fullmatch(r"[a-z][\w']*(-[\w']+)+", word) and word not in taken:
                     found.setdefault(word, snake(word) if word not in CHOSEN else CHOSEN[word])
@@ -88,12 +88,17 @@ def imported(text, own):
     return names
 
 
+def outside_strings(turn, code):
+    """Code with `turn` done on all of it but its strings."""
+    return "".join(part if part.startswith('"') else turn(part) for part in re.split(r'("(?:[^"\\]|\\.)*")', code))
+
+
 def in_antt(text, names):
     """The text of an antt file, respelled; in comments between backticks alone."""
     lines = []
     for line in text.split("\n"):
         code, dashes, comment = line.partition("--") if line.lstrip().startswith("--") or " -- " in line else (line, "", "")
-        code = WORD.sub(lambda m: names.get(m.group(0), m.group(0)), code)
+        code = outside_strings(lambda part: WORD.sub(lambda m: names.get(m.group(0), m.group(0)), part), code)
         comment = re.sub(r"`[^`]*`", lambda q: WORD.sub(lambda m: names.get(m.group(0), m.group(0)), q.group(0)), comment)
         lines.append(code + dashes + comment)
     return "\n".join(lines)
@@ -123,7 +128,8 @@ def main():
     own = own_crates(top)
     names = definitions(top, own)
     turned, bad = {}, 0
-    for path in files(top, ".antt") + files(top, ".rt"):
+    made = {"Invariants.antt", "Answers.antt"}
+    for path in [p for p in files(top, ".antt") + files(top, ".rt") if p.name not in made]:
         text = path.read_text(encoding="utf-8")
         here = {old: new for old, new in names.items() if old not in imported(text, own)}
         for words in fallen_together(text, here) if path.suffix == ".antt" else []:

@@ -16,9 +16,9 @@ use Rattle.case_samples.specs.Imports.{imports, gives, spelling}
 pub files_read :
     map
     (λ t. file_of (text t))
-    ("p cnf 3 2\n3 -1 2 0\n_3 0"
+    ("p cnf 3 2\n3 -1 2 0\n-3 0"
     ∷ "p cnf 0 0"
-    ∷ "p cnf 100000000000000000000 1\n_100000000000000000000 0"
+    ∷ "p cnf 100000000000000000000 1\n-100000000000000000000 0"
     ∷ "p cnf 3 1\n4 0"
     ∷ [])
     ≡ some (record { options = 3; clauses = (pos 2 ∷ neg 0 ∷ pos 1 ∷ []) ∷ (neg 2 ∷ []) ∷ [] })
@@ -51,8 +51,8 @@ bytes_given = refl
 pub books_given :
     map
     imports
-    ("p cnf 3 6\n3 1 1 0\n0\n_2 0\n2 -2 0\n_3 -1 -3 2 0\n_2 0\n"
-    ∷ "p cnf 4 1\n_3 1 0\n"
+    ("p cnf 3 6\n3 1 1 0\n0\n-2 0\n2 -2 0\n-3 -1 -3 2 0\n-2 0\n"
+    ∷ "p cnf 4 1\n-3 1 0\n"
     ∷ "p cnf 1 3\n1 0 -1 0 0\n"
     ∷ "p cnf 12 1\n9 10 -12 -11 1 0\n"
     ∷ [])
@@ -87,7 +87,7 @@ pub up_to_long_v_too_large :
     map
     answers
     ("p cnf 123456789012345678901 1\n123456789012345678901 0"
-    ∷ "p cnf 123456789012345678901 1\n_123456789012345678901 0"
+    ∷ "p cnf 123456789012345678901 1\n-123456789012345678901 0"
     ∷ "p cnf 123456789012345678901 1\n123456789012345678900 0"
     ∷ "p cnf 123456789012345678901 1\n123456788999999999999 0"
     ∷ "p cnf 123456789012345678901 1\n99999999999999999999 0"
@@ -104,13 +104,13 @@ pub past_long_v_refused :
     map
     answers
     ("p cnf 123456789012345678901 1\n123456789012345678902 0"
-    ∷ "p cnf 123456789012345678901 1\n_123456789012345678902 0"
+    ∷ "p cnf 123456789012345678901 1\n-123456789012345678902 0"
     ∷ "p cnf 123456789012345678901 1\n123456789112345678900 0"
     ∷ "p cnf 123456789012345678901 1\n223456789012345678901 0"
     ∷ "p cnf 123456789012345678901 1\n1000000000000000000000 0"
     ∷ "p cnf 123456789012345678901 1\n0123456789012345678901 0"
     ∷ "p cnf 1 1\n18446744073709551617 0"
-    ∷ "p cnf 1 1\n_340282366920938463463374607431768211457 0"
+    ∷ "p cnf 1 1\n-340282366920938463463374607431768211457 0"
     ∷ "p cnf 1 1\n18446744073709551616"
     ∷ "p cnf 1 18446744073709551617\n1 0"
     ∷ "p cnf 0 18446744073709551616"
@@ -125,7 +125,7 @@ times n t = joined (replicate n (text t))
 
 -- "16 V over 512": 512 options, the last of them barred, whose last codes are V511 and V512; 513 options.
 pub most_options :
-    answered (text "p cnf 512 1\n_512 0") 6672 ∷ answered (text "p cnf 513 0") 6677 ∷ []
+    answered (text "p cnf 512 1\n-512 0") 6672 ∷ answered (text "p cnf 513 0") 6677 ∷ []
     ≡ accepted 6672 ∷ refused size_refused ∷ []
 unfolding definitions samples answered
 most_options = refl
@@ -172,13 +172,13 @@ in_order = refl
 -- The output, "by the writer's rules for its output": it "fills from the start and returns the length; bytes beyond stay". Just long enough;
 -- a byte too short; longer; and what it held before a text that is too large, or none.
 pub outputs_filled :
-    import_of (text "p cnf 1 1\n_1 0") (replicate 29 7)
-    ∷ import_of (text "p cnf 1 1\n_1 0") (replicate 28 7)
-    ∷ import_of (text "p cnf 1 1\n_1 0") (replicate 29 7 ++ (1 ∷ 2 ∷ 3 ∷ []))
+    import_of (text "p cnf 1 1\n-1 0") (replicate 29 7)
+    ∷ import_of (text "p cnf 1 1\n-1 0") (replicate 28 7)
+    ∷ import_of (text "p cnf 1 1\n-1 0") (replicate 29 7 ++ (1 ∷ 2 ∷ 3 ∷ []))
     ∷ import_of (text "p cnf 0 0") (1 ∷ 2 ∷ 3 ∷ 4 ∷ 5 ∷ 6 ∷ 7 ∷ 8 ∷ 9 ∷ [])
     ∷ import_of (text "p cnf 0 0") (1 ∷ 2 ∷ 3 ∷ 4 ∷ 5 ∷ 6 ∷ 7 ∷ [])
     ∷ import_of (text "p cnf 513 0") (replicate 6700 7)
-    ∷ import_of (text "p cnf 1 1\n_1 1") (1 ∷ 2 ∷ 3 ∷ [])
+    ∷ import_of (text "p cnf 1 1\n-1 1") (1 ∷ 2 ∷ 3 ∷ [])
     ∷ []
     ≡ (let b = book ("V1" ∷ []) ((any_of 1 ∷ not_P ∷ []) ∷ []) in
     record { answer = accepted 29; lent = b }

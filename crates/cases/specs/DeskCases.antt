@@ -17,7 +17,7 @@ unfoldable pub orders : List (List ℕ)
 orders =
     keyed_on first_book ""
     ∷ keyed_on (book ("P" ∷ "Q" ∷ []) ((any_of 2 ∷ P ∷ Q ∷ []) ∷ [])) "-Q\n"
-    ∷ map (keyed_on (book ("P" ∷ "Q" ∷ []) [])) ("+Q\n_P" ∷ "+Q\n_Q\n" ∷ [])
+    ∷ map (keyed_on (book ("P" ∷ "Q" ∷ []) [])) ("+Q\n-P" ∷ "+Q\n-Q\n" ∷ [])
     ++ map (keyed_on (book ("P" ∷ "Q" ∷ "R" ∷ []) ((at_least 2 3 ∷ P ∷ Q ∷ R ∷ []) ∷ []))) ("-P\n" ∷ "" ∷ [])
 
 pub orders_printed :
@@ -52,9 +52,9 @@ bad_lines =
     ∷ "- Q\n"
     ∷ "+Q \n"
     ∷ "+Q\r\n"
-    ∷ "+X\n_Q\n"
+    ∷ "+X\n-Q\n"
     ∷ "+Q\r"
-    ∷ "+Q\r_P"
+    ∷ "+Q\r-P"
     ∷ "+Q\0"
     ∷ "+Q\0-P"
     ∷ [])
