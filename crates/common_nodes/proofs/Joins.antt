@@ -18,12 +18,12 @@ use Rattle.theory_forms.specs.Scan.{is_literal, joined_by, joined_none, joined_l
 abbrev pub either_kind : ℕ → ℕ → ℕ → Bool
 either_kind a b k = eqb k a || eqb k b
 
-pub one_of : (a b k : ℕ) → (k ≡ a) ⊎ ((k ≡ a → ⊥) × (eqb k b ≡ true)) → either_kind a b k ≡ true
+pub one_of : (a b k : ℕ) → (k ≡ a) ⊎ ((k ≡ a → ⊥) × (k ≡ b)) → either_kind a b k ≡ true
 one_of a b k (inl e) = rw (eq-eqb k a e)
-one_of a b k (inr h) = rw (ne_eqb k a h.0) h.1
+one_of a b k (inr h) = rw (ne_eqb k a h.0) (eq-eqb k b h.1)
 
-pub neither : (a b k : ℕ) → (k ≡ a → ⊥) → eqb k b ≡ false → either_kind a b k ≡ false
-neither a b k h l = rw (ne_eqb k a h) l
+pub neither : (a b k : ℕ) → (k ≡ a → ⊥) → (k ≡ b → ⊥) → either_kind a b k ≡ false
+neither a b k h l = rw (ne_eqb k a h) (ne_eqb k b l)
 
 module _ (n x t : ℕ) where
   -- A literal, by its option.
