@@ -84,7 +84,7 @@ module _ (k : Forest) where
       go (inl n) q = inr (no_false root h (leb-true 2 (size k) n))
       go (inr n) (inl q) = inl (constant_here or 0 k q ∙ ap (node or nil) (past_end 1 k (omega (arith, leb-false 2 (size k) n))))
       go (inr n) (inr q) =
-          inr (λ i. elim i [ zero ↦ q | suc j ↦ ap (constant_at or) (past_end (suc j) k (omega (arith, leb-false 2 (size k) n))) ])
+          inr (λ i. elim i as (λ n. constant_at or (after n k) ≡ false) [ zero ↦ q | suc j ↦ ap (constant_at or) (past_end (suc j) k (omega (arith, leb-false 2 (size k) n))) ])
 
   -- A node below the root has no child or at least two: rules 7 and 8; of kind 6 by what is asked.
   pub empty_or_two :
