@@ -1,5 +1,6 @@
 // Moving, counting and replacing numbers within a stretch: what stays keeps its order, and zeros follow.
 #![tactic(auto)]
+
 ghost use Rattle.std.specs.Prelude.{◌≡◌, ◌∷◌, ◌++◌, map, ◌+◌, ◌-◌, ◌≤◌, ◌<◌, length, get_or, take, drop, replicate};
 ghost use Rattle.std.proofs.Math.Seq.{slice};
 ghost use Rattle.theory_reading.specs.Stretches.{live};
