@@ -1,5 +1,6 @@
 // The table of the seventeen rules, the node kind and the fewest children of each, read by the rule's number; and the test of a node by it.
 #![tactic(auto)]
+
 ghost use Rattle.std.specs.Prelude.{◌≡◌, ◌≤◌, length};
 ghost use Rattle.model.specs.Limits.{last_rule};
 ghost use Rattle.model.specs.Rules.{is_rule};
