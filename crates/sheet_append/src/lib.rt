@@ -1,5 +1,6 @@
 // The core of a choice: a literal appended as the root's last child.
 #![tactic(auto)]
+
 ghost use Rattle.std.specs.Prelude.{◌≡◌, ◌+◌, ◌≤◌, ◌<◌};
 ghost use Rattle.model.specs.Literal.{literal};
 ghost use Rattle.model.specs.Code.{weight, leaf, number_of};
