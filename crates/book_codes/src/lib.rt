@@ -1,5 +1,6 @@
 // The codes of a book: 13 bytes each, one after another. Each is read and compared, and one is found.
 #![tactic(auto)]
+
 ghost use Rattle.std.specs.Prelude.{◌≡◌, ◌*◌, ◌≤◌, length, take, eqb};
 ghost use Rattle.std.proofs.Math.Seq.{slice};
 ghost use Rattle.model.specs.Base.{all};

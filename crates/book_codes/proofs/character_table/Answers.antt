@@ -1,28 +1,21 @@
--- `book_codes::character_table` meets its contract. Invariant: the bytes below x are listed; before the hyphen and after the last letter there
--- is no character.
 use mathlib.Core.Bool.{Bool, true, false}
-use mathlib.Core.List.{List, map}
-use mathlib.Core.Logic.{⊎_elim}
+use mathlib.Core.List.{List}
 use mathlib.Core.Path.{◌≡◌, refl, sym, ap, ◌∙◌}
-use Prim.Native.Nat.{ℕ, ◌+◌, ◌-◌, ◌≤◌, ◌<◌}
+use Prim.Native.Nat.{ℕ, ◌+◌, ◌<◌}
 use native.Mathlib.Nat.{zero-add}
 use native.Mathlib.Omega.{arith}
-use borrow.Author.Rules.{rules}
 use borrow.Author.Tests.{eqb-true, eqb-false, ltb-true, ltb-false, lt-ltb, le-leb, lt-leb, ne_eqb}
 use lib.Dec.{eqb, ltb}
 use lib.ListN.{length, get_or, set, replicate, length-set, get_or-replicate}
 use lib.Seq.{ext_get_or, get_or-set_same, get_or-set_other}
 use Rattle.model.specs.Base.{pick}
-use Rattle.model.specs.Propagation.{count_from}
 use Rattle.model.specs.Book.{between, character}
 use Rattle.theory_forms.specs.Logic.{same_test}
 use Rattle.theory_forms.specs.Lists.{count_length, count_at}
 use Rattle.book_codes.specs.Characters.{character_table}
-use Rattle.book_codes.proofs.character_table.Statement.{statement}
-use Rattle.book_codes.proofs.character_table.Tie as tie
-
-abbrev listed : ℕ → ℕ
-listed v = pick (character v) 1 0
+use Rattle.book_codes.proofs.character_table.Invariants.{listed, Listed}
+use Rattle.book_codes.proofs.character_table.Goals as goal
+use Rattle.book_codes.proofs.character_table.Goals.{Joined-is_character, then-is_character, else-is_character}
 
 none_below : (v : ℕ) → v < 45 → listed v ≡ 0
 unfolding character between pick
@@ -41,10 +34,6 @@ none_above v h =
       lt-leb v 57 (omega arith),
       ne_eqb v 45 (λ e. omega arith),
     )
-
--- The bytes below x are listed, and the others are zeros.
-abbrev Listed : List ℕ → ℕ → Type 0
-Listed table x = (v : ℕ) → v < 256 → get_or table v 0 ≡ pick (ltb v x) (listed v) 0
 
 begun : Listed (replicate 256 0) 45
 unfolding pick
@@ -87,49 +76,31 @@ whole table long so =
     go v true e = refl
     go v false e = sym (none_above v (omega (arith, ltb-false v 123 e)))
 
-abbrev invariant_loop : tie.invariant_loop
-invariant_loop table₀ x₀ table x = (x ≤ 123) × (length table ≡ 256) × Listed table x
-
-abbrev decreases_loop : tie.decreases_loop
-decreases_loop table₀ x₀ table x = 123 - x
-
-loop_holds : tie.Need-loop-init invariant_loop decreases_loop
-loop_holds c = (omega arith, refl, begun)
-
 -- The number, where the two ways meet.
-number : (c : tie.Joined1 invariant_loop decreases_loop) → c.if1.table ≡ listed c.before.before.before.loop.x
+number : (c : goal.Joined-is_character) → c.if-is_character.table ≡ listed c.loop-x.x
 unfolding pick
 number c =
-    let told = c.before.is-character.ensures in
-    ⊎_elim (λ w. w.1 ∙ rw (sym told ∙ w.0.taken)) (λ w. w.1 ∙ rw (sym told ∙ w.0.left)) c.if1.branch
+    let told = c.is_character.ensures in
+    elim c.if-is_character.branch [
+      | then-is_character w ↦ w.table-is ∙ rw (sym told ∙ w.if-is_character.true)
+      | else-is_character w ↦ w.table-is ∙ rw (sym told ∙ w.if-is_character.false)
+    ]
 
-loop_again : tie.Need-loop-preserved invariant_loop decreases_loop
-loop_again c =
-    let l = c.before.before.before.loop in
+pub loop-x-init : goal.loop-x-init
+loop-x-init c = (omega arith, refl, begun)
+
+pub loop-x-preserved : goal.loop-x-preserved
+loop-x-preserved c =
+    let l = c.loop-x in
     let w = l.invariant in
-    let below = c.before.before.loop-test.true in (
+    let below = c.loop-x-test.true in (
       omega (arith, below),
-      length-set l.table l.x c.if1.table ∙ w.1,
-      more l.table l.x (omega (arith, below, w.1)) (number c) w.2,
+      length-set l.table l.x c.if-is_character.table ∙ w.1,
+      more l.table l.x (omega (arith, below, w.1)) (number (goal.at.loop-x-preserved c).Joined-is_character) w.2,
     )
 
-returns : tie.Need-returns invariant_loop decreases_loop
+pub returns : goal.returns
 returns c =
-    let l = c.before.loop in
-    let e : l.x ≡ 123 = omega (arith, l.invariant.0, c.loop-test.false) in
+    let l = c.loop-x in
+    let e : l.x ≡ 123 = omega (arith, l.invariant.0, c.loop-x-test.false) in
     whole l.table l.invariant.1 (rw e at l.invariant.2)
-
-pub character_table_spec : {M : Type 1} → statement M
-character_table_spec =
-    tie.close
-    (tie.spec
-    invariant_loop
-    decreases_loop
-    loop_holds
-    (λ c. search rules)
-    (λ c κs. search rules)
-    (λ c. search rules)
-    (λ c. search rules)
-    (λ c. search rules)
-    loop_again
-    returns)

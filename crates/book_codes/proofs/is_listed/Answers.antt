@@ -4,15 +4,13 @@ use mathlib.Core.List.{List}
 use mathlib.Core.Path.{◌≡◌, refl, ap, ◌∙◌}
 use Prim.Native.Nat.{ℕ, ◌<◌}
 use native.Mathlib.Nat.{zero-add}
-use borrow.Author.Rules.{rules}
 use lib.Dec.{eqb}
 use lib.ListN.{get_or}
 use Rattle.model.specs.Base.{pick}
 use Rattle.model.specs.Book.{character}
 use Rattle.theory_forms.specs.Lists.{count_at}
 use Rattle.book_codes.specs.Characters.{character_table}
-use Rattle.book_codes.proofs.is_listed.Statement.{statement}
-use Rattle.book_codes.proofs.is_listed.Tie as tie
+use Rattle.book_codes.proofs.is_listed.Goals as goal
 
 looked_up : {t : List ℕ} → t ≡ character_table → (x : ℕ) → x < 256 → eqb (get_or t x 0) 1 ≡ character x
 unfolding character_table pick
@@ -25,8 +23,5 @@ looked_up {t} e x h =
     told true = refl
     told false = refl
 
-returns : tie.Need-returns
-returns c = looked_up c.before.before.requires c.before.wide.result c.before.wide.ensures.1 ∙ ap character c.before.wide.ensures.0
-
-pub is_listed_spec : {M : Type 1} → statement M
-is_listed_spec = tie.close (tie.spec (λ c κs. search rules) (λ c. search rules) returns)
+pub returns : goal.returns
+returns c = looked_up c.requires c.wide.result c.wide.ensures.1 ∙ ap character c.wide.ensures.0
