@@ -5,12 +5,12 @@ use mathlib.Core.List.{List, [], ◌∷◌, map, append-nil}
 use mathlib.Core.Logic.{◌⊎◌, ⊎_elim}
 use mathlib.Core.Option.{some}
 use mathlib.Core.Path.{◌≡◌, sym, ap, ap₂, ◌∙◌}
-use Prim.Native.Nat.{ℕ, suc, ◌-◌, ◌≤◌, ◌<◌}
+use Prim.Native.Nat.{ℕ, suc, ◌≤◌, ◌<◌}
 use native.Mathlib.Omega.{arith}
 use lib.Dec.{eqb}
 use lib.ListN.{length, get_or, take, drop}
 use Rattle.model.specs.Base.{all, pick}
-use Rattle.model.specs.Forest.{and, root, Forest, size, first, after, ◌⊕◌, all_seated}
+use Rattle.model.specs.Forest.{and, root, Forest, size, first, after, all_seated}
 use Rattle.model.specs.Code.{Node, leaf, head, kind, children, encode, push, decode, trees, node_of, number_of}
 use Rattle.theory_forms.specs.Logic.{either, and_split}
 use Rattle.theory_forms.specs.Lists.{map_back}

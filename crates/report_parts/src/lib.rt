@@ -1,6 +1,7 @@
 // The parts of a sheet: the trees that hang from its root through conjunctions only. The root fails where a part does. And where
 // each literal occurs.
 #![tactic(auto)]
+
 ghost use Rattle.std.specs.Prelude.{◌≡◌, ◌≤◌, length, replicate};
 ghost use Rattle.model.specs.Limits.{sheet_length};
 ghost use Rattle.theory_forms.specs.Sheets.{Formed};
