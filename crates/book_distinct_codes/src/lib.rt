@@ -1,5 +1,6 @@
 // Codes that are all well-formed and different: each is compared with the later ones of its hash, which are chained.
 #![tactic(auto)]
+
 ghost use Rattle.std.specs.Prelude.{◌≡◌, ◌+◌, ◌*◌, ◌-◌, ◌≤◌, ◌<◌, length, take, drop};
 ghost use Rattle.model.specs.Base.{any};
 ghost use Rattle.model.specs.Limits.{most_options, code_length};
