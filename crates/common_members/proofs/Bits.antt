@@ -107,7 +107,8 @@ module _ (ms : List ℕ) (v : ℕ) where
       in_word : eqb (w / 64) (v / 64) ≡ true → bit (w % 64) (get_or with_mark (w / 64) 0) ≡ (eqb w v || bit (w % 64) (get_or ms (w / 64) 0))
       in_word e =
           let q = eqb-true (w / 64) (v / 64) e in
-          rw (← same_bit v w q, q, get_or-set_same ms (v / 64) word 0 l, bit_either (w % 64) (get_or ms (v / 64) 0) (2 ^ (v % 64)), bit_power (w % 64) (v % 64))
+          let one = bit_either (w % 64) (get_or ms (v / 64) 0) (2 ^ (v % 64)) in
+          rw (← same_bit v w q, q, get_or-set_same ms (v / 64) word 0 l, one, bit_power (w % 64) (v % 64))
           (or_comm (bit (w % 64) (get_or ms (v / 64) 0)) (eqb (w % 64) (v % 64)))
 
       elsewhere : eqb (w / 64) (v / 64) ≡ false → bit (w % 64) (get_or with_mark (w / 64) 0) ≡ (eqb w v || bit (w % 64) (get_or ms (w / 64) 0))

@@ -2,7 +2,7 @@
 use mathlib.Core.Bool.{Bool, true, false, ◌||◌}
 use mathlib.Core.List.{List, ◌∷◌, map}
 use mathlib.Core.Option.{Option, none, some}
-use mathlib.Core.Path.{◌≡◌, sym, ap, ◌∙◌}
+use mathlib.Core.Path.{◌≡◌, refl, sym, ap, ◌∙◌}
 use Prim.Native.Nat.{ℕ, ◌≤◌}
 use native.Mathlib.Omega.{arith}
 use borrow.Author.Tests.{ltb-true, lt-ltb}
@@ -16,6 +16,9 @@ use Rattle.theory_forms.specs.Logic.{and_split}
 use Rattle.theory_forms.specs.Lists.{all_cut, all_weaken}
 use Rattle.theory_forms.specs.Seats.{apart}
 use Rattle.theory_forms.specs.Scan.{joined_by}
+use Rattle.common_nodes.specs.declared.Trees.{Trees}
+use Rattle.common_nodes.specs.declared.Trees.TheVariants.{Count, Malformed}
+use Rattle.common_nodes.specs.Trees.{trees_of}
 use Rattle.common_members.specs.Tested.{tested, seats_least, seats_other, tested_step, tested_more, tested_stuck, tested_unseated}
 use Rattle.common_members.specs.Tested.{tested_nodes, tested_count, least_members}
 
@@ -30,6 +33,11 @@ more_options n m x l h = go (eqb (kind x) 1 || eqb (kind x) 2) h
         pick b (ltb (value x) m) (eqb (kind x) 3 || eqb (kind x) 4 || eqb (kind x) 6) ≡ true
     go true e = lt-ltb (value x) m (omega (arith, ltb-true (value x) n e))
     go false e = e
+
+-- What is no count of trees.
+pub no_count : (j : Trees) → ((u : ℕ) → j ≡ Count u → ⊥) → trees_of j ≡ none
+no_count (Count u) h = absurd (h u refl)
+no_count Malformed h = refl
 
 -- All numbers, their first, and the rest, which spell t trees.
 pub record Before (n x t : ℕ) (ys xs : List ℕ) : Type 0 where

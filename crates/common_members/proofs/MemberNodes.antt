@@ -19,9 +19,12 @@ use Rattle.theory_forms.specs.Scan.{is_literal, inner_node}
 use Rattle.theory_forms.specs.Seats.{bare, names}
 use Rattle.common_members.specs.Marks.{marked, mark_words, Marks, admitted}
 
--- What is due of a number after some marks, where these are left: whether it is a member, and its option marked too.
-abbrev Due : ℕ → List ℕ → List ℕ → Bool → Type 0
-Due x ms ns r = (r ≡ admitted (marked ms) (node_of x)) × Marks (λ w. names w (node_of x ∷ []) || marked ms w) ns
+-- What is due of a number after some marks: whether it is a member; and the marks that are left, with its option marked too.
+abbrev IsAdmitted : ℕ → List ℕ → Bool → Type 0
+IsAdmitted x ms r = r ≡ admitted (marked ms) (node_of x)
+
+abbrev MarksToo : ℕ → List ℕ → List ℕ → Type 0
+MarksToo x ms ns = Marks (λ w. names w (node_of x ∷ []) || marked ms w) ns
 
 module _ (x : ℕ) where
   -- A literal names its option, which is below the number of options.
@@ -46,18 +49,15 @@ module _ (x : ℕ) where
         (λ e. rw (eqb-true (kind x) 2 e) (or-false (eqb w (value x))))
         (or_split (eqb (kind x) 1) (eqb (kind x) 2) h)
 
-    pub literal_due :
-        {v : ℕ} (ms : List ℕ) {ns : List ℕ} {r : Bool} →
-        v ≡ value x →
-        (r ≡ not (marked ms v)) × Marks (λ w. eqb w v || marked ms w) ns →
-        Due x ms ns r
-    literal_due ms e t = (
-      t.0 ∙ ap (λ w. not (marked ms w)) e ∙ sym (literal_admitted (marked ms)),
-      record {
-        long = t.1.long;
-        bits = λ w. t.1.bits w ∙ ap (λ b. b || marked ms w) (ap (eqb w) e ∙ sym (literal_names w));
-      },
-    )
+    module _ {v : ℕ} (ms : List ℕ) (e : v ≡ value x) where
+      pub literal_told : {r : Bool} → r ≡ not (marked ms v) → IsAdmitted x ms r
+      literal_told t = t ∙ ap (λ w. not (marked ms w)) e ∙ sym (literal_admitted (marked ms))
+
+      pub literal_marks : {ns : List ℕ} → Marks (λ w. eqb w v || marked ms w) ns → MarksToo x ms ns
+      literal_marks t = record {
+        long = t.long;
+        bits = λ w. t.bits w ∙ ap (λ b. b || marked ms w) (ap (eqb w) e ∙ sym (literal_names w));
+      }
 
   -- Any other node names none, and is a member where it is the head of a constant.
   zero_number : (k : ℕ) → eqb x (number k 0) ≡ (eqb (kind x) k && eqb (value x) 0)
@@ -91,8 +91,8 @@ module _ (x : ℕ) where
             let s = or_neither (eqb (kind x) 1) (eqb (kind x) 2) h in
             rw (s.0, s.1, p, q) (pick_keeps (λ y. admitted f y ≡ false) (eqb (kind x) 6) refl refl)
 
-    pub other_due : {ms : List ℕ} {r : Bool} → length ms ≡ mark_words → r ≡ (eqb x 12288 || eqb x 16384) → Due x ms ms r
-    other_due {ms} l e = (
-      e ∙ sym (other_admitted (marked ms)),
-      record { long = l; bits = λ w. ap (λ b. b || marked ms w) (sym (other_names w)) },
-    )
+    pub other_told : (ms : List ℕ) {r : Bool} → r ≡ (eqb x 12288 || eqb x 16384) → IsAdmitted x ms r
+    other_told ms e = e ∙ sym (other_admitted (marked ms))
+
+    pub other_marks : (ms : List ℕ) → length ms ≡ mark_words → MarksToo x ms ms
+    other_marks ms l = record { long = l; bits = λ w. ap (λ b. b || marked ms w) (sym (other_names w)) }

@@ -5,13 +5,12 @@ use mathlib.Core.Path.{◌≡◌, refl, sym, ap, ap₂, ◌∙◌}
 use Prim.Native.Nat.{ℕ, zero, suc, ◌-◌, ◌≤◌, ◌<◌}
 use native.Mathlib.Omega.{arith}
 use lib.Dec.{eqb}
-use lib.ListN.{length, get_or, take, drop, replicate}
+use lib.ListN.{length, get_or, drop, replicate}
 use lib.Seq.{drop-cons, drop-length}
-use Rattle.model.specs.Base.{all}
 use Rattle.model.specs.Literal.{option}
 use Rattle.model.specs.Code.{Node, leaf, head, node_of}
 use Rattle.theory_forms.specs.Logic.{true_false, and_split, fails_if}
-use Rattle.theory_forms.specs.Lists.{all_cut, map_drop}
+use Rattle.theory_forms.specs.Lists.{map_drop}
 use Rattle.theory_forms.specs.Seats.{bare, names, apart}
 use Rattle.common_members.specs.Marks.{marked, mark_words, Marks, admitted}
 use Rattle.common_members.proofs.Bits.{marked_none}

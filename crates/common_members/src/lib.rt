@@ -1,6 +1,7 @@
 // The members of kind 6, at least so many of these: whether they are true, false, or literals of distinct options. A bit for each option
 // says whether a member named it, so nothing is lent or cleared from one node to the next.
 #![tactic(auto)]
+
 ghost use Rattle.std.specs.Prelude.{◌≡◌, true, ◌||◌, not, [], ◌∷◌, map, ◌*◌, ◌-◌, ◌<◌, ◌≤◌, eqb, length, take, drop};
 ghost use Rattle.std.proofs.Math.Option.{some};
 ghost use Rattle.model.specs.Base.{all};
