@@ -22,7 +22,8 @@ pub sized_more :
 sized_more p l t h n s q from to =
     ⊎_elim
     (λ e. let same : p ≡ q = eqb-true p q e in
-    ap (λ k. get_or (set t p (span 1 (drop p l))) k 0) (sym same) ∙ get_or-set_same t p (span 1 (drop p l)) 0 (omega arith) ∙ ap (λ k. span 1 (drop k l)) same)
+    ap (λ k. get_or (set t p (span 1 (drop p l))) k 0) (sym same) ∙ get_or-set_same t p (span 1 (drop p l)) 0 (omega arith) ∙
+    ap (λ k. span 1 (drop k l)) same)
     (λ e. let other : q ≡ p → ⊥ = λ d. eqb-false p q e (sym d) in
     get_or-set_other t p q (span 1 (drop p l)) 0 other ∙ s q (omega (arith, other)) to)
     (either (eqb p q))

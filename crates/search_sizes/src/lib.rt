@@ -1,5 +1,6 @@
 // The sizes of all trees on a run of numbers, made in one pass from the right, so that children are found by hopping.
 #![tactic(auto)]
+
 ghost use Rattle.std.specs.Prelude.{false, ◌≡◌, ℕ, ◌+◌, ◌≤◌, ◌<◌, length, get_or, drop};
 ghost use Rattle.model.specs.Limits.{sheet_room};
 ghost use Rattle.theory_reading.specs.Spans.{span};
