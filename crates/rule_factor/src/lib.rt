@@ -1,5 +1,6 @@
 // Rule 14, what it asks: conjunctions that share a literal, in one disjunction.
 #![tactic(auto)]
+
 ghost use Rattle.std.specs.Prelude.{◌≡◌, ◌≤◌, ◌<◌, length, get_or};
 ghost use Rattle.model.specs.Base.{is_some};
 ghost use Rattle.model.specs.Limits.{sheet_room};
