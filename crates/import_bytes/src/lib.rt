@@ -1,5 +1,6 @@
 // The bytes of a clause file, from a place on: where a line ends, and how far blanks, digits and comment lines go.
 #![tactic(auto)]
+
 ghost use Rattle.std.specs.Prelude.{◌≡◌, false, ◌+◌, ◌≤◌, ◌<◌, eqb, length, get_or, drop};
 ghost use Rattle.model.specs.Base.{all};
 ghost use Rattle.texts.specs.ClauseFile.{file_of};
