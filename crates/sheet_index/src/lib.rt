@@ -1,6 +1,7 @@
 // The index of mentions, kept beside a sheet: option after option the count of its marks and the place of the first. It is filled from the
 // sheet, compared with a fresh one, and brought up to date for a mark that was appended. Numbers past twice N are neither read nor written.
 #![tactic(auto)]
+
 ghost use Rattle.std.specs.Prelude.{true, [], ◌≡◌, ◌+◌, ◌*◌, ◌<◌, ◌≤◌, length, get_or, take};
 ghost use Rattle.model.specs.Base.{placed, same_list};
 ghost use Rattle.model.specs.Sheet.{used_in, is_sheet};

@@ -7,8 +7,7 @@ use borrow.Author.Tests.{eqb-true, eqb-false, eq-eqb, ne_eqb, ltb-true, ltb-fals
 use lib.Dec.{eqb, ltb}
 use Rattle.model.specs.Code.{kind}
 use Rattle.theory_forms.specs.Scan.{is_literal}
-use Rattle.sheet_index.proofs.is_mark.Statement.{statement}
-use Rattle.sheet_index.proofs.is_mark.Tie as tie
+use Rattle.sheet_index.proofs.is_mark.Goals as goal
 
 below : (x : ℕ) → x < 4096 → is_literal x ≡ false
 unfolding is_literal kind
@@ -32,11 +31,8 @@ module _ (x : ℕ) (h : 4096 ≤ x) where
       go false p true q = absurd ((outside (ltb-false x 12288 p)).0 (eqb-true (x / 4096) 1 q))
       go false p false q = sym (ne_eqb (x / 4096) 2 (outside (ltb-false x 12288 p)).1)
 
-returns : tie.Need-returns
-returns c = from c.before.args.x c.if1.true
+pub returns-then-x-ge-KIND_FACTOR : goal.returns-then-x-ge-KIND_FACTOR
+returns-then-x-ge-KIND_FACTOR c = from c.args.x c.if-x-ge-KIND_FACTOR.true
 
-returns_2 : tie.Need-returns-2
-returns_2 c = lt-leb 4096 c.before.args.x c.if1.false ∙ sym (below c.before.args.x c.if1.false)
-
-pub is_mark_spec : {M : Type 1} → statement M
-is_mark_spec = tie.close (tie.spec returns returns_2)
+pub returns-else-x-ge-KIND_FACTOR : goal.returns-else-x-ge-KIND_FACTOR
+returns-else-x-ge-KIND_FACTOR c = lt-leb 4096 c.args.x c.if-x-ge-KIND_FACTOR.false ∙ sym (below c.args.x c.if-x-ge-KIND_FACTOR.false)

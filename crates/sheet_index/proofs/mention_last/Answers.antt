@@ -3,15 +3,13 @@ use mathlib.Core.List.{List}
 use mathlib.Core.Path.{◌≡◌, sym, ap, ◌∙◌}
 use Prim.Native.Nat.{ℕ, ◌+◌, ◌*◌}
 use native.Mathlib.Omega.{arith}
-use borrow.Author.Rules.{rules}
 use borrow.Author.Tests.{eq-eqb, ne_eqb}
 use lib.ListN.{get_or, set}
 use lib.Seq.{get_or-set_other, set-get_or}
 use Rattle.model.specs.Base.{pick}
 use Rattle.calls.specs.Index.{no_place}
 use Rattle.theory_index.specs.Entries.{entry_set, mentioned_last}
-use Rattle.sheet_index.proofs.mention_last.Statement.{statement}
-use Rattle.sheet_index.proofs.mention_last.Tie as tie
+use Rattle.sheet_index.proofs.mention_last.Goals as goal
 
 module _ (index : List ℕ) (v place : ℕ) where
   abbrev counted : List ℕ
@@ -30,29 +28,8 @@ module _ (index : List ℕ) (v place : ℕ) where
       rw (ne_eqb (get_or index (2 * v + 1) 0) no_place (λ e. d (first_kept ∙ e)))
       (sym (set-get_or counted (2 * v + 1) 0) ∙ ap (set counted (2 * v + 1)) first_kept)
 
-returns : tie.Need-returns
-returns c = let a = c.before.before.before.args in none_before a.index.now a.option a.place c.if1.true
+pub returns-then-index-at : goal.returns-then-index-at
+returns-then-index-at c = let a = c.args in none_before a.index.now a.option a.place c.if-index-at.true
 
-returns_2 : tie.Need-returns-2
-returns_2 c = let a = c.before.before.before.args in one_before a.index.now a.option a.place c.if1.false
-
-pub mention_last_spec : {M : Type 1} → statement M
-mention_last_spec =
-    tie.close
-    (tie.spec
-    (λ c. search rules)
-    (λ c. search rules)
-    (λ c. search rules)
-    (λ c. search rules)
-    (λ c. search rules)
-    (λ c. search rules)
-    (λ c. search rules)
-    (λ c. search rules)
-    (λ c. search rules)
-    (λ c. search rules)
-    (λ c. search rules)
-    (λ c. search rules)
-    (λ c. search rules)
-    returns
-    (λ c. search rules)
-    returns_2)
+pub returns-else-index-at : goal.returns-else-index-at
+returns-else-index-at c = let a = c.args in one_before a.index.now a.option a.place c.if-index-at.false
