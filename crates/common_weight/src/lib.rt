@@ -1,6 +1,7 @@
 // The weight of a sheet and of a book: their nodes, and the literals among these once more. A weight is summed here and nowhere else, in 16
 // bits, and each sum says beside it that it is at most 8,192.
 #![tactic(auto)]
+
 ghost use Rattle.std.specs.Prelude.{◌≡◌, ◌+◌, ◌*◌, ◌≤◌, length};
 ghost use Rattle.model.specs.Code.{weight};
 ghost use Rattle.model.specs.Sheet.{used_in, nodes_in};
