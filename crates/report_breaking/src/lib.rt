@@ -1,5 +1,6 @@
 // Breaking: in one pass over a tree, all literals that make it fail once one of them fails.
 #![tactic(auto)]
+
 ghost use Rattle.std.specs.Prelude.{◌≡◌, true, false, ◌&&◌, [], ℕ, ◌+◌, ◌≤◌, ◌<◌, eqb, length, get_or, take, drop};
 ghost use Rattle.model.specs.Limits.{sheet_room, most_literals};
 ghost use Rattle.model.specs.Forest.{or};

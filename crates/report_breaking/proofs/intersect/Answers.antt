@@ -5,7 +5,6 @@ use mathlib.Core.Logic.{⊎_elim}
 use mathlib.Core.Path.{◌≡◌, sym, ap, ◌∙◌}
 use Prim.Native.Nat.{ℕ, ◌+◌, ◌-◌, ◌≤◌}
 use native.Mathlib.Omega.{arith}
-use borrow.Author.Rules.{rules}
 use borrow.Rule.Slice.PartMut.{put_mid, take_put}
 use lib.Dec.{eqb}
 use lib.ListN.{length, get_or, take, drop, length-take}
@@ -17,8 +16,7 @@ use Rattle.report_breaking.specs.Stacks.{among, InTable, broken, bottom, Childre
 use Rattle.report_breaking.proofs.Among.{among_append, among_take, among_drop, lent}
 use Rattle.report_breaking.proofs.Entries.{bottom_low}
 use Rattle.report_breaking.proofs.Groups.{common_breaks}
-use Rattle.report_breaking.proofs.intersect.Statement.{statement}
-use Rattle.report_breaking.proofs.intersect.Tie as tie
+use Rattle.report_breaking.proofs.intersect.Goals as goal
 
 -- The literals of the trees, in the part that is lent.
 own : List ℕ → ℕ → ℕ → List ℕ
@@ -73,53 +71,35 @@ module _ {places fs : List ℕ} {base end : ℕ} (g : Children places fs base en
         (λ e. own_inside x (and_split (among x (own places base end)) _ (sym (found x) ∙ e)).0)
         (or_split (among x (take base places)) (among x (take r ys)) (sym (among_append x (take base places) (take r ys)) ∙ rw (kept ys r (omega arith)) at m))
 
-mul_keep : tie.Need-overflow-mul-keep
-mul_keep c = let a = c.before.before.before.before.before.before.before.before in omega (arith, low a.requires.0, a.requires.0.room, a.well-formed)
+pub offset_bounds-places-base : goal.offset_bounds-places-base
+offset_bounds-places-base c = omega (arith, low c.requires.0, c.requires.0.room, c.well_formed)
 
-sub_keep : tie.Need-overflow-sub-keep
-sub_keep c = let a = c.before.before.before.before.before.before.before.before in low a.requires.0
+pub slice_bounds-keep-count : goal.slice_bounds-keep-count
+slice_bounds-keep-count c = low c.requires.0
 
-part_keep_start : tie.Need-slice-bounds-keep-start
-part_keep_start c = let a = c.before.before.before.before.before.before.before.before in omega (arith, low a.requires.0, a.requires.0.room, a.well-formed)
+pub slice_bounds-keep-start : goal.slice_bounds-keep-start
+slice_bounds-keep-start c = omega (arith, low c.requires.0, c.requires.0.room, c.well_formed)
 
-keep_requires : tie.Need-keep-requires
+pub keep-requires : goal.keep-requires
 unfolding own
-keep_requires c κs =
-    let n = c.before.before.before.before in
-    let p = n.before.before.before.before.before.before.requires in
-    let counts = n.hold-all.ensures in
-    (own_inside p.0, n.hold-all.auto.1.1.1.0 ∙ p.2.0, omega (arith, counts.count, p.1), λ x. rw (own_part p.0) (counts.blank x))
+keep-requires c =
+    let p = c.requires in
+    let counts = c.hold_all-count.ensures in
+    (own_inside p.0, c.hold_all-count.auto.held ∙ p.2.0, omega (arith, counts.count, p.1), λ x. rw (own_part p.0) (counts.blank x))
 
-returns : tie.Need-returns
+pub returns : goal.returns
 unfolding own new
 returns c =
-    let k = c.before.before.before.before.keep in
-    let n = c.before.before.before.before.before.before.before.before.before in
-    let p = n.before.before.before.before.before.before.requires in
+    let k = c.keep in
+    let p = c.requires in
     let g = p.0 in
-    let counts = n.hold-all.ensures in
-    let some : 1 ≤ n.hold-all.result = omega (arith, counts.count, p.1) in
-    let few = k.ensures.0.0 in
-    let found = k.ensures.0.1 in
-    let long = k.auto.0 in (
-      (omega arith, within g counts some k.new.0 k.result long few found, front g k.new.0 k.result (omega (arith, few, long))),
-      (
-        breaks g counts some k.new.0 k.result long few found,
-        (kept_inside g counts some k.new.0 k.result long few found, (k.auto.1.1.0 ∙ n.hold-all.auto.1.1.1.0 ∙ p.2.0, k.ensures.1)),
-      ),
-    )
-
-pub intersect_spec : {M : Type 1} → statement M
-intersect_spec =
-    tie.close
-    (tie.spec
-    (λ c κs. search rules)
-    mul_keep
-    sub_keep
-    part_keep_start
-    (λ c. search rules)
-    keep_requires
-    (λ c. search rules)
-    (λ c. search rules)
-    (λ c. search rules)
-    returns)
+    let counts = c.hold_all-count.ensures in
+    let some : 1 ≤ c.hold_all-count.result = omega (arith, counts.count, p.1) in
+    let few = k.ensures.upper_bound.0 in
+    let found = k.ensures.upper_bound.1 in
+    let long = k.auto.list in
+    record {
+      lower_bound = (omega arith, within g counts some k.new.list k.result long few found, front g k.new.list k.result (omega (arith, few, long)));
+      by_index = breaks g counts some k.new.list k.result long few found;
+      in_table = (kept_inside g counts some k.new.list k.result long few found, (k.auto.held ∙ c.hold_all-count.auto.held ∙ p.2.0, k.ensures.by_index));
+    }

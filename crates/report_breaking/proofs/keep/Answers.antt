@@ -1,13 +1,10 @@
--- `report_breaking::keep` meets its contract. Invariant: what is kept, and what is left of which the counts are at the number, are
--- together what is to be kept; only what is left has counts.
-use mathlib.Core.Bool.{◌&&◌, ◌||◌, or-false}
+use mathlib.Core.Bool.{◌&&◌, or-false}
 use mathlib.Core.List.{List, [], ◌∷◌, ◌++◌}
 use mathlib.Core.Logic.{⊎_elim}
 use mathlib.Core.Path.{◌≡◌, refl, sym, ap, ◌∙◌}
-use Prim.Native.Nat.{ℕ, suc, ◌+◌, ◌-◌, ◌≤◌, ◌<◌}
+use Prim.Native.Nat.{ℕ, suc, ◌+◌, ◌≤◌, ◌<◌}
 use native.Mathlib.Numerals.{add-one}
 use native.Mathlib.Omega.{arith}
-use borrow.Author.Rules.{rules}
 use lib.Dec.{eqb}
 use lib.ListN.{length, get_or, take, drop, set, length-set}
 use lib.Seq.{drop-cons, drop-length, take-suc-set, drop-set-lt}
@@ -16,19 +13,9 @@ use Rattle.theory_forms.specs.Logic.{true_false}
 use Rattle.report_breaking.specs.Stacks.{among, InTable, BlankBut}
 use Rattle.report_breaking.proofs.Among.{among_same, among_drop}
 use Rattle.report_breaking.proofs.Holding.{kept_here, kept_none, blank_more}
-use Rattle.report_breaking.proofs.keep.Statement.{statement}
-use Rattle.report_breaking.proofs.keep.Tie as tie
-
--- The literals before i have been looked at.
-record Keeping (list₀ held₀ : List ℕ) (n : ℕ) (list held : List ℕ) (kept i : ℕ) : Type 0 where
-  left : i ≤ length list
-  low : kept ≤ i
-  long : length list ≡ length list₀
-  wide : length held ≡ length held₀
-  inside : InTable (drop i list)
-  found : (x : ℕ) →
-      (among x (take kept list) || (among x (drop i list) && eqb (get_or held x 0) n)) ≡ (among x list₀ && eqb (get_or held₀ x 0) n)
-  blank : BlankBut (drop i list) held
+use Rattle.report_breaking.proofs.keep.Goals as goal
+use Rattle.report_breaking.proofs.keep.Goals.{After-wide16-place, then-held-place, else-held-place}
+use Rattle.report_breaking.proofs.keep.Invariants.{Keeping}
 
 begun : (list held : List ℕ) (n : ℕ) → InTable list → BlankBut list held → Keeping list held n list held 0 0
 unfolding among
@@ -99,76 +86,33 @@ module _ {list₀ held₀ : List ℕ} {n : ℕ} {list held : List ℕ} {kept i :
   unfolding among
   all_blank x = ⊎_elim (λ e. e) (λ e. true_false (sym e)) (rw none_left at (r.blank x))
 
-abbrev invariant_loop : tie.invariant_loop
-invariant_loop list₀ count held₀ kept₀ i₀ list held kept i = Keeping list₀ held₀ count list held kept i
-
-abbrev decreases_loop : tie.decreases_loop
-decreases_loop list₀ count held₀ kept₀ i₀ list held kept i = length list₀ - i
-
-loop_holds : tie.Need-loop-init invariant_loop decreases_loop
-loop_holds c = let p = c.before.before.requires in begun _ _ _ p.0 p.3
-
 -- The literal's place is one of the table's.
-inside_table : (c : tie.After-wide16 invariant_loop decreases_loop) → c.wide16.result < length c.before.before.before.loop.held
+inside_table : (c : goal.After-wide16-place) → c.wide16-place.result < length c.loop-i.held
 inside_table c =
-    let n = c.before.before.before in
-    in_table n.loop.invariant c.before.before.loop-test.true c.wide16.ensures.0 n.before.before.before.requires.1
+    in_table c.loop-i.invariant c.loop-i-test.true c.wide16-place.ensures.0 c.requires.1
 
-mul_if1 : tie.Need-overflow-mul-if1 invariant_loop decreases_loop
-mul_if1 c = omega (arith, inside_table c)
+pub loop-i-init : goal.loop-i-init
+loop-i-init c = let p = c.requires in begun _ _ _ p.0 p.3
 
-slice_read_if1 : tie.Need-slice-read-if1 invariant_loop decreases_loop
-slice_read_if1 c = inside_table c.before
+pub bounds-held-place : goal.bounds-held-place
+bounds-held-place c = inside_table (goal.at.bounds-held-place c).After-wide16-place
 
-mul_held : tie.Need-overflow-mul-held invariant_loop decreases_loop
-mul_held c = omega (arith, inside_table c.before.before)
+pub bounds-held-place-in-loop-i : goal.bounds-held-place-in-loop-i
+bounds-held-place-in-loop-i c = inside_table (goal.at.bounds-held-place-in-loop-i c).After-wide16-place
 
-slice_write_held : tie.Need-slice-write-held invariant_loop decreases_loop
-slice_write_held c = inside_table c.before.before
+pub loop-i-preserved : goal.loop-i-preserved
+loop-i-preserved c =
+    let p = c.requires in
+    let l = c.loop-i-test.true in
+    let e = c.wide16-place.ensures.0 in
+    let r = c.loop-i.invariant in
+    elim c.if-held-place.branch [
+      | then-held-place w ↦ rw (w.list-is, w.kept-is) (more_here r l e p.2 p.1 w.if-held-place.true)
+      | else-held-place w ↦ rw (w.list-is, w.kept-is) (more_none r l e p.2 p.1 w.if-held-place.false)
+    ]
 
-loop_again : tie.Need-loop-preserved invariant_loop decreases_loop
-loop_again c =
-    let n = c.before.before.before.before.before in
-    let p = n.before.before.before.requires in
-    let l = c.before.before.before.before.loop-test.true in
-    let e = c.before.before.wide16.ensures.0 in
-    ⊎_elim
-    (λ w. rw (w.1, w.2) (more_here n.loop.invariant l e p.2 p.1 w.0.taken))
-    (λ w. rw (w.1, w.2) (more_none n.loop.invariant l e p.2 p.1 w.0.left))
-    c.if1.branch
-
-same_length : tie.Need-same-length invariant_loop decreases_loop
-same_length c = c.before.loop.invariant.long
-
-same_length_2 : tie.Need-same-length-2 invariant_loop decreases_loop
-same_length_2 c = c.before.loop.invariant.wide
-
-returns : tie.Need-returns invariant_loop decreases_loop
+pub returns : goal.returns
 returns c =
-    let r = c.before.loop.invariant in
-    let h = c.loop-test.false in
-    ((omega (arith, r.left, r.low, r.long), all_kept r h), all_blank r h)
-
-pub keep_spec : {M : Type 1} → statement M
-keep_spec =
-    tie.close
-    (tie.spec
-    invariant_loop
-    decreases_loop
-    loop_holds
-    (λ c. search rules)
-    (λ c. search rules)
-    (λ c κs. search rules)
-    mul_if1
-    slice_read_if1
-    (λ c. search rules)
-    (λ c. search rules)
-    (λ c. search rules)
-    mul_held
-    slice_write_held
-    (λ c. search rules)
-    (λ c. search rules)
-    loop_again
-    same_length
-    same_length_2
-    returns)
+    let r = c.loop-i.invariant in
+    let h = c.loop-i-test.false in
+    record { upper_bound = (omega (arith, r.left, r.low, r.long), all_kept r h); by_index = all_blank r h }

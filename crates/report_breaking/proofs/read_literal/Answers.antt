@@ -6,7 +6,6 @@ use mathlib.Core.Path.{◌≡◌, refl, sym, subst, ◌∙◌}
 use Prim.Native.Nat.{ℕ, ◌+◌, ◌*◌, ◌<◌}
 use native.Mathlib.Numerals.{add-one}
 use native.Mathlib.Omega.{arith}
-use borrow.Author.Rules.{rules}
 use borrow.Author.Tests.{eqb-true}
 use lib.Dec.{eqb}
 use lib.ListN.{length, get_or, take, drop, set, length-append, drop_of_length-le}
@@ -18,8 +17,7 @@ use Rattle.report_breaking.specs.Stacks.{among, InTable, bottom, tried, Made}
 use Rattle.report_breaking.proofs.Among.{among_last}
 use Rattle.report_breaking.proofs.Groups.{makes_failing, makes_standing}
 use Rattle.report_breaking.proofs.Tried.{opposite_below, fails_anyway, never_asked, asked}
-use Rattle.report_breaking.proofs.read_literal.Statement.{statement}
-use Rattle.report_breaking.proofs.read_literal.Tie as tie
+use Rattle.report_breaking.proofs.read_literal.Goals as goal
 
 module _ (places t : List ℕ) (p end : ℕ) (room : end < length places) (inside : InTable (take end places))
     (small : p < most_literals) (wide : length t ≡ most_literals) where
@@ -67,51 +65,36 @@ module _ (places t : List ℕ) (p end : ℕ) (room : end < length places) (insid
       more_inside
       (λ q. rw (drop_at (take end places) (p ∷ []) end long) (or-false (eqb q p) ∙ sym (asked t q p (omega arith) d h))))
 
-returns : tie.Need-returns
+pub returns-then-failed-place-eq1 : goal.returns-then-failed-place-eq1
+returns-then-failed-place-eq1 c =
+    let p = c.requires in
+    let g = c.args in
+    record {
+      made = falls g.places.now g.failed.now g.place g.end p.end_in_bounds.0 p.end_in_bounds.2 p.place_lt_most_literals.0 p.place_lt_most_literals.1 c.if-failed-place-eq1.true;
+      end_bound = omega arith;
+    }
+
+pub bounds-failed-opposite_of : goal.bounds-failed-opposite_of
+bounds-failed-opposite_of c =
+    let p = c.requires in
+    omega (arith, c.opposite_of.ensures, opposite_below c.args.place p.place_lt_most_literals.0)
+
+pub returns-then-failed-opposite_of-eq1 : goal.returns-then-failed-opposite_of-eq1
+returns-then-failed-opposite_of-eq1 c =
+    let p = c.requires in
+    let g = c.args in
+    let e = c.opposite_of.ensures in
+    record {
+      made = unasked g.places.now g.failed.now g.place g.end p.end_in_bounds.0 p.end_in_bounds.2 p.place_lt_most_literals.0 p.place_lt_most_literals.1 c.if-failed-place-eq1.false (rw e at c.if-failed-opposite_of-eq1.true);
+      end_bound = omega arith;
+    }
+
+pub returns : goal.returns
 returns c =
-    let a = c.before.before.before.before in
-    let p = a.requires in
-    let g = a.args in
-    (falls g.places.now g.failed.now g.place g.end p.1.0 p.1.2 p.0.0 p.0.1 c.if1.true, omega arith)
-
-shared_slice_read_if2 : tie.Need-shared-slice-read-if2
-shared_slice_read_if2 c =
-    let p = c.before.before.before.before.before.before.requires in
-    omega (arith, c.before.opposite-of.ensures, opposite_below c.before.before.before.before.before.before.args.place p.0.0)
-
-returns_2 : tie.Need-returns-2
-returns_2 c =
-    let a = c.before.before.before.before.before.before.before in
-    let p = a.requires in
-    let g = a.args in
-    let e = c.before.before.opposite-of.ensures in
-    (unasked g.places.now g.failed.now g.place g.end p.1.0 p.1.2 p.0.0 p.0.1 c.before.before.before.if1.false (rw e at c.if2.true), omega arith)
-
-returns_3 : tie.Need-returns-3
-returns_3 c =
-    let a = c.before.before.before.before.before.before.before in
-    let p = a.requires in
-    let g = a.args in
-    let e = c.before.before.opposite-of.ensures in
-    (added g.places.now g.failed.now g.place g.end p.1.0 p.1.2 p.0.0 p.0.1 c.before.before.before.if1.false (rw e at c.if2.false), omega arith)
-
-pub read_literal_spec : {M : Type 1} → statement M
-read_literal_spec =
-    tie.close
-    (tie.spec
-    (λ c. search rules)
-    (λ c. search rules)
-    (λ c. search rules)
-    (λ c. search rules)
-    returns
-    (λ c. search rules)
-    (λ c. search rules)
-    (λ c κs. search rules)
-    shared_slice_read_if2
-    returns_2
-    (λ c. search rules)
-    (λ c. search rules)
-    (λ c. search rules)
-    (λ c. search rules)
-    (λ c. search rules)
-    returns_3)
+    let p = c.requires in
+    let g = c.args in
+    let e = c.opposite_of.ensures in
+    record {
+      made = added g.places.now g.failed.now g.place g.end p.end_in_bounds.0 p.end_in_bounds.2 p.place_lt_most_literals.0 p.place_lt_most_literals.1 c.if-failed-place-eq1.false (rw e at c.if-failed-opposite_of-eq1.false);
+      end_bound = omega arith;
+    }

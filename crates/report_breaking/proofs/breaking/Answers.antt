@@ -1,12 +1,9 @@
--- `report_breaking::breaking` meets its contract. Invariant: the stack says of each tree that the numbers from the place on spell, and
--- of each literal, whether the tree fails where the literal is tried.
 use mathlib.Core.Bool.{true, false, ◌||◌}
 use mathlib.Core.List.{List, [], ◌∷◌}
 use mathlib.Core.Logic.{⊎_elim}
 use mathlib.Core.Path.{◌≡◌, sym, ap, ◌∙◌}
 use Prim.Native.Nat.{ℕ, suc, ◌+◌, ◌-◌, ◌%◌, ◌≤◌, ◌<◌}
 use native.Mathlib.Omega.{arith}
-use borrow.Author.Rules.{rules}
 use borrow.Author.Tests.{eqb-true, eqb-false, eq-eqb, ne_eqb}
 use lib.Dec.{eqb}
 use lib.ListN.{length, get_or, take, drop, set, replicate, length-drop, length-replicate}
@@ -26,17 +23,9 @@ use Rattle.report_breaking.proofs.Among.{among_at, among_index}
 use Rattle.report_breaking.proofs.Entries.{bottom_empty, stacked_take, broken_length, broken_take}
 use Rattle.report_breaking.proofs.Groups.{fail_as_they_are}
 use Rattle.report_breaking.proofs.Tried.{tried_asked, tried_not, tried_none}
-use Rattle.report_breaking.proofs.breaking.Statement.{statement}
-use Rattle.report_breaking.proofs.breaking.Tie as tie
-
--- The numbers from i on have been read.
-record Read (tree t places stack held : List ℕ) (top end i : ℕ) : Type 0 where
-  left : end + i ≤ length tree
-  wide : length places ≡ sheet_room
-  deep : length stack ≡ sheet_room
-  blank : Blank held
-  sound : Stack places stack top end
-  told : (q : ℕ) → broken q (take end places) (drop top stack) ≡ values_of (tried t q) (drop i tree)
+use Rattle.report_breaking.proofs.breaking.Goals as goal
+use Rattle.report_breaking.proofs.breaking.Goals.{At-loop-i}
+use Rattle.report_breaking.proofs.breaking.Invariants.{Read}
 
 begun : (tree t places stack held : List ℕ) → length places ≡ sheet_room → length stack ≡ sheet_room → Blank held →
     Read tree t places stack held (length stack) 0 (length tree)
@@ -192,95 +181,39 @@ module _ {tree t places stack held : List ℕ} {top end i : ℕ} (h : SpellsTree
 blank_zeros : Blank (replicate most_literals 0)
 blank_zeros = (length-replicate {A = ℕ} most_literals 0, zero_everywhere most_literals)
 
-abbrev invariant_loop : tie.invariant_loop
-invariant_loop tree failed places₀ stack₀ held₀ top₀ end₀ i₀ places stack held top end i = Read tree failed places stack held top end i
+pub loop-i-init : goal.loop-i-init
+loop-i-init c =
+    begun _ _ _ _ _ c.requires.3 c.requires.4 blank_zeros
 
-abbrev decreases_loop : tie.decreases_loop
-decreases_loop tree failed places₀ stack₀ held₀ top₀ end₀ i₀ places stack held top end i = i
+pub read_node-next-requires : goal.read_node-next-requires
+read_node-next-requires c =
+    let p = c.requires in
+    let r = c.loop-i.invariant in
+    let l = c.loop-i-test.true in
+    record {
+      le_top = asked p.0 p.1 p.2 r l c.wide16.ensures.0;
+      end_lt_sheet_room = (omega (arith, r.left, p.1), r.wide, r.deep, r.sound);
+      failed_len = (p.2, r.blank);
+      apart = apart p.0 p.1 p.2 r l c.wide16.ensures.0;
+    }
 
-loop_holds : tie.Need-loop-init invariant_loop decreases_loop
-loop_holds c =
-    let a = c.before.before.before.before in
-    begun _ _ _ _ _ a.requires.3 a.requires.4 blank_zeros
+pub loop-i-preserved : goal.loop-i-preserved
+loop-i-preserved c =
+    let call = c.read_node-next in
+    let p = c.requires in
+    let e = call.ensures.end_bound in
+    more p.0 p.1 p.2 c.loop-i.invariant c.loop-i-test.true c.wide16.ensures.0 call.auto.places call.auto.stack e.0 e.1 e.2 call.ensures.by_index
 
-read_node_requires : tie.Need-read-node-requires invariant_loop decreases_loop
-read_node_requires c κs =
-    let n = c.before.before.before.before.before.before in
-    let p = n.before.before.before.before.before.requires in
-    let r = n.loop.invariant in
-    let l = c.before.before.before.before.before.loop-test.true in (
-      asked p.0 p.1 p.2 r l c.before.before.before.wide16.ensures.0,
-      (
-        (omega (arith, r.left, p.1), r.wide, r.deep, r.sound),
-        ((p.2, r.blank), apart p.0 p.1 p.2 r l c.before.before.before.wide16.ensures.0),
-      ),
-    )
+pub bounds-stack-top : goal.bounds-stack-top
+bounds-stack-top c =
+    top_left c.requires.0 c.loop-i.invariant (omega arith)
 
-loop_again : tie.Need-loop-preserved invariant_loop decreases_loop
-loop_again c =
-    let call = c.before.before.before.before.before.read-node in
-    let w = c.before.before.before.before.before.before.before.before.before in
-    let n = w.before.before.before in
-    let p = n.before.before.before.before.before.requires in
-    let e = call.ensures.0 in
-    more p.0 p.1 p.2 n.loop.invariant w.before.before.loop-test.true w.wide16.ensures.0 call.auto.1.1.1.1.0 call.auto.1.1.1.1.1.0 e.0 e.1 e.2 call.ensures.1
+pub returns-then-stack-top-eq1 : goal.returns-then-stack-top-eq1
+returns-then-stack-top-eq1 c =
+    let p = c.requires in
+    falls p.0 c.loop-i.invariant (omega arith) p.2 c.if-stack-top-eq1.true
 
--- The list and the stack keep their lengths.
-kept : (c : tie.At-loop invariant_loop decreases_loop) → let a = c.before.before.before.before.before.args in
-    (length c.loop.places ≡ length a.places.now) × (length c.loop.stack ≡ length a.stack.now)
-kept c =
-    let p = c.before.before.before.before.before.requires in
-    (c.loop.invariant.wide ∙ sym p.3, c.loop.invariant.deep ∙ sym p.4)
-
-slice_read_if1 : tie.Need-slice-read-if1 invariant_loop decreases_loop
-slice_read_if1 c =
-    let n = c.before.before in
-    top_left n.before.before.before.before.before.requires.0 n.loop.invariant (omega arith)
-
-same_length : tie.Need-same-length invariant_loop decreases_loop
-same_length c = (kept c.before.before.before).0
-
-same_length_2 : tie.Need-same-length-2 invariant_loop decreases_loop
-same_length_2 c = (kept c.before.before.before).1
-
-returns : tie.Need-returns invariant_loop decreases_loop
+pub returns : goal.returns
 returns c =
-    let n = c.before.before.before in
-    let p = n.before.before.before.before.before.requires in
-    falls p.0 n.loop.invariant (omega arith) p.2 c.if1.true
-
-same_length_3 : tie.Need-same-length-3 invariant_loop decreases_loop
-same_length_3 c = (kept c.before.before.before).0
-
-same_length_4 : tie.Need-same-length-4 invariant_loop decreases_loop
-same_length_4 c = (kept c.before.before.before).1
-
-returns_2 : tie.Need-returns-2 invariant_loop decreases_loop
-returns_2 c =
-    let n = c.before.before.before in
-    let p = n.before.before.before.before.before.requires in
-    stands p.0 n.loop.invariant (omega arith) p.2 c.if1.false
-
-pub breaking_spec : {M : Type 1} → statement M
-breaking_spec =
-    tie.close
-    (tie.spec
-    invariant_loop
-    decreases_loop
-    loop_holds
-    (λ c. search rules)
-    (λ c. search rules)
-    (λ c. search rules)
-    (λ c κs. search rules)
-    (λ c. search rules)
-    read_node_requires
-    (λ c. search rules)
-    loop_again
-    (λ c. search rules)
-    slice_read_if1
-    same_length
-    same_length_2
-    returns
-    same_length_3
-    same_length_4
-    returns_2)
+    let p = c.requires in
+    stands p.0 c.loop-i.invariant (omega arith) p.2 c.if-stack-top-eq1.false

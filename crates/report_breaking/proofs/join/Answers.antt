@@ -6,7 +6,6 @@ use mathlib.Core.Logic.{⊎_elim}
 use mathlib.Core.Path.{◌≡◌, refl, sym, ap, subst, ◌∙◌}
 use Prim.Native.Nat.{ℕ, suc, ◌+◌, ◌-◌, ◌*◌, ◌≤◌, ◌<◌}
 use native.Mathlib.Omega.{arith}
-use borrow.Author.Rules.{rules}
 use borrow.Author.Tests.{eqb-false}
 use lib.Dec.{eqb}
 use lib.ListN.{length, take, drop, drop_of_length-le}
@@ -23,8 +22,8 @@ use Rattle.report_breaking.specs.Stacks.{among, InTable, broken, Stacked, bottom
 use Rattle.report_breaking.proofs.Among.{among_take}
 use Rattle.report_breaking.proofs.Entries.{bottom_low}
 use Rattle.report_breaking.proofs.Groups.{falls_by, stands_by, far_from, makes_failing, makes_standing}
-use Rattle.report_breaking.proofs.join.Statement.{statement}
-use Rattle.report_breaking.proofs.join.Tie as tie
+use Rattle.report_breaking.proofs.join.Goals as goal
+use Rattle.report_breaking.proofs.join.Goals.{After-count_standing, Else-kind_of-ne4, Else-need-failing-2, Start}
 
 -- Where more are lacking than one: a conjunction lacks none or one, and of members one literal makes at most one more fail.
 lacks_more :
@@ -96,103 +95,77 @@ module _ {places fs : List ℕ} {base end : ℕ} (g : Children places fs base en
       (take-take base r new above ∙ same ∙ sym (take-take base end places low)) places-new (λ q. rw (conn_any x e) (each q))
 
 -- The base is below the end, which is small.
-below : (c : tie.Start) → (c.args.base ≤ c.args.end) × (c.args.end ≤ sheet_room)
-below c = let p = c.requires.0 in (low p.0 c.args.x, omega (arith, p.0.room, p.1))
+below : (c : goal.Start) → (c.args.base ≤ c.args.end) × (c.args.end ≤ sheet_room)
+below c = let p = c.requires.children in (low p.0 c.args.x, omega (arith, p.0.room, p.1))
 
 -- What the counts are.
 counted :
-    (c : tie.After-count-standing) →
-    let a = c.before.before.before.before.before.args in
-    (c.before.need-of.result ≡ need (conn_at a.x) (length a.children.now))
-    × (length a.children.now - c.count-standing.result ≡ length a.children.now - standing a.children.now)
-counted c = (c.before.need-of.ensures, omega (arith, c.count-standing.ensures.0))
+    (c : goal.After-count_standing) →
+    let a = c.args in
+    (c.need_of-need.result ≡ need (conn_at a.x) (length a.children.now))
+    × (length a.children.now - c.count_standing.result ≡ length a.children.now - standing a.children.now)
+counted c = (c.need_of-need.ensures, omega (arith, c.count_standing.ensures.0))
 
 -- More than one is lacking; and the node is a disjunction.
 lacking :
-    (c : tie.Else2) →
-    let a = c.before.before.before.before.before.before.before.args in
+    (c : goal.Else-need-failing-2) →
+    let a = c.args in
     suc (length a.children.now - standing a.children.now) < need (conn_at a.x) (length a.children.now)
-lacking c = omega (arith, counted c.before.before, c.before.if1.false, c.if2.false)
+lacking c = omega (arith, c.need_of-need.ensures, c.count_standing.ensures.0, c.if-need-failing.false, c.if-need-failing-2.false)
 
-four : (c : tie.Else3) → kind c.before.before.before.before.before.before.before.before.before.args.x ≡ 4
-four c = omega (arith, c.before.kind-of.ensures, c.if3.false)
+four : (c : goal.Else-kind_of-ne4) → kind c.args.x ≡ 4
+four c = omega (arith, c.kind_of.ensures, c.if-kind_of-ne4.false)
 
-mul_t13 : tie.Need-overflow-mul-t13
-mul_t13 c = omega (arith, below c.before.before.before.before.before.before)
+pub overflow_mul-result : goal.overflow_mul-result
+overflow_mul-result c = omega (arith, below (goal.at.overflow_mul-result c).Start)
 
-add_t14 : tie.Need-overflow-add-t14
-add_t14 c = omega (arith, below c.before.before.before.before.before.before)
+pub overflow_add-result : goal.overflow_add-result
+overflow_add-result c = omega (arith, below (goal.at.overflow_add-result c).Start)
 
-cast_t15 : tie.Need-overflow-cast-t15
-cast_t15 c = omega (arith, below c.before.before.before.before.before.before)
+pub overflow_cast-result : goal.overflow_cast-result
+overflow_cast-result c = omega (arith, below (goal.at.overflow_cast-result c).Start)
 
-returns : tie.Need-returns
+pub returns-then-need-failing : goal.returns-then-need-failing
+returns-then-need-failing c =
+    let p = c.requires.children in
+    record {
+      made = falls p.0 c.args.x (omega (arith, counted (goal.at.returns-then-need-failing c).After-count_standing, c.if-need-failing.true));
+      end_le_end = ((below (goal.at.returns-then-need-failing c).Start).0, p.2);
+    }
+
+pub overflow_mul-first : goal.overflow_mul-first
+overflow_mul-first c = omega (arith, below (goal.at.overflow_mul-first c).Start)
+
+pub overflow_cast-first : goal.overflow_cast-first
+overflow_cast-first c = omega (arith, below (goal.at.overflow_cast-first c).Start)
+
+pub returns-then-need-failing-2 : goal.returns-then-need-failing-2
+returns-then-need-failing-2 c =
+    let p = c.requires.children in
+    record {
+      made = stands p.0 c.args.x (omega (arith, counted (goal.at.returns-then-need-failing-2 c).After-count_standing, c.if-need-failing-2.true));
+      end_le_end = (omega arith, p.2);
+    }
+
+pub returns-then-kind_of-ne4 : goal.returns-then-kind_of-ne4
+returns-then-kind_of-ne4 c =
+    let p = c.requires.children in
+    let other : kind c.args.x ≡ 4 → ⊥ = λ e. c.if-kind_of-ne4.true (c.kind_of.ensures ∙ e) in
+    record {
+      made = unmoved p.0 c.args.x other c.requires.apart (lacking (goal.at.returns-then-kind_of-ne4 c).Else-need-failing-2);
+      end_le_end = ((below (goal.at.returns-then-kind_of-ne4 c).Start).0, p.2);
+    }
+
+pub intersect-requires : goal.intersect-requires
+intersect-requires c =
+    let p = c.requires.children in
+    (p.0, some_stand c.args.x c.args.children.now (four (goal.at.intersect-requires c).Else-kind_of-ne4) (lacking (goal.at.intersect-requires c).Else-need-failing-2), p.2)
+
+pub returns : goal.returns
 returns c =
-    let a = c.before.before.before.before.before.before in
-    let p = a.requires.0 in (
-      falls p.0 a.args.x (omega (arith, counted c.before, c.if1.true)),
-      ((below a).0, p.2),
-    )
-
-mul_first : tie.Need-overflow-mul-first
-mul_first c = omega (arith, below c.before.before.before.before.before.before)
-
-cast_first : tie.Need-overflow-cast-first
-cast_first c = omega (arith, below c.before.before.before.before.before.before)
-
-returns_2 : tie.Need-returns-2
-returns_2 c =
-    let a = c.before.before.before.before.before.before.before in
-    let p = a.requires.0 in (
-      stands p.0 a.args.x (omega (arith, counted c.before.before, c.if2.true)),
-      (omega arith, p.2),
-    )
-
-returns_3 : tie.Need-returns-3
-returns_3 c =
-    let a = c.before.before.before.before.before.before.before.before.before in
-    let p = a.requires.0 in
-    let other : kind a.args.x ≡ 4 → ⊥ = λ e. c.if3.true (c.before.kind-of.ensures ∙ e) in (
-      unmoved p.0 a.args.x other a.requires.1 (lacking c.before.before),
-      ((below a).0, p.2),
-    )
-
-intersect_requires : tie.Need-intersect-requires
-intersect_requires c κs =
-    let n = c.before.before.before in
-    let a = n.before.before.before.before.before.before.before.before in
-    let p = a.requires.0 in
-    (p.0, some_stand a.args.x a.args.children.now (four c.before.before) (lacking n.before), p.2)
-
-returns_4 : tie.Need-returns-4
-returns_4 c =
-    let n = c.before.before.before.before.before.before.before in
-    let a = n.before.before.before.before.before.before.before.before.before in
-    let p = a.requires.0 in
-    let i = c.before.before.before.before.intersect in (
-      meets p.0 a.args.x (four n) i.new.1.1.1.0 i.result i.ensures.0.0
-          (omega (arith, i.ensures.0.1, i.auto.1.1.1.0, p.0.room)) i.ensures.0.2 i.ensures.1.1.0 i.ensures.1.0,
-      (i.ensures.0.1, i.ensures.1.1.1),
-    )
-
-pub join_spec : {M : Type 1} → statement M
-join_spec =
-    tie.close
-    (tie.spec
-    (λ c κs. search rules)
-    (λ c κs. search rules)
-    (λ c. search rules)
-    mul_t13
-    add_t14
-    cast_t15
-    returns
-    mul_first
-    cast_first
-    (λ c. search rules)
-    returns_2
-    (λ c κs. search rules)
-    returns_3
-    intersect_requires
-    (λ c. search rules)
-    (λ c. search rules)
-    returns_4)
+    let p = c.requires.children in
+    let i = c.intersect in record {
+      made = meets p.0 c.args.x (four (goal.at.returns c).Else-kind_of-ne4) i.new.places i.result i.ensures.lower_bound.0
+          (omega (arith, i.ensures.lower_bound.1, i.auto.places, p.0.room)) i.ensures.lower_bound.2 i.ensures.in_table.0 i.ensures.by_index;
+      end_le_end = (i.ensures.lower_bound.1, i.ensures.in_table.1);
+    }
