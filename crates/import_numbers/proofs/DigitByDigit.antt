@@ -1,8 +1,8 @@
 -- Digits passed one after another: what is known of two numbers, and of one, by then.
-use mathlib.Core.Bool.{Bool, true, false, ◌&&◌, ◌||◌, not}
+use mathlib.Core.Bool.{Bool, true, false, ◌||◌, not}
 use mathlib.Core.List.{List, [], ◌∷◌}
-use mathlib.Core.Path.{◌≡◌, refl, sym, ap, ap₂, ◌∙◌}
-use Prim.Native.Nat.{ℕ, zero, suc, ◌+◌, ◌-◌, ◌*◌, ◌/◌, ◌%◌, ◌≤◌, ◌<◌}
+use mathlib.Core.Path.{◌≡◌, refl, sym, ap, ◌∙◌}
+use Prim.Native.Nat.{ℕ, suc, ◌+◌, ◌-◌, ◌*◌, ◌/◌, ◌%◌, ◌≤◌, ◌<◌}
 use native.Mathlib.Numerals.{add-one}
 use native.Mathlib.Omega.{arith}
 use borrow.Author.Tests.{eq-eqb, ne_eqb, le-leb, lt-leb}
@@ -61,7 +61,8 @@ module _ (a b : List ℕ) (da : is_decimal a ≡ true) (db : is_decimal b ≡ tr
 
     pub more_here : get_or b i 0 < get_or a i 0 → false ≡ leb (number_in a) (number_in b)
     more_here l =
-        let n = first_difference b a i (sym long) (decimal_digits b db) (omega arith) (sym same) l (digit_at b i (decimal_digits b db) (omega arith)).0 in
+        let n = first_difference b a i (sym long) (decimal_digits b db) (omega arith) (sym same) l
+        (digit_at b i (decimal_digits b db) (omega arith)).0 in
         sym (lt-leb (number_in a) (number_in b) n)
 
     pub same_here : get_or b i 0 ≤ get_or a i 0 → get_or a i 0 ≤ get_or b i 0 → take (i + 1) a ≡ take (i + 1) b
@@ -102,7 +103,8 @@ unfolding number_in number_from
 digits_done a n left i h e = let z : i ≡ 0 = omega arith in sym (e ∙ ap (λ k. eqb left (number_in (take k a))) z)
 
 -- A small number, digit by digit.
-module _ (a : List ℕ) (n i : ℕ) (digits : all is_digit a ≡ true) (small : number_in a < 1000) (h : i < length a) (so_far : n ≡ number_in (take i a)) where
+module _ (a : List ℕ) (n i : ℕ) (digits : all is_digit a ≡ true) (small : number_in a < 1000) (h : i < length a)
+    (so_far : n ≡ number_in (take i a)) where
   pub number_fits : (n < 1000) × (48 ≤ get_or a i 0) × (10 * n + (get_or a i 0 - 48) < 1000)
   number_fits =
       let r = digit_at a i digits h in (

@@ -1,5 +1,6 @@
 // Decimal numbers of any length, lent as their digits: compared digit by digit, and read as a number where they are known to fit.
 #![tactic(auto)]
+
 ghost use Rattle.std.specs.Prelude.{◌≡◌, true, ◌≤◌, ◌<◌, eqb, leb, length};
 ghost use Rattle.model.specs.Base.{all};
 ghost use Rattle.texts.specs.Decimals.{is_digit, is_decimal, number_in};
