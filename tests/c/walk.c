@@ -2,7 +2,7 @@
  * Checks a sample book, looks up each of its codes and some that are not there, and
  * prints a line for each.  Ends with status 1 where an answer is not the one due.
  *
- * At the repository's top, after `rt staticlib c_calls`:
+ * At the repository's top, after `tools/build-library --desk-calls`:
  *
  *   gcc -O2 -Wall -Wextra -Iinclude tests/c/walk.c target/staticlib/libc_calls.a -o target/walk
  *   target/walk

@@ -13,7 +13,7 @@ from driver.desks import FOLDER, printed
 TOP = Path(__file__).resolve().parent.parent.parent
 DESK, EXAMPLES = str(TOP / "target/bin/desk"), TOP / "examples"
 BUFFER = 65_536
-CRATE = TOP / "crates/desk"  # its data/, stdin and stdout are what rt check holds the program to
+CRATE = TOP / "crates/desk"  # its data/, stdin and stdout are what rt ci holds the program to
 
 LONG_CODE = b"ABCDEFGHIJKLM"
 SMALL = build([b"P", b"Q", b"-"], [disjunction(positive(0), conjunction(positive(0), positive(1)))])

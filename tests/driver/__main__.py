@@ -170,7 +170,7 @@ def main(library=None, arguments=None):
     if desk is None:
         print("=== THE DESK PROGRAM IS NOT TESTED (--without-desk) ===")
     elif not DESK.exists():
-        raise SystemExit("no %s: build it with rt check desk, or say --without-desk" % DESK)
+        raise SystemExit("no %s: build it with tools/build-desk, or say --without-desk" % DESK)
     try:
         if options.soak is None:
             in_shares(comparing, desk)

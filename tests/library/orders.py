@@ -60,7 +60,7 @@ def main():
     if sys.argv[1:] == ["--without-desk"]:
         print("orders: THE DESK PROGRAM IS NOT COMPARED (--without-desk)")
     elif not os.path.exists(DESK):
-        raise SystemExit("no %s: build it with rt check desk, or say --without-desk" % DESK)
+        raise SystemExit("no %s: build it with tools/build-desk, or say --without-desk" % DESK)
     else:
         programs["desk"] = DESK
     try:

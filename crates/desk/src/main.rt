@@ -3,30 +3,53 @@
 // than 65,536 of either are read: the rest cannot change what is printed (`desk_session`: `Buffers.desk-cut`). Where choices are typed at
 // a terminal, standard error has a word on how, and why a line was refused; where they are piped, nothing is written there.
 #![tactic(auto)]
+
 ghost use Rattle.std.specs.Prelude.{◌≤◌, length};
-ghost use Rattle.io.specs.Counts.{IsPrefixLen};
+ghost use Rattle.std.specs.Counts.{IsPrefixLen};
 
-use libc::{STDERR_FILENO, STDIN_FILENO, STDOUT_FILENO};
+use std::fs::File;
+use std::io;
+use std::io::{IsTerminal, Read};
+use std::rt::Files;
 
-// The bytes of the book, as many as the buffer takes; none where it cannot be opened or read.
-fn read_book(buf: &mut [u8]) -> usize
+// The most that is read of the book, or of the input.
+const MOST_READ: usize = 65536;
+
+// Reads until the buffer is full, the bytes end or a read fails, and answers how many stand at the start of the buffer.
+fn read_full<R: Read>(from: &mut R, buf: &mut [u8]) -> usize
     ensures { IsPrefixLen result buf.new }
 {
-    let fd = os::open_read(b"book.bin");
-    let n = io::read_full(fd, buf);
-    libc::close(fd);
-    n
+    let mut done = 0;
+    while done < buf.len() {
+        let Ok(n) = from.read(&mut buf[done..]) else {
+            return done;
+        };
+        if n == 0 {
+            return done;
+        }
+        done += n;
+    }
+    done
+}
+
+// The bytes of the book, as many as the buffer takes; none where it cannot be opened or read.
+fn read_book<F: Files>(files: &F, buf: &mut [u8]) -> usize
+    ensures { IsPrefixLen result buf.new }
+{
+    match File::open(files, "book.bin") {
+        Ok(mut file) => read_full(&mut file, buf),
+        Err(_) => 0,
+    }
 }
 
 // What to type, and how to end; and that there is no book, where nothing could be read of it.
-fn say_how(book: &[u8]) {
+fn say_how<E: Eprint>(words: &E, book: &[u8]) -> io::Result<()> {
     if book.len() == 0 {
-        io::write_all(STDERR_FILENO, b"book.bin cannot be read, or is empty.\n");
+        eprintln!(words; "book.bin cannot be read, or is empty.")?;
     }
-    io::write_all(
-        STDERR_FILENO,
-        b"Choices, one a line: +CODE takes an option, -CODE bars it. End with Ctrl-D on a line of its own.\n",
-    );
+    eprintln!(words;
+        "Choices, one a line: +CODE takes an option, -CODE bars it. End with Ctrl-D on a line of its own."
+    )
 }
 
 // Where the line that begins at a place ends.
@@ -89,76 +112,72 @@ fn refused_line(book: &[u8], input: &[u8]) -> Line
 }
 
 // A byte that was typed. One that a terminal would act on, or that is no text, is said by its number behind a backslash.
-fn say_byte(byte: u8) {
+fn say_byte<E: Eprint>(words: &E, byte: u8) -> io::Result<()> {
     if byte < 32 || byte > 126 {
-        io::write_all(STDERR_FILENO, b"\\");
-        io::print_decimal(STDERR_FILENO, byte as u64);
+        eprint!(words; "\\{byte}")
     } else {
-        let shown = [byte];
-        io::write_all(STDERR_FILENO, &shown);
+        let shown = char::from(byte);
+        eprint!(words; "{shown}")
     }
 }
 
 // A line that was typed, byte by byte.
-fn say_typed(line: &[u8]) {
-    let mut at = 0;
-    while at < line.len() {
-        say_byte(line[at]);
-        at += 1;
+fn say_typed<E: Eprint>(words: &E, line: &[u8]) -> io::Result<()> {
+    for byte in line {
+        say_byte(words, *byte)?;
     }
+    Ok(())
 }
 
 // The words for a refusal of a line by its last digit: 7, 8 or 14.
-fn say_line(book: &[u8], input: &[u8], digit: u8) {
+fn say_line<E: Eprint>(words: &E, book: &[u8], input: &[u8], digit: u8) -> io::Result<()> {
     let line = refused_line(book, input);
+    let number = line.number;
     let from = line.from;
     let to = line.to;
-    io::write_all(STDERR_FILENO, b"Line ");
-    io::print_decimal(STDERR_FILENO, line.number);
-    io::write_all(STDERR_FILENO, b", \"");
-    say_typed(&input[from..to]);
+    eprint!(words; "Line {number}, \"")?;
+    say_typed(words, &input[from..to])?;
     if digit == b'7' {
-        io::write_all(
-            STDERR_FILENO,
-            b"\", is not + or - and a code of this book.\n",
-        );
+        eprintln!(words; "\", is not + or - and a code of this book.")
     } else if digit == b'8' {
-        io::write_all(STDERR_FILENO, b"\", finds the sheet full.\n");
+        eprintln!(words; "\", finds the sheet full.")
     } else {
-        io::write_all(
-            STDERR_FILENO,
-            b"\", is one too many: an order has at most 64 lines.\n",
-        );
+        eprintln!(words; "\", is one too many: an order has at most 64 lines.")
     }
 }
 
 // The words for a refusal by its digits, of which the second is a line end where there is but one: of a book (1 to 6), or of a line.
-fn say_why(book: &[u8], input: &[u8], first: u8, second: u8) {
+fn say_why<E: Eprint>(
+    words: &E,
+    book: &[u8],
+    input: &[u8],
+    first: u8,
+    second: u8,
+) -> io::Result<()> {
     if second != 10 {
-        say_line(book, input, second);
+        say_line(words, book, input, second)
     } else if first < b'7' {
-        io::write_all(
-            STDERR_FILENO,
-            b"book.bin is no book that can be used; tools/book check says why.\n",
-        );
+        eprintln!(words; "book.bin is no book that can be used; tools/book check says why.")
     } else {
-        say_line(book, input, first);
+        say_line(words, book, input, first)
     }
 }
 
-fn main() {
-    let typed = libc::isatty(STDIN_FILENO) == 1;
-    let mut book = io::large_buffer();
-    let n = read_book(&mut book);
+// Where what is printed cannot be written, that is said, and the status is 1. A word that cannot be written is left out.
+fn main(rt: HostRuntime) -> io::Result<()> {
+    let typed = rt.stdin().is_terminal();
+    let mut book = [0u8; MOST_READ];
+    let n = read_book(&rt, &mut book);
     if typed {
-        say_how(&book[..n]);
+        let _ = say_how(&rt, &book[..n]);
     }
-    let mut input = io::large_buffer();
-    let m = io::read_full(STDIN_FILENO, &mut input);
+    let mut input = [0u8; MOST_READ];
+    let m = read_full(&mut rt.stdin(), &mut input);
     let mut out = [0u8; 16384];
     let k = desk_session::session(&book[..n], &input[..m], &mut out);
-    io::write_all(STDOUT_FILENO, &out[..k]);
+    rt.write_all(&out[..k])?;
     if typed && out[0] == b'r' {
-        say_why(&book[..n], &input[..m], out[8], out[9]);
+        let _ = say_why(&rt, &book[..n], &input[..m], out[8], out[9]);
     }
+    Ok(())
 }

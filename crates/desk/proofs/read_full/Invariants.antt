@@ -1,0 +1,9 @@
+-- `desk::read_full` keeps its count within the buffer, and each read that answers bytes leaves less room.
+use Rattle.std.proofs.Common.{◌-◌, ◌≤◌, length}
+use Rattle.desk.proofs.read_full.Given as goal
+
+abbrev pub invariant-loop-done : goal.invariant-loop-done
+invariant-loop-done g l = l.done ≤ length l.buf
+
+abbrev pub decreases-loop-done : goal.decreases-loop-done
+decreases-loop-done g l = length l.buf - l.done
