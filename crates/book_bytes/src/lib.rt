@@ -1,5 +1,6 @@
 // A book's bytes as numbers and a sheet's numbers as bytes: fills, copies and the parts of a written book.
 #![tactic(auto)]
+
 ghost use Rattle.std.specs.Prelude.{◌≡◌, ◌++◌, ◌∷◌, [], ◌-◌, ◌*◌, ◌≤◌, ◌<◌, ◌+◌, ◌/◌, ◌%◌, length, drop, replicate, take, set};
 ghost use Rattle.model.specs.Book.{words, bytes_of, lined_up};
 ghost use Rattle.model.specs.Limits.{head_length, sheet_room};
