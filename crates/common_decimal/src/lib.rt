@@ -1,5 +1,6 @@
 // Numbers in decimal digits, written at the start of a lent slice; what stands after them stays.
 #![tactic(auto)]
+
 ghost use Rattle.std.specs.Prelude.{◌≡◌, ◌≤◌, length};
 ghost use Rattle.texts.specs.Decimals.{decimal};
 ghost use Rattle.common_decimal.specs.Placed.{after, filled};
