@@ -1,5 +1,6 @@
 // What calls answer: a result, or one refusal by its name.
 #![tactic(auto)]
+
 ghost use Rattle.std.specs.Prelude.{◌≡◌};
 ghost use Rattle.calls.specs.Refusals.{refusal_number};
 ghost use Rattle.call_answers.specs.AnswerMeaning.{refusal_of};
