@@ -1,8 +1,8 @@
 -- What a word is, by the tests of its bytes one after another.
-use mathlib.Core.Bool.{Bool, true, false}
+use mathlib.Core.Bool.{true, false}
 use mathlib.Core.List.{List, [], ◌∷◌}
-use mathlib.Core.Path.{◌≡◌, refl, sym, ap, ◌∙◌}
-use Prim.Native.Nat.{ℕ, ◌+◌, ◌-◌, ◌≤◌, ◌<◌}
+use mathlib.Core.Path.{◌≡◌, sym, ap, ◌∙◌}
+use Prim.Native.Nat.{ℕ, ◌+◌, ◌-◌, ◌<◌}
 use native.Mathlib.Omega.{arith}
 use borrow.Author.Tests.{eq-eqb, ne_eqb}
 use lib.Dec.{eqb, leb}
@@ -53,13 +53,15 @@ module _ (l : List ℕ) (from end : ℕ) (far : end ≡ from + run (drop from l)
 
 -- A word with a minus, and one without.
 module _ (l : List ℕ) (at : ℕ) (n : ℕ) where
-  pub with_minus : get_or l at 0 ≡ 45 → (kind_here 0 n (drop (at + 1) l) ≡ kind_at n (drop at l)) × ((at + 1) + run (drop (at + 1) l) ≡ at + word_length (drop at l))
+  pub with_minus : get_or l at 0 ≡ 45 → (kind_here 0 n (drop (at + 1) l) ≡ kind_at n (drop at l))
+      × ((at + 1) + run (drop (at + 1) l) ≡ at + word_length (drop at l))
   unfolding kind_at
   with_minus e =
       let first : eqb (get_or (drop at l) 0 0) 45 ≡ true = eq-eqb _ 45 (first_here l at ∙ e) in
       (ap (kind_here 0 n) (after_minus l at) ∙ sym (pick_true _ _ _ first), barred_end l at first)
 
-  pub without_minus : (get_or l at 0 ≡ 45 → ⊥) → (kind_here 1 n (drop at l) ≡ kind_at n (drop at l)) × (at + run (drop at l) ≡ at + word_length (drop at l))
+  pub without_minus : (get_or l at 0 ≡ 45 → ⊥) → (kind_here 1 n (drop at l) ≡ kind_at n (drop at l))
+      × (at + run (drop at l) ≡ at + word_length (drop at l))
   unfolding kind_at
   without_minus e =
       let first : eqb (get_or (drop at l) 0 0) 45 ≡ false = ap (λ x. eqb x 45) (first_here l at) ∙ ne_eqb (get_or l at 0) 45 e in

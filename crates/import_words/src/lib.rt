@@ -1,5 +1,6 @@
 // The words after a p line: what the one at a place is, and where it ends.
 #![tactic(auto)]
+
 ghost use Rattle.std.specs.Prelude.{◌≡◌, true, ◌+◌, ◌≤◌, ◌<◌, length, drop};
 ghost use Rattle.model.specs.Base.{all};
 ghost use Rattle.texts.specs.Decimals.{is_digit, is_decimal, number_in};
