@@ -1,5 +1,6 @@
 // The core of a load: the sheet of an accepted book.
 #![tactic(auto)]
+
 ghost use Rattle.std.specs.Prelude.{◌≡◌, length};
 ghost use Rattle.model.specs.Limits.{sheet_length};
 ghost use Rattle.model.specs.Sheet.{sheet_of};
