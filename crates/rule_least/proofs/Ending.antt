@@ -11,7 +11,7 @@ use lib.Dec.{eqb, ltb}
 use lib.ListN.{length, get_or, take, drop, set, replicate}
 use Rattle.model.specs.Base.{pick, is_some, then, only_if}
 use Rattle.model.specs.Forest.{Conn, and, or, at_least, Forest, nil, node, constant, ◌⊕◌, size, first}
-use Rattle.model.specs.Code.{head, number, children, conn_kind, number_of}
+use Rattle.model.specs.Code.{head, number, conn_kind, number_of}
 use Rattle.model.specs.Rules.{decided, decide, renamed, rename, change, rewrite}
 use Rattle.theory_forms.specs.Logic.{either, is_some_only, only_some, only_then, pick_some, pick_true, pick_false}
 use Rattle.theory_forms.specs.Forests.{grouping, past_end}
@@ -31,7 +31,8 @@ unfolding is_some pick
 some_picked true a o = refl
 some_picked false a o = refl
 
-asked_alone : (i j : ℕ) (k : Forest) (f : Forest → Option Forest) → is_some (then (only_if (eqb i 0 && eqb j 0) k) f) ≡ ((eqb i 0 && eqb j 0) && is_some (f k))
+asked_alone : (i j : ℕ) (k : Forest) (f : Forest → Option Forest) →
+    is_some (then (only_if (eqb i 0 && eqb j 0) k) f) ≡ ((eqb i 0 && eqb j 0) && is_some (f k))
 unfolding is_some then only_if
 asked_alone i j k f = go (eqb i 0 && eqb j 0)
   where
@@ -112,7 +113,8 @@ module _ {r : ℕ} {l : List ℕ} (s : Stretch l) (h : Headed r l) (i j : ℕ) {
       let old = code (first (size k) k) in
       let long : length old ≡ end - 1 = omega (arith, child_place group (size k) (omega arith)) in
       let split : l ≡ number_of (head (at_least a) (size k)) ∷ (old ++ spell h.rest h.zeros) =
-      child_split group (size k) (omega arith) ∙ ap (λ m. number_of (head (at_least a) (size k)) ∷ (old ++ spell (m ⊕ h.rest) h.zeros)) (past_end (size k) k (omega arith)) in
+      child_split group (size k) (omega arith)
+      ∙ ap (λ m. number_of (head (at_least a) (size k)) ∷ (old ++ spell (m ⊕ h.rest) h.zeros)) (past_end (size k) k (omega arith)) in
       e
       ∙ removed_at (v ∷ []) old (spell h.rest h.zeros) (set l 0 v) 1 (end - 1) (ap (λ t. set t 0 v) split) refl long
       ∙ ap₂ (λ x t. x ∷ t) n (spell_zeros h.rest h.zeros (end - 1))
@@ -137,14 +139,17 @@ module _ {r : ℕ} {l : List ℕ} (s : Stretch l) (h : Headed r l) (i j : ℕ) {
       (λ g q. let f : r ≡ 16 = is in
       let at = only_then (eqb i 0 && eqb j 0) k (decided (at_least a)) (rw (ap family_at f ∙ family_16, least) at q) in
       ⊎_elim
-      (λ w. all_gone and v (new ∙ pick_true {A = ℕ} (eqb a 0) 12288 16384 w.0 ∙ sym (constant_of and refl)) e ∙ ap (λ m. spell (m ⊕ h.rest) (h.zeros + (end - 1))) w.1)
+      (λ w. all_gone and v (new ∙ pick_true {A = ℕ} (eqb a 0) 12288 16384 w.0 ∙ sym (constant_of and refl)) e
+      ∙ ap (λ m. spell (m ⊕ h.rest) (h.zeros + (end - 1))) w.1)
       (λ w. let o = only_some (ltb (size k) a) _ w.1 in
-      all_gone or v (new ∙ pick_false {A = ℕ} (eqb a 0) 12288 16384 w.0 ∙ sym (constant_of or refl)) e ∙ ap (λ m. spell (m ⊕ h.rest) (h.zeros + (end - 1))) o.1)
+      all_gone or v (new ∙ pick_false {A = ℕ} (eqb a 0) 12288 16384 w.0 ∙ sym (constant_of or refl)) e
+      ∙ ap (λ m. spell (m ⊕ h.rest) (h.zeros + (end - 1))) o.1)
       (pick_some (eqb a 0) _ _ at.1))
       same
 
   -- Rule 17: another head stands before the members.
-  headed_anew : (d : Conn) (v : ℕ) {out : List ℕ} → v ≡ number_of (head d (size h.children)) → out ≡ set l 0 v → out ≡ spell (node d h.children nil ⊕ h.rest) h.zeros
+  headed_anew : (d : Conn) (v : ℕ) {out : List ℕ} → v ≡ number_of (head d (size h.children)) → out ≡ set l 0 v →
+      out ≡ spell (node d h.children nil ⊕ h.rest) h.zeros
   unfolding ◌⊕◌
   headed_anew d v n e =
       let k = h.children in

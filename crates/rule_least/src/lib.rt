@@ -1,6 +1,7 @@
 // Rules 15 to 17, for nodes of kind 6: a constant among the members; how many are asked for, where that decides the node or makes it
 // any-of or all-of.
 #![tactic(auto)]
+
 ghost use Rattle.std.specs.Prelude.{◌≡◌, true, ◌≤◌, ◌<◌, get_or};
 ghost use Rattle.model.specs.Base.{is_some};
 ghost use Rattle.model.specs.Code.{children};
