@@ -1,12 +1,12 @@
 -- Bytes that begin with others: compared one after another.
 use mathlib.Core.Bool.{true, false}
 use mathlib.Core.List.{List}
-use mathlib.Core.Path.{◌≡◌, refl, sym, ap, ◌∙◌}
-use Prim.Native.Nat.{ℕ, suc, ◌+◌, ◌≤◌, ◌<◌}
+use mathlib.Core.Path.{◌≡◌, sym, ap, ◌∙◌}
+use Prim.Native.Nat.{ℕ, ◌+◌, ◌≤◌, ◌<◌}
 use native.Mathlib.Numerals.{add-one}
 use native.Mathlib.Omega.{arith}
-use lib.ListN.{length, get_or, take, length-take}
-use lib.Seq.{take-suc, take_all, take-take, get_or-take, length-take-le}
+use lib.ListN.{length, get_or, take}
+use lib.Seq.{take-suc, take_all, get_or-take}
 use Rattle.model.specs.Base.{same_list}
 use Rattle.theory_forms.specs.Logic.{fails_if}
 use Rattle.theory_forms.specs.Placed.{same_list_is}

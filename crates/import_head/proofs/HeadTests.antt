@@ -2,16 +2,16 @@
 use mathlib.Core.Bool.{Bool, true, false, ◌&&◌}
 use mathlib.Core.List.{List, [], ◌∷◌}
 use mathlib.Core.Logic.{⊎_elim}
-use mathlib.Core.Path.{◌≡◌, refl, sym, ap, ap₂, ◌∙◌}
-use Prim.Native.Nat.{ℕ, suc, ◌+◌, ◌-◌, ◌≤◌, ◌<◌}
+use mathlib.Core.Path.{◌≡◌, refl, sym, ap, ◌∙◌}
+use Prim.Native.Nat.{ℕ, ◌+◌, ◌-◌, ◌≤◌}
 use native.Mathlib.Omega.{arith}
 use borrow.Author.Tests.{eq-eqb, ne_eqb, leb-true, leb-false}
-use lib.Dec.{eqb, leb}
-use lib.ListN.{length, get_or, take, drop, length-take, length-drop, get_or-eq_default}
+use lib.Dec.{leb}
+use lib.ListN.{length, get_or, take, drop, length-drop, get_or-eq_default}
 use lib.Seq.{drop-drop, take_all}
 use Rattle.model.specs.Base.{same_list}
 use Rattle.texts.specs.Decimals.{is_decimal}
-use Rattle.theory_forms.specs.Logic.{either, true_false}
+use Rattle.theory_forms.specs.Logic.{either}
 use Rattle.theory_forms.specs.Placed.{same_list_is}
 use Rattle.theory_texts.specs.Figures.{run}
 use Rattle.theory_texts.specs.WordKinds.{digits_of, past_digits}
@@ -26,10 +26,6 @@ p_cnf = 112 ∷ 32 ∷ 99 ∷ 110 ∷ 102 ∷ 32 ∷ []
 and_false : (b : Bool) → (b && false) ≡ false
 and_false true = refl
 and_false false = refl
-
--- What a function says that found no p line, or no rest of one.
-pub turned_away : {P : Type 0} (g x : Bool) → g ≡ false → x ≡ false → (g ≡ x) × (g ≡ true → P)
-turned_away g x e f = (e ∙ sym f, λ h. true_false (sym h ∙ e))
 
 module _ (l : List ℕ) (at : ℕ) where
   abbrev pub front : Bool

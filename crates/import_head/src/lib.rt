@@ -1,5 +1,6 @@
 // The p line of a clause file: what it begins with, V, C and its end, and where they stand.
 #![tactic(auto)]
+
 ghost use Rattle.std.specs.Prelude.{◌≡◌, true, false, ◌≤◌, length, take, drop};
 ghost use Rattle.model.specs.Base.{same_list};
 ghost use Rattle.theory_texts.specs.PLines.{has_p_line};
