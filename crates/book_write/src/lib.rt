@@ -1,5 +1,6 @@
 // The core of the writer: the book of a sheet.
 #![tactic(auto)]
+
 ghost use Rattle.std.specs.Prelude.{◌≡◌, ◌+◌, ◌-◌, ◌*◌, ◌≤◌, length, get_or};
 ghost use Rattle.model.specs.Base.{placed};
 ghost use Rattle.model.specs.Code.{children};
