@@ -1,5 +1,6 @@
 // What the desk program prints, written at the start of a lent slice; what stands after it stays.
 #![tactic(auto)]
+
 ghost use Rattle.std.specs.Prelude.{◌≡◌, ◌+◌, ◌*◌, ◌≤◌, ◌<◌, length, take, set};
 ghost use Rattle.model.specs.Book.{characters, pieces};
 ghost use Rattle.texts.specs.Decimals.{decimal};
