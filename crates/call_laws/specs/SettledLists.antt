@@ -1,7 +1,6 @@
 -- A list of calls that ends in a settled run leaves a sheet in normal form.
 use Rattle.std.specs.Prelude.{true, false, List, [], ◌∷◌, ◌++◌, ◌⊎◌, ◌↔◌, ◌≡◌, refl, ℕ, suc, ◌≤◌}
 use Rattle.std.proofs.Common.{inl, inr, ⊎_elim, sym, ap, subst, arith}
-use Rattle.std.proofs.Math.Option.{none}
 use Rattle.model.specs.Literal.{Literal}
 use Rattle.model.specs.Forest.{root, or, Forest, nil, node, constant, kids, has_unit}
 use Rattle.model.specs.Code.{Node, encode}

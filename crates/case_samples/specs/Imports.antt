@@ -1,5 +1,5 @@
 -- What the cases of clause files are spelled with: imports into an output of 200 bytes that hold 7 each, and what may come of them.
-use Rattle.std.specs.Prelude.{List, ◌∷◌, [], ◌++◌, ℕ, ◌-◌, length, replicate}
+use Rattle.std.specs.Prelude.{List, ◌++◌, ℕ, ◌-◌, length, replicate}
 use Prim.Native.String.{String}
 use Rattle.calls.specs.Refusals.{text_refused}
 use Rattle.calls.specs.Outcomes.{refused, accepted, Outcome}

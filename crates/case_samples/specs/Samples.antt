@@ -1,7 +1,6 @@
 -- Texts, books and sheets for the computed cases, spelled as documents 01 and 02 spell them and by none of the definitions under test.
 use Rattle.std.specs.Prelude.{List, [], ◌∷◌, ◌++◌, ℕ, zero, suc, ◌+◌, ◌-◌, ◌*◌, ◌/◌, ◌%◌, length, replicate}
 use Prim.Native.Char
-use Prim.Native.String
 use Prim.Native.String.{String}
 use Rattle.model.specs.Literal.{Literal, pos}
 use Rattle.calls.specs.Refusals.{refusal_number}

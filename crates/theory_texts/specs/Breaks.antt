@@ -1,14 +1,14 @@
 -- Lines of a text, and the words after its p line, from the first byte on.
-use Rattle.std.specs.Prelude.{Bool, true, false, ◌&&◌, ◌||◌, ◌≡◌, refl, ℕ, zero, suc, length, get_or}
+use Rattle.std.specs.Prelude.{Bool, true, false, ◌&&◌, ◌||◌, ◌≡◌, refl, ℕ, get_or}
 use mathlib.Core.List.{List, [], ◌∷◌, ◌++◌, map, flatten}
 use Rattle.std.proofs.Math.Logic.{⊎_elim}
 use Rattle.std.proofs.Math.Path.{sym, ap}
-use Rattle.std.proofs.Common.{ap₂, ◌∙◌, arith}
+use Rattle.std.proofs.Common.{◌∙◌, arith}
 use borrow.Author.Tests.{eqb-true, eq-eqb}
 use Rattle.std.proofs.Math.Dec.{eqb}
 use Rattle.model.specs.Base.{pick}
 use Rattle.texts.specs.ClauseFile.{before_part, parts, plain_ends, lines, is_blank, with_word, not_empty, words_of_line}
-use Rattle.theory_forms.specs.Logic.{either, true_false, pick_true, pick_false, and_split, or_split, or_neither}
+use Rattle.theory_forms.specs.Logic.{either, true_false, and_split, or_split, or_neither}
 
 -- A list is never cut into nothing.
 pub some_part : (cuts : ℕ → Bool) (xs : List ℕ) → (p : List ℕ) × (ps : List (List ℕ)) × (parts cuts xs ≡ p ∷ ps)

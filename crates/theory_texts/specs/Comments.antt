@@ -1,7 +1,7 @@
 -- Comment lines passed over, byte by byte.
-use Rattle.std.specs.Prelude.{Bool, true, false, not, List, [], ◌∷◌, ◌++◌, ◌≡◌, refl, ℕ, zero, suc, ◌+◌, ◌≤◌, eqb, length, get_or, take, drop}
-use Rattle.std.proofs.Common.{⊎_elim, sym, ap, ◌∙◌, arith, eqb-true, eq-eqb}
-use Rattle.std.proofs.Math.Option.{Option, none, some}
+use Rattle.std.specs.Prelude.{Bool, true, not, List, [], ◌∷◌, ◌≡◌, refl, ℕ, zero, suc, ◌+◌, ◌≤◌, eqb, length, get_or, take, drop}
+use Rattle.std.proofs.Common.{sym, ap, ◌∙◌, arith}
+use Rattle.std.proofs.Math.Option.{Option, none}
 use Rattle.model.specs.Base.{pick, only_if, then, all, same_list}
 use Rattle.texts.specs.Decimals.{is_decimal}
 use Rattle.texts.specs.ClauseFile.{before_part, parts, plain_ends, lines, past_comments, is_p_line, stated, File, file_of_lines, file_of}

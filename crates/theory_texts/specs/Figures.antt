@@ -1,12 +1,11 @@
 -- Digits at the start of a text, and the numbers that they spell.
-use Rattle.std.specs.Prelude.{Bool, true, false, ◌&&◌, ◌||◌, not, List, [], ◌∷◌, ◌++◌, ◌≡◌, refl, ℕ, zero, suc, ◌+◌, ◌-◌, ◌*◌, ◌≤◌, ◌<◌, eqb, leb, length, get_or, take, drop}
-use Rattle.std.proofs.Common.{⊎_elim, sym, ap, ap₂, ◌∙◌, arith, eqb-true, eq-eqb, ne_eqb, leb-true, le-leb}
-use Rattle.std.proofs.lemmas.Bool.{eqb-false, lt-leb, not-true}
+use Rattle.std.specs.Prelude.{Bool, true, false, ◌||◌, List, [], ◌∷◌, ◌++◌, ◌≡◌, refl, ℕ, suc, ◌≤◌, eqb, leb, length, get_or, take}
+use Rattle.std.proofs.Common.{⊎_elim, ap, arith, eqb-true, ne_eqb, leb-true}
 use Rattle.model.specs.Base.{pick, all}
 use Rattle.model.specs.Book.{between}
-use Rattle.texts.specs.Decimals.{is_digit, is_decimal, number_from, number_in}
+use Rattle.texts.specs.Decimals.{is_digit}
 use Rattle.texts.specs.ClauseFile.{is_blank}
-use Rattle.theory_forms.specs.Logic.{either, true_false, and_split, and_join, or_split}
+use Rattle.theory_forms.specs.Logic.{either, and_split, or_split}
 use Rattle.theory_texts.specs.Breaks.{breaks, before_end}
 use Rattle.theory_texts.specs.Words.{is_solid}
 use Rattle.theory_texts.specs.Spans.{span}

@@ -1,16 +1,16 @@
 -- The numbers that digits spell, compared as digits: by their count, then digit by digit.
-use Rattle.std.specs.Prelude.{Bool, true, false, ◌&&◌, ◌||◌, not, List, [], ◌∷◌, ◌++◌, ◌≡◌, refl, eqb, leb, length, take}
-use Rattle.std.proofs.Common.{⊎_elim, sym, ap₂, ◌∙◌, arith, eqb-true, eq-eqb, ne_eqb, leb-true, le-leb, take-append-drop, take-suc, take_all}
+use Rattle.std.specs.Prelude.{true, false, ◌&&◌, ◌||◌, not, List, [], ◌∷◌, ◌++◌, ◌≡◌, refl, eqb, leb, length, take}
+use Rattle.std.proofs.Common.{⊎_elim, sym, ◌∙◌, arith, eqb-true, eq-eqb, ne_eqb, le-leb, take-append-drop, take-suc}
 use Rattle.std.proofs.Math.Path.{ap}
-use Prim.Native.Nat.{ℕ, zero, suc, ◌+◌, ◌-◌, ◌*◌, ◌/◌, ◌%◌, ◌≤◌, ◌<◌}
+use Prim.Native.Nat.{ℕ, suc, ◌+◌, ◌-◌, ◌*◌, ◌/◌, ◌%◌, ◌≤◌, ◌<◌}
 use Rattle.std.proofs.lemmas.Bool.{eqb-false, lt-leb, not-true}
 use Rattle.std.proofs.Math.ListN.{get_or, drop, length-drop}
 use Rattle.std.proofs.Math.Seq.{split_at}
 use Rattle.model.specs.Base.{pick, all}
 use Rattle.model.specs.Book.{between}
 use Rattle.texts.specs.Decimals.{is_digit, is_decimal, number_from, number_in}
-use Rattle.theory_forms.specs.Logic.{either, true_false, and_split, and_join, or_split, same_test}
-use Rattle.theory_forms.specs.Lists.{all_append, all_index, all_cut}
+use Rattle.theory_forms.specs.Logic.{either, true_false, and_split, or_split, same_test}
+use Rattle.theory_forms.specs.Lists.{all_cut}
 use Rattle.theory_texts.specs.Figures.{digit_range}
 
 pub number_append : (n : ℕ) (xs ys : List ℕ) → number_from n (xs ++ ys) ≡ number_from (number_from n xs) ys

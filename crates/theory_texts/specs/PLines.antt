@@ -1,21 +1,21 @@
 -- The p line, byte by byte: what it must begin with, the two numbers, its end; and where a text begins with no such line, no file.
-use Rattle.std.specs.Prelude.{Bool, true, false, ◌&&◌, ◌||◌, not, ◌≡◌, refl, ℕ, zero, suc, ◌+◌, eqb, length, get_or, take, drop}
-use mathlib.Core.List.{List, [], ◌∷◌, ◌++◌, map, flatten, append_assoc, append-nil}
+use Rattle.std.specs.Prelude.{Bool, true, false, ◌&&◌, ◌||◌, not, ◌≡◌, refl, ℕ, eqb, length, get_or, take, drop}
+use mathlib.Core.List.{List, [], ◌∷◌, ◌++◌, map, flatten, append_assoc}
 use Rattle.std.proofs.Common.{⊎_elim, sym, ap₂, ◌∙◌, arith, eqb-true, eq-eqb, ne_eqb, take-append-drop}
-use Rattle.std.proofs.Math.Option.{Option, none, some}
+use Rattle.std.proofs.Math.Option.{none, some}
 use Rattle.std.proofs.Math.Path.{ap}
-use Rattle.std.proofs.lemmas.Bool.{eqb-false, not-true}
+use Rattle.std.proofs.lemmas.Bool.{not-true}
 use Rattle.std.proofs.Math.Seq.{take-append_seam, drop-append_seam}
 use Rattle.model.specs.Base.{pick, only_if, then, all, same_list}
 use Rattle.model.specs.Book.{between}
 use Rattle.texts.specs.Decimals.{is_digit, is_decimal, number_in}
-use Rattle.texts.specs.ClauseFile.{before_part, parts, plain_ends, lines, past_comments, is_p_line, Stated, stated, not_empty, with_word, words_of_line, File}
+use Rattle.texts.specs.ClauseFile.{before_part, parts, plain_ends, lines, past_comments, is_p_line, stated, not_empty, with_word, words_of_line}
 use Rattle.texts.specs.ClauseFile.{file_stated, file_of_lines, file_of}
-use Rattle.theory_forms.specs.Logic.{either, true_false, pick_true, pick_false, and_split, and_join, none_if, only_some, then_some, fails_if, or_split, or_left, or_right, or_neither}
+use Rattle.theory_forms.specs.Logic.{either, true_false, pick_true, pick_false, and_split, and_join, none_if, only_some, then_some, or_split, or_left, or_right, or_neither}
 use Rattle.theory_forms.specs.Lists.{all_append, all_weaken}
 use Rattle.theory_forms.specs.Placed.{same_list_is}
-use Rattle.theory_texts.specs.Breaks.{breaks, before_end, lines_end, lines_before_end, lines_other, first_byte, begins_empty, some_part, words_after}
-use Rattle.theory_texts.specs.Figures.{digit_range, on_digit, run, run_digits, run_all}
+use Rattle.theory_texts.specs.Breaks.{before_end, lines_end, lines_before_end, lines_other, first_byte, begins_empty, some_part, words_after}
+use Rattle.theory_texts.specs.Figures.{digit_range, on_digit, run, run_digits}
 use Rattle.theory_texts.specs.Numbers.{decimal_digits}
 use Rattle.theory_texts.specs.WordKinds.{digits_of, past_digits}
 

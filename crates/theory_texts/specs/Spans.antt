@@ -1,7 +1,7 @@
 -- How far a text goes on with what a test holds for: the loops that pass over blanks, digits and the rest of a line.
-use Rattle.std.specs.Prelude.{Bool, not, ◌≡◌, refl, eqb, get_or, take, drop}
+use Rattle.std.specs.Prelude.{Bool, ◌≡◌, drop}
 use Rattle.std.proofs.Math.Bool.{true, false}
-use mathlib.Core.List.{List, [], ◌∷◌, ◌++◌}
+use mathlib.Core.List.{List, [], ◌∷◌}
 use Rattle.std.proofs.Math.Logic.{⊎_elim}
 use Rattle.std.proofs.Common.{sym, ◌∙◌, drop_of_length-le}
 use Rattle.std.proofs.Math.Path.{ap}
@@ -9,8 +9,8 @@ use Prim.Native.Nat.{ℕ, zero, suc, ◌+◌, ◌≤◌, ◌<◌}
 use native.Mathlib.Omega.{arith}
 use Rattle.std.proofs.Math.ListN.{length}
 use Rattle.std.proofs.Math.Seq.{drop-cons}
-use Rattle.model.specs.Base.{pick, all}
-use Rattle.theory_forms.specs.Logic.{and_split, either}
+use Rattle.model.specs.Base.{pick}
+use Rattle.theory_forms.specs.Logic.{either}
 
 -- The number of bytes from the start on at each of which the test holds, for what begins there.
 unfoldable pub span : (List ℕ → Bool) → List ℕ → ℕ

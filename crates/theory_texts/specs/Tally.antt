@@ -1,7 +1,7 @@
 -- Words counted from the left: the clauses that are closed, the marks, and whether a clause is open.
-use Rattle.std.specs.Prelude.{Bool, true, false, ◌&&◌, ◌||◌, not, ◌≡◌, ℕ, zero, suc, ◌+◌, eqb, length}
-use mathlib.Core.List.{List, [], ◌∷◌, ◌++◌, flatten}
-use Rattle.std.proofs.Common.{⊎_elim, sym, ap, ◌∙◌, arith}
+use Rattle.std.specs.Prelude.{Bool, true, false, not, ◌≡◌, ℕ, suc, ◌+◌, eqb, length}
+use mathlib.Core.List.{List, [], ◌∷◌, flatten}
+use Rattle.std.proofs.Common.{◌∙◌, arith}
 use Rattle.std.proofs.Math.Option.{Option, none, some}
 use Rattle.std.proofs.Math.Path.{refl, ap₂}
 use Rattle.std.proofs.Math.ListN.{length-append}

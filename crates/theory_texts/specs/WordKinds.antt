@@ -1,25 +1,24 @@
 -- What the first word after a p line is, by its bytes: the 0 that closes a clause, a mark, or neither.
-use Rattle.std.specs.Prelude.{Bool, true, false, ◌&&◌, ◌||◌, not, ◌≡◌, leb, length, drop}
+use Rattle.std.specs.Prelude.{Bool, true, false, ◌&&◌, not, ◌≡◌, leb, length, drop}
 use mathlib.Core.List.{List, [], ◌∷◌, ◌++◌}
 use Rattle.std.proofs.Math.Logic.{⊎_elim}
-use Rattle.std.proofs.Math.Option.{Option, none, some}
 use Rattle.std.proofs.Math.Path.{refl, ap}
-use Rattle.std.proofs.Common.{sym, ap₂, ◌∙◌, arith, take-append-drop, length-take-le}
-use Prim.Native.Nat.{ℕ, zero, suc, ◌+◌, ◌-◌, ◌≤◌, ◌<◌}
-use borrow.Author.Tests.{eqb-true, eqb-false, eq-eqb, ne_eqb, leb-true, le-leb, lt-leb, not-true, not-false}
+use Rattle.std.proofs.Common.{sym, ◌∙◌, arith, take-append-drop, length-take-le}
+use Prim.Native.Nat.{ℕ, zero, suc, ◌-◌, ◌≤◌}
+use borrow.Author.Tests.{eqb-true, ne_eqb, not-true, not-false}
 use Rattle.std.proofs.Math.Dec.{eqb}
 use Rattle.std.proofs.Math.ListN.{get_or, take}
 use Rattle.std.proofs.Math.Seq.{drop-append_seam}
-use Rattle.model.specs.Base.{pick, only_if, is_some, all, same_list}
+use Rattle.model.specs.Base.{pick, is_some, all, same_list}
 use Rattle.model.specs.Book.{between}
 use Rattle.model.specs.Literal.{literal}
 use Rattle.texts.specs.Decimals.{is_digit, is_decimal, number_in}
 use Rattle.texts.specs.ClauseFile.{is_blank, mark_by, mark_of_word, closes}
-use Rattle.theory_forms.specs.Logic.{either, true_false, pick_true, pick_false, fails_if, and_split, and_join, is_some_only}
+use Rattle.theory_forms.specs.Logic.{either, true_false, pick_true, pick_false, fails_if, is_some_only}
 use Rattle.theory_forms.specs.Lists.{all_weaken}
 use Rattle.theory_forms.specs.Placed.{same_list_is}
 use Rattle.theory_texts.specs.Breaks.{breaks, words_after}
-use Rattle.theory_texts.specs.Words.{FirstWord, first_word, is_solid, solid_stays, whole_word}
+use Rattle.theory_texts.specs.Words.{first_word, is_solid, whole_word}
 use Rattle.theory_texts.specs.Spans.{span_within}
 use Rattle.theory_texts.specs.Figures.{digit_solid, break_no_digit, on_digit, run, run_digits, run_all}
 use Rattle.theory_texts.specs.Numbers.{decimal_digits, decimal_first, first_zero}

@@ -1,6 +1,6 @@
 -- The first word after a p line: what stands before the first blank, line end or the end.
-use Rattle.std.specs.Prelude.{Bool, true, false, ◌&&◌, ◌||◌, not, List, [], ◌∷◌, ◌++◌, ◌≡◌, refl, ℕ, zero, suc, ◌+◌, ◌≤◌, eqb, length, get_or, take, drop}
-use Rattle.std.proofs.Common.{⊎_elim, sym, ap, ap₂, ◌∙◌, arith, eqb-true, eq-eqb}
+use Rattle.std.specs.Prelude.{Bool, true, false, ◌&&◌, ◌||◌, not, List, [], ◌∷◌, ◌++◌, ◌≡◌, refl, ℕ, suc, ◌≤◌, eqb, length, get_or, drop}
+use Rattle.std.proofs.Common.{⊎_elim, sym, ap, ◌∙◌, arith}
 use Rattle.model.specs.Base.{pick, all}
 use Rattle.texts.specs.ClauseFile.{before_part, is_blank}
 use Rattle.theory_forms.specs.Logic.{either, true_false, and_split}
