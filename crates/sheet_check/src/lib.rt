@@ -1,5 +1,6 @@
 // The order sheet: 4,098 numbers.
 #![tactic(auto)]
+
 ghost use Rattle.std.specs.Prelude.{◌≡◌, ◌&&◌, map, ◌≤◌, eqb, length, take};
 ghost use Rattle.model.specs.Base.{all};
 ghost use Rattle.model.specs.Limits.{most_options, sheet_room};

@@ -4,8 +4,7 @@ use mathlib.Core.List.{List, map}
 use mathlib.Core.Path.{◌≡◌, sym, ◌∙◌}
 use Prim.Native.Nat.{ℕ, ◌+◌, ◌-◌, ◌<◌}
 use native.Mathlib.Omega.{arith}
-use borrow.Author.Rules.{rules}
-use borrow.Author.Tests.{eq-eqb, ne_eqb, le-leb, lt-leb, not-true, not-false}
+use borrow.Author.Tests.{eq-eqb, ne_eqb, le-leb, lt-leb}
 use borrow.Author.Rules.{part_to_end}
 use lib.Dec.{eqb, leb}
 use lib.ListN.{length, get_or, take, drop}
@@ -15,8 +14,7 @@ use Rattle.model.specs.Limits.{most_options, most_weight, sheet_room, sheet_leng
 use Rattle.model.specs.Forest.{all_seated}
 use Rattle.model.specs.Code.{weight, decode, node_of, one_tree}
 use Rattle.model.specs.Sheet.{options_in, used_in, numbers_in, nodes_in, rest_in, rooted, is_sheet}
-use Rattle.sheet_check.proofs.is_sheet.Statement.{statement}
-use Rattle.sheet_check.proofs.is_sheet.Tie as tie
+use Rattle.sheet_check.proofs.is_sheet.Goals as goal
 
 -- The nodes are one rooted tree, all members in their seats.
 abbrev tree_in : List ℕ → Bool
@@ -57,92 +55,52 @@ module _ (s : List ℕ) where
   unfolding rest_in used_in
   clear_is {used} f e = rw (← f, drop-drop used 2 s) (sym (rw (part_to_end s (2 + used)) at e))
 
--- The sheet, from where its two first numbers were read on; and what the calls told of it.
-abbrev sheet : tie.After-wide162 → List ℕ
-sheet k = k.before.before.before.before.before.before.args.s.now
+pub returns-then-s-ne-SHEET_LENGTH : goal.returns-then-s-ne-SHEET_LENGTH
+returns-then-s-ne-SHEET_LENGTH c =
+    let s = c.args.s.now in
+    rw (sheet_is s, ne_eqb (length s) sheet_length c.if-s-ne-SHEET_LENGTH.true)
 
-told_clear : (c : tie.After-is-clear) → all (eqb 0) (rest_in (sheet c.before.before.before.before.before.before.before)) ≡ c.is-clear.result
-told_clear c = let k = c.before.before.before.before.before.before.before in clear_is (sheet k) k.wide162.ensures.0 c.is-clear.ensures
-
-told_tree : (c : tie.After-is-rooted-tree) → tree_in (sheet c.before.before.before.before.before.before.before.before.before.before) ≡ c.is-rooted-tree.result
-told_tree c =
-    let k = c.before.before.before.before.before.before.before.before.before.before in
-    tree_is (sheet k) k.before.before.wide16.ensures.0 k.wide162.ensures.0 c.is-rooted-tree.ensures
-
-returns : tie.Need-returns
-returns c =
-    let s = c.before.before.args.s.now in
-    rw (sheet_is s, ne_eqb (length s) sheet_length c.if1.true)
-
-returns_2 : tie.Need-returns-2
-returns_2 c =
-    let s = sheet c.before in
+pub returns-then-n-gt-MOST_OPTIONS : goal.returns-then-n-gt-MOST_OPTIONS
+returns-then-n-gt-MOST_OPTIONS c =
+    let s = c.args.s.now in
     rw (sheet_is s, lt-leb (get_or s 0 0) most_options (omega arith), and-false)
 
-returns_3 : tie.Need-returns-3
+pub returns-then-used-lt1 : goal.returns-then-used-lt1
 unfolding options_in used_in numbers_in rooted
-returns_3 c =
-    let s = sheet c.before.before in
+returns-then-used-lt1 c =
+    let s = c.args.s.now in
     let none-used : get_or s 1 0 ≡ 0 = omega arith in
     rw (sheet_is s, none-used, and-false)
 
-returns_4 : tie.Need-returns-4
-returns_4 c =
-    let s = sheet c.before.before.before in
+pub returns-then-used-gt-SHEET_ROOM : goal.returns-then-used-gt-SHEET_ROOM
+returns-then-used-gt-SHEET_ROOM c =
+    let s = c.args.s.now in
     rw (sheet_is s, lt-leb (get_or s 1 0) sheet_room (omega arith), and-false)
 
 -- The used count is tested before anything is summed, so that the sum is at most 8,192.
-weigh_sheet_requires : tie.Need-weigh-sheet-requires
+pub weigh_sheet-requires : goal.weigh_sheet-requires
 unfolding used_in
-weigh_sheet_requires c κs = (omega arith, omega arith)
+weigh_sheet-requires c = (omega arith, omega arith)
 
-returns_5 : tie.Need-returns-5
-returns_5 c =
-    let s = sheet c.before.before.before.before.before in
-    let heavy : most_weight < weight (nodes_in s) = omega (arith, c.if5.true, c.before.weigh-sheet.ensures.0) in
+pub returns-then-weigh_sheet-gt-MOST_WEIGHT : goal.returns-then-weigh_sheet-gt-MOST_WEIGHT
+returns-then-weigh_sheet-gt-MOST_WEIGHT c =
+    let s = c.args.s.now in
+    let heavy : most_weight < weight (nodes_in s) = omega (arith, c.if-weigh_sheet-gt-MOST_WEIGHT.true, c.weigh_sheet.ensures.0) in
     rw (sheet_is s, lt-leb (weight (nodes_in s)) most_weight heavy, and-false)
 
-returns_6 : tie.Need-returns-6
-returns_6 c =
-    let s = sheet c.before.before.before.before.before.before.before.before in
-    rw (sheet_is s, told_clear c.before, not-true c.before.is-clear.result c.if6.true, and-false)
+pub returns-then-not-is_clear : goal.returns-then-not-is_clear
+returns-then-not-is_clear c =
+    let s = c.args.s.now in
+    let clear = clear_is s c.wide16-used.ensures.0 c.is_clear.ensures in
+    rw (sheet_is s, clear, c.if-not-is_clear.true, and-false)
 
-returns_7 : tie.Need-returns-7
-returns_7 c =
-    let cleared = c.before.before.before in
-    let weighed = cleared.before.before.before in
-    let k = weighed.before.before.before.before in
-    let s = sheet k in
+pub returns : goal.returns
+returns c =
+    let s = c.args.s.now in
     let whole = eq-eqb (length s) sheet_length (omega arith) in
     let few_options = le-leb (get_or s 0 0) most_options (omega arith) in
     let room = le-leb (get_or s 1 0) sheet_room (omega arith) in
-    let clear = told_clear cleared ∙ not-false _ c.before.before.if6.false in
-    let light = le-leb (weight (nodes_in s)) most_weight (omega (arith, cleared.before.before.if5.false, weighed.weigh-sheet.ensures.0)) in
-    rw (sheet_is s, whole, few_options, room, told_tree c, clear, and-true, light, and-true)
-
-pub is_sheet_spec : {M : Type 1} → statement M
-is_sheet_spec =
-    tie.close
-    (tie.spec
-    returns
-    (λ c. search rules)
-    (λ c κs. search rules)
-    (λ c. search rules)
-    (λ c κs. search rules)
-    returns_2
-    returns_3
-    returns_4
-    weigh_sheet_requires
-    returns_5
-    (λ c. search rules)
-    (λ c. search rules)
-    (λ c. search rules)
-    (λ c. search rules)
-    (λ c. search rules)
-    (λ c κs. search rules)
-    returns_6
-    (λ c. search rules)
-    (λ c. search rules)
-    (λ c. search rules)
-    (λ c κs. search rules)
-    returns_7)
+    let clear = clear_is s c.wide16-used.ensures.0 c.is_clear.ensures ∙ c.if-not-is_clear.false in
+    let light = le-leb (weight (nodes_in s)) most_weight (omega (arith, c.if-weigh_sheet-gt-MOST_WEIGHT.false, c.weigh_sheet.ensures.0)) in
+    let tree = tree_is s c.wide16-n.ensures.0 c.wide16-used.ensures.0 c.is_rooted_tree.ensures in
+    rw (sheet_is s, whole, few_options, room, tree, clear, and-true, light, and-true)
