@@ -41,7 +41,8 @@ module _ (r : ℕ) (c : Conn) (i j : ℕ) (k : Forest) where
   unfolding family_at pick change absorb omit wanted
   constant_asked b =
       rw (le-leb r 6 b)
-      (pick_keeps (λ x. is_some (change x c i j k) ≡ (eqb j 0 && constant_at (wanted x c) (after i k))) (leb r 3) (is_some_only _ _) (is_some_only _ _))
+      (pick_keeps (λ x. is_some (change x c i j k) ≡ (eqb j 0 && constant_at (wanted x c) (after i k))) (leb r 3) (is_some_only _ _)
+      (is_some_only _ _))
 
   single_asked : 7 ≤ r → r ≤ 8 → is_some (change (family_at r) c i j k) ≡ (eqb i 0 && eqb j 0 && eqb (size k) 1)
   unfolding family_at pick change unwrap
@@ -83,7 +84,8 @@ wanted_groups r c b =
 -- The test, on the numbers.
 module _ {r : ℕ} {l : List ℕ} (s : Stretch l) (h : Headed r l) (i j : ℕ) where
   pub applies_nothing : r ≤ 8 → (j ≡ 0 → ⊥) → false ≡ is_some (rewrite r i j (forest_in l))
-  applies_nothing b n = sym (fails_if (is_some (rewrite r i j (forest_in l))) (λ t. n (second_zero r h.conn i j h.children b (sym (family_applies h i j) ∙ t))))
+  applies_nothing b n = sym (fails_if (is_some (rewrite r i j (forest_in l)))
+      (λ t. n (second_zero r h.conn i j h.children b (sym (family_applies h i j) ∙ t))))
 
   pub applies_single : 7 ≤ r → r ≤ 8 → j ≡ 0 → i < size h.children → eqb (size h.children) 1 ≡ is_some (rewrite r i j (forest_in l))
   applies_single a b e n =
@@ -98,7 +100,8 @@ module _ {r : ℕ} {l : List ℕ} (s : Stretch l) (h : Headed r l) (i j : ℕ) w
   applies_constant b e n =
       let c = h.conn in
       let k = h.children in
-      let asked : is_some (rewrite r i j (forest_in l)) ≡ (eqb j 0 && constant_at (wanted (family_at r) c) (after i k)) = family_applies h i j ∙ constant_asked r c i j k b in
+      let asked : is_some (rewrite r i j (forest_in l)) ≡ (eqb j 0 && constant_at (wanted (family_at r) c) (after i k)) = family_applies h i j
+      ∙ constant_asked r c i j k b in
       rw (asked, constant_number h (omega arith), eq-eqb j 0 e) (child_constant (headed_group s h) i n (wanted (family_at r) c) (wanted_groups r c b))
 
 -- Where a constant is written after the head, and the other numbers of the children go.
@@ -115,14 +118,19 @@ only_child {l} {c} {k} {f} {z} g o n d known =
     let old = code (first (size k) k) in
     let long : length old + 1 ≡ end = omega (arith, child_place g (size k) (omega arith)) in
     let split : l ≡ number_of (head c (size k)) ∷ (get_or old 0 0 ∷ (drop 1 old ++ spell f z)) =
-    child_split g (size k) (omega arith) ∙ ap₂ (λ u m. number_of (head c (size k)) ∷ (u ++ spell (m ⊕ f) z)) (drop-cons old 0 0 (omega (arith, child_later g (size k) (omega arith)))) (past_end (size k) k (omega arith)) in
+    child_split g (size k) (omega arith)
+    ∙ ap₂ (λ u m. number_of (head c (size k)) ∷ (u ++ spell (m ⊕ f) z)) (drop-cons old 0 0 (omega (arith, child_later g (size k) (omega arith))))
+    (past_end (size k) k (omega arith)) in
     let one : x ≡ number_of (head c 1) = omega (arith, group_head g o, group_few g, head_number c 1 o) in
-    removed_at (x ∷ y ∷ []) (drop 1 old) (spell f z) (set (set l 0 x) 1 y) 2 (end - 2) (ap (λ u. set (set u 0 x) 1 y) split) refl (omega (arith, length-drop 1 old))
+    removed_at (x ∷ y ∷ []) (drop 1 old) (spell f z) (set (set l 0 x) 1 y) 2 (end - 2) (ap (λ u. set (set u 0 x) 1 y) split) refl
+    (omega (arith, length-drop 1 old))
     ∙ ap₂ (λ u m. u ∷ (y ∷ m)) one (spell_zeros f z (end - 2))
-    ∙ sym (spell_node c (constant d) f w ∙ ap (λ u. number_of (head c 1) ∷ u) (spell_node d nil f w ∙ ap (λ u. u ∷ spell f w) (head_number d 0 known)))
+    ∙ sym (spell_node c (constant d) f w
+    ∙ ap (λ u. number_of (head c 1) ∷ u) (spell_node d nil f w ∙ ap (λ u. u ∷ spell f w) (head_number d 0 known)))
 
 -- The step, on the numbers.
-module _ {r : ℕ} {l out : List ℕ} (s : Stretch l) (h : Headed r l) (i j : ℕ) (t : is_some (rewrite r i j (forest_in l)) ≡ true) (n : length out ≡ length l) where
+module _ {r : ℕ} {l out : List ℕ} (s : Stretch l) (h : Headed r l) (i j : ℕ) (t : is_some (rewrite r i j (forest_in l)) ≡ true)
+    (n : length out ≡ length l) where
   -- The head goes.
   pub turns_single : 7 ≤ r → r ≤ 8 → out ≡ take 0 l ++ (drop (0 + 1) l ++ replicate 1 0) → out ≡ rewritten_to r i j l
   unfolding family_at pick change unwrap
@@ -130,7 +138,8 @@ module _ {r : ℕ} {l out : List ℕ} (s : Stretch l) (h : Headed r l) (i j : �
       let k = h.children in
       let z = h.zeros in
       let gone : out ≡ spell (k ⊕ h.rest) (z + 1) =
-      e ∙ removed_at [] (number_of (head h.conn (size k)) ∷ []) (spell (k ⊕ h.rest) z) l 0 1 (h.spelled ∙ spell_node h.conn k h.rest z) refl refl ∙ spell_zeros (k ⊕ h.rest) z 1 in
+      e ∙ removed_at [] (number_of (head h.conn (size k)) ∷ []) (spell (k ⊕ h.rest) z) l 0 1 (h.spelled ∙ spell_node h.conn k h.rest z) refl refl
+      ∙ spell_zeros (k ⊕ h.rest) z 1 in
       family_turn h i j (z + 1) t
       (λ g q. let o = only_some (eqb i 0 && eqb j 0 && eqb (size k) 1) k (rw (family_7 r a b) at q) in
       rw o.1 at gone)
@@ -144,7 +153,8 @@ module _ {r : ℕ} {l out : List ℕ} (s : Stretch l) (h : Headed r l) (i j : �
       let c = h.conn in
       let k = h.children in
       family_turn h i j (h.zeros + 1) t
-      (λ g w. let o = only_some (eqb j 0 && constant_at (neutral c) (after i k)) (node c (first i k ⊕ after (suc i) k) nil) (rw (family_4 r a b) at w) in
+      (λ g w. let o = only_some (eqb j 0 && constant_at (neutral c) (after i k)) (node c (first i k ⊕ after (suc i) k) nil)
+      (rw (family_4 r a b) at w) in
       let here = constant_here (neutral c) i k (and_split (eqb j 0) _ o.0).1 in
       e ∙ child_opened (headed_group s h) i here v (headed_groups h (omega arith)) (omega arith) ∙ ap (λ m. spell (m ⊕ h.rest) (h.zeros + 1)) o.1)
       n
@@ -161,5 +171,6 @@ module _ {r : ℕ} {l out : List ℕ} (s : Stretch l) (h : Headed r l) (i j : �
       let there = (applied_child s h j (omega arith) t).there in
       family_turn h i j (h.zeros + (child_at (size k) l - 2)) t
       (λ g w. let o = only_some (eqb j 0 && constant_at d (after i k)) (node h.conn (constant d) nil) (rw (family_1 r b) at w) in
-      rw sought at e ∙ only_child (headed_group s h) (headed_groups h (omega arith)) (omega arith) d (deciding_groups h.conn) ∙ ap (λ m. spell (m ⊕ h.rest) (h.zeros + (child_at (size k) l - 2))) o.1)
+      rw sought at e ∙ only_child (headed_group s h) (headed_groups h (omega arith)) (omega arith) d (deciding_groups h.conn)
+      ∙ ap (λ m. spell (m ⊕ h.rest) (h.zeros + (child_at (size k) l - 2))) o.1)
       n

@@ -1,5 +1,6 @@
 // Rules 1 to 8: a constant among the children, and a single child.
 #![tactic(auto)]
+
 ghost use Rattle.std.specs.Prelude.{◌≡◌, true, ◌≤◌, ◌<◌, get_or};
 ghost use Rattle.model.specs.Base.{is_some};
 ghost use Rattle.model.specs.Code.{children};
