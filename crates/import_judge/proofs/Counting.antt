@@ -1,20 +1,20 @@
 -- Words counted one after another.
-use mathlib.Core.Bool.{Bool, true, false, not}
+use mathlib.Core.Bool.{Bool, true, false}
 use mathlib.Core.List.{List, ◌∷◌}
-use mathlib.Core.Option.{Option, none}
+use mathlib.Core.Option.{none}
 use mathlib.Core.Logic.{⊎_elim}
 use mathlib.Core.Path.{◌≡◌, refl, sym, ap, ◌∙◌}
-use Prim.Native.Nat.{ℕ, zero, suc, ◌+◌, ◌≤◌, ◌<◌}
+use Prim.Native.Nat.{ℕ, ◌+◌, ◌≤◌, ◌<◌}
 use native.Mathlib.Numerals.{add-one}
 use native.Mathlib.Omega.{arith}
 use borrow.Author.Tests.{eqb-true, eqb-false}
 use lib.Dec.{eqb}
 use lib.ListN.{length, drop}
 use lib.Seq.{drop-drop}
-use Rattle.model.specs.Base.{pick, only_if, is_some}
+use Rattle.model.specs.Base.{pick, is_some}
 use Rattle.texts.specs.ClauseFile.{closes, mark_of_word}
 use Rattle.theory_forms.specs.Logic.{either, pick_true, pick_false}
-use Rattle.theory_texts.specs.Breaks.{breaks, words_after, words_past}
+use Rattle.theory_texts.specs.Breaks.{breaks, words_after}
 use Rattle.theory_texts.specs.Words.{first_word}
 use Rattle.theory_texts.specs.Spans.{span}
 use Rattle.theory_texts.specs.WordKinds.{kind_of_word, first_kind, kind_at, word_length, word_at, kind_read, NextWord, next_word}
@@ -62,7 +62,8 @@ unfolding one_counted pick
 one_more kind t = go (eqb kind 1)
   where
     go : (b : Bool) →
-        let u = pick {A = Tally} b (record { clauses = t.clauses + 1; marks = t.marks; pending = false }) (record { clauses = t.clauses; marks = t.marks + 1; pending = true }) in
+        let u = pick {A = Tally} b (record { clauses = t.clauses + 1; marks = t.marks; pending = false })
+        (record { clauses = t.clauses; marks = t.marks + 1; pending = true }) in
         u.clauses + u.marks ≡ t.clauses + t.marks + 1
     go true = omega arith
     go false = omega arith
@@ -75,7 +76,8 @@ pub record Counted (n : ℕ) (l : List ℕ) (body : ℕ) (t : Tally) (at : ℕ) 
   pub same : to_come n t (words_after (drop at l)) ≡ counts.tally n 0 0 false (words_after (drop body l))
 
 module _ (n : ℕ) (l : List ℕ) (body : ℕ) where
-  pub begun : (at : ℕ) → at ≡ body + span breaks (drop body l) → at ≤ length l → Counted n l body (record { clauses = 0; marks = 0; pending = false }) at
+  pub begun : (at : ℕ) → at ≡ body + span breaks (drop body l) → at ≤ length l
+      → Counted n l body (record { clauses = 0; marks = 0; pending = false }) at
   begun at far h =
       record {
         within = h;

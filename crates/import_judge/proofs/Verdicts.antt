@@ -1,17 +1,16 @@
 -- The verdict on a text: from the count of its words, and the number of clauses that its p line states.
-use mathlib.Core.Bool.{Bool, true, false, not}
+use mathlib.Core.Bool.{true, false, not}
 use mathlib.Core.List.{List, [], ◌∷◌, flatten}
 use mathlib.Core.Option.{Option, none, some}
 use mathlib.Core.Path.{◌≡◌, refl, sym, ap, ap₂, subst, ◌∙◌}
 use Prim.Native.Nat.{ℕ, ◌+◌, ◌-◌, ◌≤◌}
 use native.Mathlib.Omega.{arith}
-use borrow.Author.Tests.{eqb-true}
 use lib.Dec.{eqb}
 use lib.ListN.{length, get_or, take, drop}
 use lib.Seq.{drop-drop}
 use Rattle.model.specs.Base.{only_if, then}
 use Rattle.model.specs.Clauses.{Clause}
-use Rattle.texts.specs.ClauseFile.{clauses_of_words, Stated, File, file_stated, file_of}
+use Rattle.texts.specs.ClauseFile.{clauses_of_words, File, file_stated, file_of}
 use Rattle.theory_forms.specs.Logic.{none_some, some_inj, then_some}
 use Rattle.texts.specs.Decimals.{is_decimal, number_in}
 use Rattle.theory_texts.specs.Breaks.{words_after}
@@ -23,7 +22,7 @@ use Rattle.theory_texts.specs.Tally as counts
 use Rattle.import_head.specs.declared.Head.{Head}
 use Rattle.import_judge.specs.declared.Tally.{Tally}
 use Rattle.import_judge.specs.declared.Judged.{Judged}
-use Rattle.import_head.specs.Heads.{Rest, Stands}
+use Rattle.import_head.specs.Heads.{Stands}
 use Rattle.import_judge.specs.Judging.{counts_of, stated_at, Gives}
 
 -- What a count says of the clauses that were read.
@@ -119,7 +118,13 @@ module _ {text : List ℕ} {at : ℕ} {h : Head} (s : Stands text at h) where
       ≡ stated_at text h
   unfolding stated_at
   head_read =
-      rw (first_there, second_there, ← digits_between text h.options h.space near, ← digits_between text h.clauses h.body far, ← rest_after text h.clauses h.body far)
+      rw (
+        first_there,
+        second_there,
+        ← digits_between text h.options h.space near,
+        ← digits_between text h.clauses h.body far,
+        ← rest_after text h.clauses h.body far,
+      )
 
 -- The verdict on the words after a head, by their count.
 module _ (text : List ℕ) (h : Head) (t : Tally) (p : PlacedHead text h) where

@@ -1,5 +1,5 @@
 -- What the judging of a clause file keeps: the words counted so far, and what it gives in the end.
-use Rattle.std.specs.Prelude.{Bool, true, false, ◌&&◌, not, ◌≡◌, ℕ, ◌+◌, ◌-◌, ◌≤◌, eqb, length, get_or, take, drop}
+use Rattle.std.specs.Prelude.{true, false, not, ◌≡◌, ℕ, ◌+◌, ◌-◌, ◌≤◌, eqb, length, take, drop}
 use mathlib.Core.List.{List, flatten}
 use Rattle.std.proofs.Math.Option.{Option, some}
 use Rattle.model.specs.Base.{pick, only_if}

@@ -1,5 +1,6 @@
 // A clause file judged and counted in one pass: its p line, the words after it, and whether there are as many clauses as it states.
 #![tactic(auto)]
+
 ghost use Rattle.std.specs.Prelude.{◌≡◌, true, false, ◌+◌, ◌≤◌, ◌<◌, length, drop};
 ghost use Rattle.std.proofs.Math.Option.{none};
 ghost use Rattle.texts.specs.Decimals.{is_decimal, number_in};
