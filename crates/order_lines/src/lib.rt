@@ -1,5 +1,6 @@
 // The lines of an order as they are lent: copied out, so that code over them needs no slice of structs, and moved up by one.
 #![tactic(auto)]
+
 ghost use Rattle.std.specs.Prelude.{◌≡◌, ◌<◌, ◌≤◌, length};
 ghost use Rattle.order_lines.specs.LentLines.{readable, judged, copied_lines, moved_up};
 
