@@ -1,5 +1,6 @@
 // The index of mentions, for the calls: what a call that is lent one is refused for, and the call that fills one.
 #![tactic(auto)]
+
 ghost use Rattle.std.specs.Prelude.{true, ◌≡◌};
 ghost use Rattle.std.proofs.Math.Option.{none};
 ghost use Rattle.model.specs.Base.{is_some};
