@@ -68,8 +68,10 @@ others_literals {l} {c} {k} {f} {z} g i h =
     let later : size (after (suc i) k) ≡ size k - 1 - i = omega (arith, size_after (suc i) k) in
     let room = child_room g (suc i) h in
     let there : drop (child_at (suc i) l) l ≡ code (after (suc i) k) ++ spell f z = child_stands g (suc i) h ∙ spell-⊕ (after (suc i) k) f z in
-    let left = literals_seen (first i k) 1 l (spell (after i k ⊕ f) z) (omega arith) (child_fits g i (omega arith)).0 (ap (drop 1) (child_split g i (omega arith))) in
-    let right = literals_seen (after (suc i) k) (child_at (suc i) l) l (spell f z) (omega arith) (fits-⊕ (after (suc i) k) f (child_fits g (suc i) h).1).0 there in
+    let left = literals_seen (first i k) 1 l (spell (after i k ⊕ f) z) (omega arith) (child_fits g i (omega arith)).0
+    (ap (drop 1) (child_split g i (omega arith))) in
+    let right = literals_seen (after (suc i) k) (child_at (suc i) l) l (spell f z) (omega arith)
+    (fits-⊕ (after (suc i) k) f (child_fits g (suc i) h).1).0 there in
     rw add-one (ap₂ ◌&&◌ (rw before at left) (rw later at right))
 
 -- A child that is a literal.
@@ -93,7 +95,8 @@ module _ (r : ℕ) (c : Conn) (i j : ℕ) (k : Forest) where
   unfolding change lift merge
   conjunction_asked a b =
       rw (late_family r a b)
-      (pick_keeps (λ x. is_some (change x c i j k) ≡ true → is_some (conjunction_at (after i k)) ≡ true) (leb r 12) (is_some_first (conjunction_at (after i k)) _) (is_some_first (conjunction_at (after i k)) _))
+      (pick_keeps (λ x. is_some (change x c i j k) ≡ true → is_some (conjunction_at (after i k)) ≡ true) (leb r 12)
+      (is_some_first (conjunction_at (after i k)) _) (is_some_first (conjunction_at (after i k)) _))
 
   module _ {m : Forest} (e : conjunction_at (after i k) ≡ some m) where
     literal_asked : 11 ≤ r → r ≤ 12 → is_some (change (family_at r) c i j k) ≡ is_some (literal_at (after j m))
@@ -110,7 +113,8 @@ module _ {r : ℕ} {l : List ℕ} (s : Stretch l) (h : Headed r l) (i j : ℕ) w
   pub applies_nothing : 11 ≤ r → r ≤ 13 → is_some (conjunction_at (after i h.children)) ≡ false →
       false ≡ is_some (rewrite r i j (forest_in l))
   applies_nothing a b e =
-      sym (fails_if (is_some (rewrite r i j (forest_in l))) (λ t. true_false (sym (conjunction_asked r h.conn i j h.children a b (sym (family_applies h i j) ∙ t)) ∙ e)))
+      sym (fails_if (is_some (rewrite r i j (forest_in l)))
+      (λ t. true_false (sym (conjunction_asked r h.conn i j h.children a b (sym (family_applies h i j) ∙ t)) ∙ e)))
 
   -- Child i is a conjunction.
   module _ {m : Forest} (e : conjunction_at (after i h.children) ≡ some m) where
@@ -133,7 +137,8 @@ module _ {r : ℕ} {l : List ℕ} (s : Stretch l) (h : Headed r l) (i j : ℕ) w
 literal_moved : {l : List ℕ} {c : Conn} {k f : Forest} {z : ℕ} (g : Group l c k f z) → grouping c ≡ true → (i j : ℕ) {m q u : Forest} {x : Literal} →
     after i k ≡ node and m q → after j m ≡ lit x u → let a = child_at i l in let b = a + child_at j (drop a l) in
     let new = set (set l 0 (get_or l 0 0 + 1)) a (get_or l a 0 - 1) in
-    take a new ++ (get_or new b 0 ∷ take (b - a) (drop a new) ++ drop (b + 1) new) ≡ spell (node c (first i k ⊕ lit x (node and (first j m ⊕ u) q)) f) z
+    take a new ++ (get_or new b 0 ∷ take (b - a) (drop a new) ++ drop (b + 1) new) ≡ spell
+    (node c (first i k ⊕ lit x (node and (first j m ⊕ u) q)) f) z
 unfolding spell encode size number ◌⊕◌ grouping conn_kind
 literal_moved {l} {c} {k} {f} {z} g grouped i j {m} {q} {u} {x} e w =
     let a = child_at i l in
@@ -151,12 +156,24 @@ literal_moved {l} {c} {k} {f} {z} g grouped i j {m} {q} {u} {x} e w =
     sym (child_stands g i h) ∙ child_split d j n ∙ ap (λ t. opening and m j ++ spell (t ⊕ (q ⊕ f)) z) w in
     let split : l ≡ opening c k i ++ (opening and m j ++ number_of (leaf x) ∷ r) = child_split g i h ∙ ap (λ t. opening c k i ++ t) inside in
     let put : set (set l 0 v) a y ≡ (v ∷ code p) ++ ((y ∷ code o) ++ number_of (leaf x) ∷ r) =
-    ap (λ t. set (set t 0 v) a y) split ∙ set_at (v ∷ code p) (number_of (head and (size m))) (code o ++ number_of (leaf x) ∷ r) y a (child_place g i h) in
-    let new : v ≡ number_of (head c (size (p ⊕ lit x (node and (o ⊕ u) q)))) = omega (arith, group_head g grouped, head_number c (size (p ⊕ lit x (node and (o ⊕ u) q))) grouped, size_after i k, ap size e, size-⊕ p (lit x (node and (o ⊕ u) q)), size_first i k h) in
-    let less : y ≡ number_of (head and (size (o ⊕ u))) = omega (arith, first_left a l, head_number and (size (o ⊕ u)) refl, group_head d refl, size_after j m, ap size w, size-⊕ o u, size_first j m n) in
+    ap (λ t. set (set t 0 v) a y) split
+    ∙ set_at (v ∷ code p) (number_of (head and (size m))) (code o ++ number_of (leaf x) ∷ r) y a (child_place g i h) in
+    let new : v ≡ number_of (head c (size (p ⊕ lit x (node and (o ⊕ u) q)))) =
+    omega (
+      arith,
+      group_head g grouped,
+      head_number c (size (p ⊕ lit x (node and (o ⊕ u) q))) grouped,
+      size_after i k,
+      ap size e,
+      size-⊕ p (lit x (node and (o ⊕ u) q)),
+      size_first i k h,
+    ) in
+    let less : y ≡ number_of (head and (size (o ⊕ u))) =
+    omega (arith, first_left a l, head_number and (size (o ⊕ u)) refl, group_head d refl, size_after j m, ap size w, size-⊕ o u, size_first j m n) in
     moved_at (v ∷ code p) (y ∷ code o) r (set (set l 0 v) a y) (number_of (leaf x)) a b put (child_place g i h) (omega (arith, child_place d j n))
     ∙ ap₂ (λ s t. s ∷ (code p ++ number_of (leaf x) ∷ (t ∷ (code o ++ r)))) new less
-    ∙ sym (spell_parts c p (lit x (node and (o ⊕ u) q)) f z ∙ ap (λ t. number_of (head c (size (p ⊕ lit x (node and (o ⊕ u) q)))) ∷ (code p ++ number_of (leaf x) ∷ t)) (spell_parts and o u (q ⊕ f) z))
+    ∙ sym (spell_parts c p (lit x (node and (o ⊕ u) q)) f z
+    ∙ ap (λ t. number_of (head c (size (p ⊕ lit x (node and (o ⊕ u) q)))) ∷ (code p ++ number_of (leaf x) ∷ t)) (spell_parts and o u (q ⊕ f) z))
 
 -- The step, on the numbers.
 module _ {r : ℕ} {l : List ℕ} (s : Stretch l) (h : Headed r l) (i j : ℕ) (t : is_some (rewrite r i j (forest_in l)) ≡ true) where
@@ -185,7 +202,8 @@ module _ {r : ℕ} {l : List ℕ} (s : Stretch l) (h : Headed r l) (i j : ℕ) (
       let here = conjunction_here i k o.1 in
       let more : get_or l 0 0 + children (get_or l (child_at i l) 0) - 1 + 1 ≡ get_or l 0 0 + size m =
       rw (← first_left (child_at i l) l) (omega (arith, group_children (child_group g i here), group_bounds g)) in
-      rw (at_place, at_head, more_children) at e ∙ child_opened g i here _ (headed_groups h (omega arith)) more ∙ ap (λ f. spell (f ⊕ h.rest) (h.zeros + 1)) (only_some _ (node c (first i k ⊕ m ⊕ after (suc i) k) nil) o.2).1)
+      rw (at_place, at_head, more_children) at e ∙ child_opened g i here _ (headed_groups h (omega arith)) more
+      ∙ ap (λ f. spell (f ⊕ h.rest) (h.zeros + 1)) (only_some _ (node c (first i k ⊕ m ⊕ after (suc i) k) nil) o.2).1)
       n
 
   -- The literal moves.
@@ -199,5 +217,7 @@ module _ {r : ℕ} {l : List ℕ} (s : Stretch l) (h : Headed r l) (i j : ℕ) (
       family_turn h i j h.zeros t
       (λ new w. let o = then_some (conjunction_at (after i k)) _ (rw (family_11 r a b) at w) in
       let v = then_some (literal_at (after j o.0)) _ o.2 in
-      rw (head_there, at_place, inner_place) at e ∙ literal_moved (headed_group s h) (headed_groups h (omega arith)) i j (conjunction_here i k o.1) (literal_here j o.0 v.1) ∙ ap (λ f. spell (f ⊕ h.rest) h.zeros) (some_inj v.2))
+      rw (head_there, at_place, inner_place) at e
+      ∙ literal_moved (headed_group s h) (headed_groups h (omega arith)) i j (conjunction_here i k o.1) (literal_here j o.0 v.1)
+      ∙ ap (λ f. spell (f ⊕ h.rest) h.zeros) (some_inj v.2))
       n

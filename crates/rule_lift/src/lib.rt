@@ -1,5 +1,6 @@
 // Rules 11 to 13: a conjunction among the children of a conjunction or of the root gives up a literal, or all its children.
 #![tactic(auto)]
+
 ghost use Rattle.std.specs.Prelude.{◌≡◌, true, ◌+◌, ◌-◌, ◌≤◌, ◌<◌, length, get_or};
 ghost use Rattle.std.proofs.Math.Seq.{slice};
 ghost use Rattle.model.specs.Base.{all, is_some};
