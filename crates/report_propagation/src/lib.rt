@@ -1,6 +1,7 @@
 // Propagation: what the parts of a sheet force becomes known, and each part that may force more is looked at again. A trail lists
 // the literals that failed, in order; for each part it is noted how long the trail was when the part was last looked at.
 #![tactic(auto)]
+
 ghost use Rattle.std.specs.Prelude.{◌≡◌, ℕ, ◌+◌, ◌<◌, length, get_or, set, replicate};
 ghost use Rattle.model.specs.Base.{pick};
 ghost use Rattle.model.specs.Limits.{sheet_length, most_literals};

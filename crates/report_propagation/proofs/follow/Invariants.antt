@@ -1,0 +1,15 @@
+-- `report_propagation::follow` meets its contract. Invariant: the literals of the trail were followed so far. Each turn of the loop goes
+-- down a chain or begins the next literal's, and the trail never has more literals than there are.
+use Prim.Native.Nat.{◌+◌, ◌*◌, ◌-◌, ◌≤◌}
+use Rattle.model.specs.Limits.{most_literals}
+use Rattle.theory_forms.specs.Sheets.{Formed}
+use Rattle.report_parts.specs.Parts.{Parted, Linked}
+use Rattle.report_propagation.proofs.Following.{Following}
+use Rattle.report_propagation.proofs.follow.Given as goal
+
+abbrev pub invariant-loop-part : goal.invariant-loop-part
+invariant-loop-part l =
+    Formed l.sheet × Parted l.sheet l.ends l.homes × Linked l.sheet l.links × (l.small ≤ l.known) × Following l.sheet l.ends l.seen l.failed l.trail l.known l.large l.turn
+
+abbrev pub decreases-loop-part : goal.decreases-loop-part
+decreases-loop-part l = 8192 * (2 * most_literals - (l.small + l.large)) + l.turn.place

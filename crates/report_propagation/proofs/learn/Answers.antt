@@ -1,0 +1,46 @@
+-- `report_propagation::learn` meets its contract: the complement fails from now on where it did not.
+use mathlib.Core.List.{List}
+use mathlib.Core.Path.{◌≡◌, refl}
+use Prim.Native.Nat.{ℕ, ◌+◌, ◌<◌}
+use native.Mathlib.Omega.{arith}
+use borrow.Author.Tests.{eq-eqb, ne_eqb}
+use lib.ListN.{length, get_or}
+use Rattle.model.specs.Limits.{most_literals}
+use Rattle.model.specs.Base.{pick}
+use Rattle.report_propagation.specs.Trails.{unset, fresh}
+use Rattle.report_breaking.proofs.Tried.{opposite_below}
+use Rattle.report_propagation.proofs.Learning.{unset_fewer}
+use Rattle.report_propagation.proofs.learn.Goals as goal
+use Rattle.report_propagation.proofs.learn.Goals.{After-opposite_of-other}
+
+inside : (c : goal.After-opposite_of-other) → c.opposite_of-other.result < most_literals
+inside c = rw c.opposite_of-other.ensures (opposite_below c.args.k c.requires.k_lt_most_literals)
+
+-- The trail has room.
+room : (t : List ℕ) {known o : ℕ} → (length t ≡ most_literals) × (known + unset t ≡ most_literals) → o < most_literals → (get_or t o 0 ≡ 1 → ⊥) →
+    known < most_literals
+room t {o = o} p small d = omega (arith, p, unset_fewer t o (omega (arith, p.0)) (ne_eqb (get_or t o 0) 1 d))
+
+pub bounds-failed-other : goal.bounds-failed-other
+bounds-failed-other c = inside (goal.at.bounds-failed-other c).After-opposite_of-other
+
+pub returns-then-failed-other-eq1 : goal.returns-then-failed-other-eq1
+unfolding fresh pick
+returns-then-failed-other-eq1 c =
+    let o = c.opposite_of-other in
+    rw (← o.ensures, eq-eqb (get_or c.args.failed.now o.result 0) 1 c.if-failed-other-eq1.true) (record { value = refl; failed_after = refl; trail_after = refl })
+
+pub bounds-failed-other-2 : goal.bounds-failed-other-2
+bounds-failed-other-2 c = inside (goal.at.bounds-failed-other-2 c).After-opposite_of-other
+
+pub overflow_cast-trail : goal.overflow_cast-trail
+overflow_cast-trail c = omega (arith, inside (goal.at.overflow_cast-trail c).After-opposite_of-other)
+
+pub bounds-trail-known : goal.bounds-trail-known
+bounds-trail-known c = room _ c.requires.failed_len (inside (goal.at.bounds-trail-known c).After-opposite_of-other) c.if-failed-other-eq1.false
+
+pub returns : goal.returns
+unfolding fresh pick
+returns c =
+    let o = c.opposite_of-other in
+    rw (← o.ensures, ne_eqb (get_or c.args.failed.now o.result 0) 1 c.if-failed-other-eq1.false) (record { value = refl; failed_after = refl; trail_after = refl })
