@@ -62,7 +62,8 @@ drop_words_from k n i b =
 pub in_line_at :
     (total sum m i : ℕ) (b : List ℕ) →
     i < m →
-    in_line total sum (entries_from m i b) ≡ (eqb (word b (4 * i)) sum && leb 1 (word b (4 * i + 2)) && in_line total (sum + word b (4 * i + 2)) (entries_from m (i + 1) b))
+    in_line total sum (entries_from m i b) ≡
+    (eqb (word b (4 * i)) sum && leb 1 (word b (4 * i + 2)) && in_line total (sum + word b (4 * i + 2)) (entries_from m (i + 1) b))
 unfolding in_line
 in_line_at total sum m i b h = rw (entries_at m i b h)
 

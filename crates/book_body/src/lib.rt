@@ -1,5 +1,6 @@
 // The contents and the bodies of a book.
 #![tactic(auto)]
+
 ghost use Rattle.std.specs.Prelude.{◌≡◌, true, ◌*◌, ◌≤◌, length};
 ghost use Rattle.model.specs.Base.{all};
 ghost use Rattle.model.specs.Limits.{most_options, most_rules, most_nodes};
