@@ -1,5 +1,6 @@
 // Whether the lines of an order are in order.
 #![tactic(auto)]
+
 ghost use Rattle.std.specs.Prelude.{◌≡◌, ◌&&◌, leb, ltb, take};
 ghost use Rattle.model.specs.Base.{all};
 ghost use Rattle.model.specs.Literal.{option};
