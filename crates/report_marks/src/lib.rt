@@ -1,5 +1,6 @@
 // The core of the report and of the "complete" question: what is derived from a sheet, and what is written and said of it.
 #![tactic(auto)]
+
 ghost use Rattle.std.specs.Prelude.{◌≡◌, true, not, ◌&&◌, ◌||◌, ◌≤◌, ◌<◌, length, replicate};
 ghost use Rattle.model.specs.Base.{all};
 ghost use Rattle.model.specs.Limits.{most_options, most_literals};
