@@ -1,5 +1,6 @@
 // The codes of an imported book: the letter V and the number of each option.
 #![tactic(auto)]
+
 ghost use Rattle.std.specs.Prelude.{◌≡◌, ◌*◌, ◌≤◌, length, drop};
 ghost use mathlib.Core.List.{◌++◌, flatten};
 ghost use Rattle.model.specs.Limits.{code_length, most_options};
