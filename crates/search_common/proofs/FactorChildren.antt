@@ -111,7 +111,9 @@ module _ {l : List ℕ} (s : Stretch l) (h : Headed 14 l) (i : ℕ) (there : (i 
       here =
           let u = unit_literal j (drop at l) some_unit in
           let its : unit_of j (drop at l) ≡ get_or l (at + child_at j (drop at l)) 0 = u.2 ∙ get_or-drop at l (child_at j (drop at l)) 0 in
-          let two = leb-true 2 (sharing (unit_of j (drop at l)) (children (get_or l 0 0)) (drop 1 l)) (applies_shared s h i j there.0 conj (sym there.1) some_unit ∙ t) in
+          let two =
+          leb-true 2 (sharing (unit_of j (drop at l)) (children (get_or l 0 0)) (drop 1 l))
+          (applies_shared s h i j there.0 conj (sym there.1) some_unit ∙ t) in
           record {
             conjunction = conj;
             within = rw (first_left at l) at u.0;
@@ -148,7 +150,8 @@ module _ {l : List ℕ} (s : Stretch l) (h : Headed 14 l) (i : ℕ) (there : (i 
 
   -- The children of a conjunction stand within the stretch.
   pub inner_room : kind (get_or l (1 + i) 0) ≡ 3 → (j : ℕ) → j < children (get_or l (1 + i) 0) → 1 + i + child_at j (drop (1 + i) l) < length l
-  inner_room = subst (λ at. kind (get_or l at 0) ≡ 3 → (j : ℕ) → j < children (get_or l at 0) → at + child_at j (drop at l) < length l) (sym there.1) here
+  inner_room = subst (λ at. kind (get_or l at 0) ≡ 3 → (j : ℕ) → j < children (get_or l at 0) → at + child_at j (drop at l) < length l)
+      (sym there.1) here
     where
       here : let at = child_at i l in kind (get_or l at 0) ≡ 3 → (j : ℕ) → j < children (get_or l at 0) → at + child_at j (drop at l) < length l
       here conj j within =

@@ -49,7 +49,8 @@ noted_literal {x} {groups} held h long e =
       higher = λ y. ⊎_elim
           (λ t. let q : x - kind_factor ≡ y - kind_factor = eqb-true (x - kind_factor) (y - kind_factor) t in
           subst (λ k. get_or held k 0 ≤ get_or (set held (x - kind_factor) (groups + 1)) k 0) q (omega (arith, same, e)))
-          (λ t. omega (arith, get_or-set_other held (x - kind_factor) (y - kind_factor) (groups + 1) 0 (λ d. eqb-false (x - kind_factor) (y - kind_factor) t (sym d))))
+          (λ t. let other : y - kind_factor ≡ x - kind_factor → ⊥ = λ d. eqb-false (x - kind_factor) (y - kind_factor) t (sym d) in
+          omega (arith, get_or-set_other held (x - kind_factor) (y - kind_factor) (groups + 1) 0 other))
           (either (eqb (x - kind_factor) (y - kind_factor)));
       risen = λ t n. omega (arith, same);
     }
@@ -95,7 +96,8 @@ module _ (x n i : ℕ) (l : List ℕ) where
 -- risen above those, or is among the children left.
 abbrev pub Holding : ℕ → ℕ → ℕ → List ℕ → List ℕ → List ℕ → ℕ → ℕ → Type 0
 Holding groups m start l old new left from =
-    (x : ℕ) → is_literal x ≡ true → among x m (drop start l) ≡ true → groups ≤ entry x old → (groups < entry x new) ⊎ ((groups ≤ entry x new) × (among x left (drop from l) ≡ true))
+    (x : ℕ) → is_literal x ≡ true → among x m (drop start l) ≡ true → groups ≤ entry x old →
+    (groups < entry x new) ⊎ ((groups ≤ entry x new) × (among x left (drop from l) ≡ true))
 
 pub holding_more :
     (groups m start : ℕ) (l old new : List ℕ) {last : List ℕ} (left from : ℕ) →

@@ -42,7 +42,9 @@ passing_more {groups} {with} {l} {held} {last} {left} {from} p some inside e car
     record {
       counted = omega (arith, p.counted, groups_step left from l some inside);
       reached = λ x lit all. let h = p.reached x lit all in
-          let s = and_split (shares_here x (drop from l)) (all_share x (left - 1) (drop (from + span 1 (drop from l)) l)) (sym (share_step x left from l some inside) ∙ h.0) in
+          let s =
+          and_split (shares_here x (drop from l)) (all_share x (left - 1) (drop (from + span 1 (drop from l)) l))
+          (sym (share_step x left from l some inside) ∙ h.0) in
           (s.1, carried x lit s.0 h.1);
     }
 
@@ -72,7 +74,8 @@ unfolding is_literal
 passing_other {groups} {l} {held} {left} {from} last p some inside other x lit two =
     let k = children (get_or l 0 0) in
     let inner : is_literal (get_or (drop from l) 0 0) ≡ false =
-    ap is_literal (first_left from l) ∙ rw (ne_eqb (kind (get_or l from 0)) 1 (λ e. omega arith), ne_eqb (kind (get_or l from 0)) 2 (λ e. omega arith)) in
+    ap is_literal (first_left from l) ∙
+    rw (ne_eqb (kind (get_or l from 0)) 1 (λ e. omega arith), ne_eqb (kind (get_or l from 0)) 2 (λ e. omega arith)) in
     let no : shares_here x (drop from l) ≡ false = shares_not x (drop from l) inner (λ e. omega (arith, ap kind (first_left from l))) in
     ⊎_elim
     (λ all. true_false (sym (p.reached x lit all).0 ∙ share_fails x left from l some inside no))

@@ -1,5 +1,6 @@
 // Rule 14: the first literal of the first conjunction that all conjunctions share.
 #![tactic(auto)]
+
 ghost use Rattle.std.specs.Prelude.{◌≡◌, ◌+◌, ◌≤◌, ◌<◌, length, get_or, drop};
 ghost use Rattle.model.specs.Limits.{sheet_room};
 ghost use Rattle.model.specs.Code.{children};
