@@ -47,7 +47,8 @@ module _ (p : ℕ → Bool) where
   around_told : (xs : List ℕ) {x : ℕ} (ys : List ℕ) → p x ≡ true → eqb (tally p (xs ++ x ∷ ys)) 2 ≡ (any p xs || any p ys)
   unfolding tally any pick
   around_told [] ys e = rw e (up_told ys)
-  around_told (z ∷ xs) {x} ys e = go (p z) (tally p (xs ++ x ∷ ys)) (up_told (xs ++ x ∷ ys) ∙ any_append p xs (x ∷ ys) ∙ or_right (any p xs) (rw e)) (around_told xs ys e)
+  around_told (z ∷ xs) {x} ys e = go (p z) (tally p (xs ++ x ∷ ys))
+      (up_told (xs ++ x ∷ ys) ∙ any_append p xs (x ∷ ys) ∙ or_right (any p xs) (rw e)) (around_told xs ys e)
     where
       go :
           (b : Bool) (n : ℕ) →
@@ -95,7 +96,8 @@ twice_spreads {a} {b} {l} {t} w one h k = go (is_literal x) refl
         (c : Bool) →
         is_literal x ≡ c →
         (c && eqb (get_or t (value x) 0) 2) ≡ (c && (any (names (value x)) (slice 1 a l) || any (names (value x)) (slice (a + 1) b l)))
-    go true e = rw (w.counted (value x) (value_small x), cut_at a b l one h k) (around_told (names (value x)) (slice 1 a l) (slice (a + 1) b l) (rw (e, eq-eqb (value x) (value x) refl)))
+    go true e = rw (w.counted (value x) (value_small x), cut_at a b l one h k)
+        (around_told (names (value x)) (slice 1 a l) (slice (a + 1) b l) (rw (e, eq-eqb (value x) (value x) refl)))
     go false e = refl
 
 -- At first nothing is counted.
@@ -108,12 +110,14 @@ tallied_none to l {t} e =
     }
 
 -- One number more, before those that are counted.
-module _ {q to x : ℕ} {l t : List ℕ} (some_left : 1 < q) (within : q ≤ to) (long : to ≤ length l) (w : Tallied q to l t) (read : x ≡ get_or l (q - 1) 0) where
+module _ {q to x : ℕ} {l t : List ℕ} (some_left : 1 < q) (within : q ≤ to) (long : to ≤ length l) (w : Tallied q to l t)
+    (read : x ≡ get_or l (q - 1) 0) where
   one_before : (v : ℕ) → v < kind_factor → pick (names v x) (up (get_or t v 0)) (get_or t v 0) ≡ tally (names v) (slice (q - 1) to l)
   unfolding tally
   one_before v h =
       let next : suc (q - 1) ≡ q = omega arith in
-      let parts : slice (q - 1) to l ≡ x ∷ slice q to l = slice-cons (q - 1) to l 0 (omega arith) long ∙ ap₂ (λ y n. y ∷ slice n to l) (sym read) next in
+      let parts : slice (q - 1) to l ≡ x ∷ slice q to l =
+      slice-cons (q - 1) to l 0 (omega arith) long ∙ ap₂ (λ y n. y ∷ slice n to l) (sym read) next in
       rw (w.counted v h, parts)
 
   -- A number that is no literal changes nothing.
@@ -132,7 +136,8 @@ module _ {q to x : ℕ} {l t : List ℕ} (some_left : 1 < q) (within : q ≤ to)
 
     pub tallied_full : 2 ≤ get_or t o 0 → Tallied (q - 1) to l t
     tallied_full full =
-        let few : get_or t o 0 ≤ 2 = subst (λ n. n ≤ 2) (sym (w.counted o (omega (arith, option_small, w.long)))) (tally_few (names o) (slice q to l)) in
+        let few : get_or t o 0 ≤ 2 =
+        subst (λ n. n ≤ 2) (sym (w.counted o (omega (arith, option_small, w.long)))) (tally_few (names o) (slice q to l)) in
         let own_option : (v : ℕ) → v ≡ o → get_or t v 0 ≡ pick (names v x) (up (get_or t v 0)) (get_or t v 0) =
         λ v e. rw e (sym (pick_keeps (λ n. n ≡ get_or t o 0) (names o x) (up_full (get_or t o 0) full few) refl)) in
         record {
@@ -146,7 +151,8 @@ module _ {q to x : ℕ} {l t : List ℕ} (some_left : 1 < q) (within : q ≤ to)
         let n = get_or t o 0 in
         let told : names o x ≡ true = and_join e (eq-eqb o (value x) own) in
         let once : get_or (set t o (n + 1)) o 0 ≡ tally (names o) (slice (q - 1) to l) =
-        get_or-set_same t o (n + 1) 0 option_small ∙ up_few n few ∙ sym (pick_true _ (up n) n told) ∙ one_before o (omega (arith, option_small, w.long)) in
+        get_or-set_same t o (n + 1) 0 option_small ∙ up_few n few ∙ sym (pick_true _ (up n) n told) ∙
+        one_before o (omega (arith, option_small, w.long)) in
         record {
           long = length-set t o (n + 1) ∙ w.long;
           counted = λ v h. ⊎_elim

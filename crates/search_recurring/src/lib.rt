@@ -1,5 +1,6 @@
 // The first child that is a literal whose option occurs again in the tree, for rules 9 and 10.
 #![tactic(auto)]
+
 ghost use Rattle.std.specs.Prelude.{false, ◌≡◌, ◌≤◌, ◌<◌, length, get_or, replicate};
 ghost use Rattle.model.specs.Code.{children};
 ghost use Rattle.model.specs.Limits.{kind_factor, sheet_room};
