@@ -1,5 +1,6 @@
 // Rule 14, what it makes: a conjunction of the literal that is shared and of the disjunction of what is left.
 #![tactic(auto)]
+
 ghost use Rattle.std.specs.Prelude.{◌≡◌, true, ◌+◌, ◌≤◌, ◌<◌, length, get_or, drop};
 ghost use Rattle.model.specs.Base.{is_some};
 ghost use Rattle.model.specs.Limits.{kind_factor, sheet_room};
