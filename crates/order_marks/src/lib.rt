@@ -1,5 +1,6 @@
 // The marks of the lines that stand, put on a sheet that has room for them.
 #![tactic(auto)]
+
 ghost use Rattle.std.specs.Prelude.{◌≡◌, true, ◌+◌, ◌-◌, ◌*◌, ◌≤◌, ◌<◌, ltb, take, drop};
 ghost use Rattle.model.specs.Base.{all};
 ghost use Rattle.model.specs.Literal.{option};
