@@ -140,6 +140,10 @@ due_of_check b d e = go d (book_refusal b) e
     go (Refused x) (some r) e = cc
 
 -- An accepted check, and the room that the codes have.
+pub only_accepted : (d : Done) → ((r : Why) → d ≡ Refused r → ⊥) → d ≡ Accepted
+only_accepted Accepted h = refl
+only_accepted (Refused r) h = absurd (h r refl)
+
 pub good_book : (b : List ℕ) (d : Done) → done_of d ≡ check_of b → d ≡ Accepted → book_refusal b ≡ none
 good_book b d e q = sym (due_of_check b d e) ∙ ap due_of q
 

@@ -1,5 +1,6 @@
 // The book check and the code lookup.
 #![tactic(auto)]
+
 ghost use Rattle.std.specs.Prelude.{◌≡◌, ◌≤◌, length};
 ghost use Rattle.model.specs.Limits.{head_length};
 ghost use Rattle.model.specs.Book.{head_in_limits};

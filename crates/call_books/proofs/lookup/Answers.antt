@@ -1,0 +1,49 @@
+-- `call_books::lookup` meets its contract: the book's refusal first, and then what was found among the codes.
+use mathlib.Core.Option.{none}
+use mathlib.Core.Path.{◌≡◌, refl, ap, ◌∙◌, sym}
+use Prim.Native.Nat.{ℕ}
+use native.Mathlib.Omega.{arith}
+use borrow.Author.Rules.{part_to_end}
+use lib.ListN.{length-drop}
+use Rattle.book_codes.specs.declared.Place.{Place}
+use Rattle.book_codes.specs.declared.Place.TheVariants.{Index, Nowhere}
+use Rattle.book_codes.specs.CodePlaces.{place_of}
+use Rattle.calls.specs.Chains.{book_refusal}
+use Rattle.call_books.proofs.BookTests.{good_book, only_accepted, codes_room, lookup_refused, lookup_found, lookup_missing, found_code}
+use Rattle.call_books.proofs.lookup.Goals as goal
+use Rattle.call_books.proofs.lookup.Goals.{In_default}
+
+-- What is found at no place.
+nowhere : (x : Place) → ((v : ℕ) → x ≡ Index v → ⊥) → place_of x ≡ none
+nowhere (Index v) h = absurd (h v refl)
+nowhere Nowhere h = refl
+
+good : (c : goal.In_default) → book_refusal c.args.book.now ≡ none
+good c = good_book _ _ c.check-checked.ensures (only_accepted _ c.in_default.not-Refused)
+
+pub returns-in-Refused : goal.returns-in-Refused
+returns-in-Refused c = lookup_refused _ _ _ _ c.check-checked.ensures c.in-Refused.is
+
+pub word_at-n-requires : goal.word_at-n-requires
+word_at-n-requires c = omega (arith, codes_room _ _ (good (goal.at.word_at-n-requires c).In_default) refl)
+
+pub slice_bounds-find-count : goal.slice_bounds-find-count
+slice_bounds-find-count c = omega (arith, codes_room _ _ (good (goal.at.slice_bounds-find-count c).In_default) refl)
+
+pub slice_bounds-find-start : goal.slice_bounds-find-start
+slice_bounds-find-start c = omega (arith, codes_room _ _ (good (goal.at.slice_bounds-find-start c).In_default) refl)
+
+pub find-place-requires : goal.find-place-requires
+find-place-requires c =
+    let b = c.args.book.now in
+    rw (part_to_end b 8, length-drop 8 b) (omega (arith, codes_room b _ (good (goal.at.find-place-requires c).In_default) c.word_at-n.ensures))
+
+pub returns-in-Index : goal.returns-in-Index
+returns-in-Index c =
+    lookup_found _ _ (good (goal.at.returns-in-Index c).In_default) _
+    (found_code _ _ _ c.word_at-n.ensures (ap place_of (sym c.in-Index.is) ∙ c.find-place.ensures))
+
+pub returns : goal.returns
+returns c =
+    lookup_missing _ _ (good (goal.at.returns c).In_default)
+    (found_code _ _ _ c.word_at-n.ensures (sym (nowhere _ c.in_default-place.not-Index) ∙ c.find-place.ensures))
