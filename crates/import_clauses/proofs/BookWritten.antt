@@ -44,5 +44,6 @@ module _
         ≡ placed (book_of_file f) old
     book_written nodes l ys sized first long e =
         let head : List ℕ = n ∷ rules ∷ nodes ∷ 0 ∷ [] in
-        let both = lent_start (bytes_of head) old (length_bytes head) first (flatten (codes_to n)) (code_length * n) (omega (arith, codes_room, long)) e in
+        let both = lent_start (bytes_of head) old (length_bytes head) first (flatten (codes_to n)) (code_length * n)
+        (omega (arith, codes_room, long)) e in
         rw good.counted (book_drafted f old (omega (arith, good.few_options)) room (both ∙ rw (sized, good.counted)))

@@ -52,7 +52,8 @@ all_made text body n rules old = drafted (contents_from n) (bodies_from n rules)
 
 abbrev pub State : List ℕ → ℕ → ℕ → ℕ → List ℕ → ℕ → ℕ → ℕ → ℕ → List ℕ → Type 0
 State text body n rules old k first next at l =
-    Written n (contents_from n) (bodies_from n rules) rules (nodes_due text body n) (all_made text body n rules old) text (length old) k first next at l
+    Written n (contents_from n) (bodies_from n rules) rules (nodes_due text body n) (all_made text body n rules old) text (length old) k first
+    next at l
 
 module _
     {text : List ℕ} {body n rules : ℕ} (old : List ℕ)
