@@ -1,5 +1,6 @@
 // The core of a step: whether one rule applies at one place of a sheet, for child i and inner child j, and the sheet after it.
 #![tactic(auto)]
+
 ghost use Rattle.std.specs.Prelude.{◌≡◌, true, ◌+◌, ◌≤◌, ◌<◌, length, get_or};
 ghost use Rattle.model.specs.Base.{is_some};
 ghost use Rattle.model.specs.Code.{children};
