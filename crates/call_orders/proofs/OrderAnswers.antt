@@ -2,7 +2,7 @@
 use mathlib.Core.Bool.{true, false}
 use mathlib.Core.List.{List}
 use mathlib.Core.Option.{none, some}
-use mathlib.Core.Path.{◌≡◌, refl}
+use mathlib.Core.Path.{◌≡◌, refl, sym}
 use Prim.Native.Nat.{ℕ}
 use borrow.Author.Tests.{eq-eqb, ne_eqb}
 use lib.ListN.{get_or}
@@ -13,6 +13,9 @@ use Rattle.calls.specs.Refusals.{Refusal, sheet_refused}
 use Rattle.calls.specs.Lines.{State}
 use Rattle.calls.specs.Conditions.{has_lines_in_order}
 use Rattle.calls.specs.Chains.{book_refusal, order_refusal}
+use Rattle.call_answers.specs.declared.Done.{Done}
+use Rattle.call_answers.specs.declared.Done.TheVariants.{Accepted, Refused}
+use Rattle.call_answers.specs.AnswerMeaning.{due_of}
 
 module _ (t : State) (b : List ℕ) where
   pub no_sheet : is_sheet t.sheet ≡ false → some sheet_refused ≡ order_refusal t b
@@ -20,9 +23,13 @@ module _ (t : State) (b : List ℕ) where
   no_sheet h = rw h
 
   module _ (sheet : is_sheet t.sheet ≡ true) where
-    pub no_book : {r : Refusal} → book_refusal b ≡ some r → some r ≡ order_refusal t b
+    no_book : {r : Refusal} → book_refusal b ≡ some r → some r ≡ order_refusal t b
     unfolding order_refusal first_of only_if
     no_book e = rw (sheet, e)
+
+    pub not_accepted : (d : Done) → (d ≡ Accepted → ⊥) → due_of d ≡ book_refusal b → due_of d ≡ order_refusal t b
+    not_accepted Accepted h e = absurd (h refl)
+    not_accepted (Refused r) h e = no_book (sym e)
 
     module _ (book : book_refusal b ≡ none) where
       pub other_options : (options_of b ≡ options_in t.sheet → ⊥) → some sheet_refused ≡ order_refusal t b

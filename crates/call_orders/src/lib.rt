@@ -1,5 +1,6 @@
 // A sheet with the book and the lines that are lent beside it: why they are refused, in every call that takes the three.
 #![tactic(auto)]
+
 ghost use Rattle.std.specs.Prelude.{◌≡◌};
 ghost use Rattle.calls.specs.Chains.{order_refusal};
 ghost use Rattle.call_answers.specs.AnswerMeaning.{due_of};
