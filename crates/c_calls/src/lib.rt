@@ -1,6 +1,7 @@
 // The two calls that the order desk, a C program, makes on plain bytes. Each answers one number: its low 8 bits are the refusal (0:
 // accepted), the rest is the value (the option that a lookup found, else 0).
 #![tactic(auto)]
+
 ghost use Rattle.std.specs.Prelude.{◌≡◌};
 ghost use Rattle.calls.specs.Refusals.{refusal_number};
 ghost use Rattle.calls.specs.Calls.{check_of, lookup_of};
