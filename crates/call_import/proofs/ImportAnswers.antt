@@ -81,8 +81,11 @@ module _ {text : List ℕ} {options : ℕ} {j : Judged} (s : Small text options 
   book_length = omega (arith, file_length f small_usable, s.number, s.given.clauses, nodes_there)
 
   pub few_there : (options ≤ 512) × (j.clauses ≤ 4095) × (j.clauses + j.marks ≤ 4095)
-  few_there =
-      (omega (arith, s.number, small_usable.options), omega (arith, s.given.clauses, small_usable.rules), omega (arith, nodes_there, small_usable.nodes))
+  few_there = (
+    omega (arith, s.number, small_usable.options),
+    omega (arith, s.given.clauses, small_usable.rules),
+    omega (arith, nodes_there, small_usable.nodes),
+  )
 
 -- A number of options that is within the limits has a small number of digits.
 pub few_options : (v c m : ℕ) → over_limits v c m ≡ false → v ≤ 512

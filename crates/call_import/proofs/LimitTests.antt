@@ -1,7 +1,7 @@
 -- The limits of 16 tested one after another; and that those tests are the file's.
-use mathlib.Core.Bool.{true, false, ◌||◌}
+use mathlib.Core.Bool.{true}
 use mathlib.Core.List.{◌∷◌, flatten}
-use mathlib.Core.Path.{◌≡◌, refl, sym, ap, ◌∙◌}
+use mathlib.Core.Path.{◌≡◌}
 use Prim.Native.Nat.{ℕ, ◌+◌, ◌≤◌, ◌<◌}
 use native.Mathlib.Omega.{arith}
 use borrow.Author.Tests.{lt-ltb, le-ltb}

@@ -1,5 +1,6 @@
 // The import of a clause file: 15, then 16, then 12; else the book that it gives.
 #![tactic(auto)]
+
 ghost use Rattle.std.specs.Prelude.{◌≡◌, true, ◌+◌, ◌<◌};
 ghost use Rattle.texts.specs.Decimals.{is_decimal, number_in};
 ghost use Rattle.calls.specs.Calls.{import_of};
