@@ -131,7 +131,8 @@ def main():
     made = {"Invariants.antt", "Answers.antt"}
     for path in [p for p in files(top, ".antt") + files(top, ".rt") if p.name not in made]:
         text = path.read_text(encoding="utf-8")
-        here = {old: new for old, new in names.items() if old not in imported(text, own)}
+        theirs = imported(text, own)
+        here = {old: new for old, new in names.items() if old not in theirs}
         for words in fallen_together(text, here) if path.suffix == ".antt" else []:
             print(f"{path.relative_to(top)}: {' and '.join(words)} would be one name")
             bad += 1

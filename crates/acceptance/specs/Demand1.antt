@@ -1,7 +1,7 @@
 -- Demand 1: "The answer to each call, on any input at all, is a result or one refusal numbered 1 to 12, due on its condition in document
 -- 01 and on no other. It comes after finitely many steps. After a refusal each lent buffer holds what it held before." (To 16 since
 -- document 02, U2 and U7. That each call answers by these definitions, on any input and after finitely many steps, is its contract.)
-use Rattle.std.specs.Prelude.{Bool, true, false, not, List, [], ◌∷◌, ◌++◌, ◌↔◌, ◌≡◌, refl, ℕ, ◌≤◌, length}
+use Rattle.std.specs.Prelude.{Bool, true, not, List, ◌++◌, ◌↔◌, ◌≡◌, refl, ℕ, ◌≤◌, length}
 use Rattle.std.proofs.Common.{sym, ap, ◌∙◌}
 use Rattle.model.specs.Base.{all}
 use Rattle.model.specs.Code.{weight}

@@ -1,6 +1,5 @@
 -- The desk program: what it writes for the bytes of a book and of its standard input.
-use Rattle.std.specs.Prelude.{true, false, List, [], ◌∷◌, ◌++◌, map, ◌↔◌, ◌≡◌, ℕ, ◌<◌, length, replicate, get_or}
-use Rattle.std.proofs.Common.{sym, ap, ◌∙◌}
+use Rattle.std.specs.Prelude.{true, List, [], ◌∷◌, ◌++◌, map, ◌↔◌, ◌≡◌, ℕ, ◌<◌, length, replicate, get_or}
 use Rattle.model.specs.Base.{pick, placed}
 use Rattle.model.specs.Literal.{pos, neg}
 use Rattle.model.specs.Clauses.{Clause, Derived, Contradictory}

@@ -1,6 +1,6 @@
 -- Document 02, U7: "Import shall accept comment lines starting with c, then one line `p cnf V C`, then C clauses, each closed by 0." Which
 -- texts these are, `file_of` says, and with it the V and the clauses of each.
-use Rattle.std.specs.Prelude.{true, false, not, ◌||◌, ◌⊎◌, ◌↔◌, ◌≡◌, ℕ, ◌+◌, ◌-◌, ◌*◌, ◌≤◌, ◌<◌, eqb, ltb, length, take, drop, replicate, get_or}
+use Rattle.std.specs.Prelude.{true, false, not, ◌||◌, ◌↔◌, ◌≡◌, ℕ, ◌+◌, ◌-◌, ◌*◌, ◌≤◌, ◌<◌, eqb, ltb, length, take, drop, get_or}
 use mathlib.Core.List.{List, [], ◌∷◌, ◌++◌, map, flatten}
 use Rattle.std.proofs.Math.Option.{some}
 use Rattle.model.specs.Base.{all, placed}

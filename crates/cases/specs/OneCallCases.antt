@@ -3,7 +3,6 @@
 use Rattle.std.specs.Prelude.{Bool, true, false, List, [], ◌∷◌, ◌++◌, map, ◌≡◌, refl, ℕ, ◌+◌, replicate}
 use Rattle.calls.specs.Refusals.{output_refused}
 use Rattle.calls.specs.Outcomes.{refused, accepted, Outcome}
-use Rattle.calls.specs.Lines.{State}
 use Rattle.calls.specs.Calls.{Ran, key_of, run_of, report_of}
 use Rattle.case_samples.specs.Opened.{definitions}
 use Rattle.case_samples.specs.Samples.{P, Q, R, not_P, not_Q, True, False, plain, barred, all_of, any_of, root, at_least, numbers, wide}

@@ -2,7 +2,7 @@
 -- the loaded book or some choice names is marked 1 or 2."
 use Rattle.std.proofs.Math.Bool.{Bool, not}
 use Rattle.std.specs.Prelude.{true, false, ◌&&◌, ◌||◌, List, ◌⊎◌, ◌↔◌, ◌≡◌, refl, eqb, length, get_or}
-use Rattle.std.proofs.Common.{inl, inr, ⊎_elim, sym, ap, ◌∙◌, arith, eqb-true, eq-eqb}
+use Rattle.std.proofs.Common.{inl, inr, ⊎_elim, sym, ap, ◌∙◌, eqb-true, eq-eqb}
 use Rattle.std.proofs.Math.Option.{none}
 use Prim.Native.Nat.{ℕ, ◌<◌}
 use Rattle.std.proofs.lemmas.Bool.{not-true}
@@ -17,12 +17,12 @@ use Rattle.calls.specs.Refusals.{sheet_refused}
 use Rattle.calls.specs.Outcomes.{refused, accepted, answer}
 use Rattle.calls.specs.Lines.{Line, State, counted}
 use Rattle.calls.specs.Named.{is_named, is_decided, complete_among}
-use Rattle.calls.specs.Conditions.{is_book_of, has_lines_in_order}
+use Rattle.calls.specs.Conditions.{has_lines_in_order}
 use Rattle.calls.specs.Chains.{book_refusal, order_refusal, complete_refusal}
 use Rattle.calls.specs.Calls.{check_of, complete_of}
 use Rattle.calls.specs.History.{Call, after_calls, Account, loaded, account_calls, meaning}
 use Rattle.theory_forms.specs.Lists.{all_count, all_index}
-use Rattle.theory_forms.specs.Logic.{true_false, either, and_split, and_join, or_split, or_left, or_right, fails_if}
+use Rattle.theory_forms.specs.Logic.{true_false, and_split, and_join, or_split, or_left, or_right, fails_if}
 use Rattle.theory_meaning.specs.ExactReports.{report_tells}
 use Rattle.call_laws.specs.Valuations.{same_report}
 use Rattle.call_laws.specs.Accepted.{lines_in_order, in_order_lines}

@@ -2,7 +2,6 @@
 use Rattle.std.specs.Prelude.{List, ℕ, ◌≤◌}
 use Rattle.std.proofs.Common.{ap, subst, arith}
 use Rattle.model.specs.Code.{weight}
-use Rattle.model.specs.Rules as rules
 use Rattle.model.specs.Sheet.{nodes_in}
 use Rattle.calls.specs.Index.{fresh_count}
 use Rattle.calls.specs.Calls.{run_of, step_with, run_with}
