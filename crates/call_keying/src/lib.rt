@@ -1,5 +1,6 @@
 // Keyings: an option taken or barred, as a mark on the sheet beside the lines of its order.
 #![tactic(auto)]
+
 ghost use Rattle.std.specs.Prelude.{◌≡◌, true};
 ghost use Rattle.model.specs.Sheet.{is_sheet};
 ghost use Rattle.calls.specs.Chains.{key_refusal};
