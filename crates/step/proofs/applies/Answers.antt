@@ -25,7 +25,7 @@ returns-then-not-is_headed c =
 pub ends-requires : goal.ends-requires
 ends-requires c =
     record {
-      le_rule = (c.if-rule-gt15.true, c.requires.le_rule.1);
+      le_rule = (omega arith, c.requires.le_rule.1);
       stretch = c.requires.stretch;
       headed = right (goal.at.ends-requires c).Else-not-is_headed;
     }
@@ -33,7 +33,7 @@ ends-requires c =
 pub returns-then-k-i : goal.returns-then-k-i
 returns-then-k-i c =
     past_children c.args.rule c.args.i c.args.j c.requires.stretch (right (goal.at.returns-then-k-i c).Else-not-is_headed)
-    (omega (arith, c.if-rule-gt15.false)) (omega (arith, counted (goal.at.returns-then-k-i c).After-children_of-k))
+    (omega arith) (omega (arith, counted (goal.at.returns-then-k-i c).After-children_of-k))
 
 pub child_at-at-requires : goal.child_at-at-requires
 child_at-at-requires c =
@@ -46,7 +46,7 @@ child_at-at-requires c =
 pub applies_headed-requires : goal.applies_headed-requires
 applies_headed-requires c =
     record {
-      le_rule = (c.requires.le_rule.0, omega (arith, c.if-rule-gt15.false));
+      le_rule = (c.requires.le_rule.0, omega arith);
       stretch = c.requires.stretch;
       headed = right (goal.at.applies_headed-requires c).Else-not-is_headed;
       i_bound = (omega (arith, counted (goal.at.applies_headed-requires c).After-children_of-k), c.child_at-at.ensures.0);
