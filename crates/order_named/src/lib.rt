@@ -1,5 +1,6 @@
 // The options that the bodies of a book and the lines of an order name, noted in a table.
 #![tactic(auto)]
+
 ghost use Rattle.std.specs.Prelude.{◌≡◌, true, map, ◌*◌, ◌≤◌, eqb, leb, ltb, length, take};
 ghost use Rattle.model.specs.Base.{all, any};
 ghost use Rattle.model.specs.Limits.{most_options, most_nodes};
