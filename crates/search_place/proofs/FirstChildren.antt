@@ -49,7 +49,8 @@ module _ {r : ℕ} {l : List ℕ} (s : Stretch l) (h : Headed r l) where
   module _ (low : Beside r) {i : ℕ} (w : FirstChild r i l) where
     pub first_found : i < children (get_or l 0 0) → (p : ℕ) → some (redex r p i 0) ≡ least_i r p (forest_in l)
     first_found lt p =
-        i_found r p (forest_in l) i (omega (arith, children_counted)) (flat_found s h i (inl low) (w.there lt) p) (λ k m. flat_none s h k (inl low) (w.before k m) p)
+        i_found r p (forest_in l) i (omega (arith, children_counted)) (flat_found s h i (inl low) (w.there lt) p)
+        (λ k m. flat_none s h k (inl low) (w.before k m) p)
 
     pub first_none : children (get_or l 0 0) ≤ i → (p : ℕ) → none ≡ least_i r p (forest_in l)
     first_none le p =
@@ -63,7 +64,8 @@ module _ {r : ℕ} {l : List ℕ} (s : Stretch l) (h : Headed r l) where
   pub single_first : 7 ≤ r → r ≤ 8 → children (get_or l 0 0) ≡ 1 → FirstChild r 0 l
   single_first a b e =
       let count = group_children (headed_group s h) in
-      first_here (omega arith) (λ k m. absurd (omega arith)) (sym (applies_single s h 0 0 a b refl (omega (arith, count))) ∙ eq-eqb (size h.children) 1 (sym count ∙ e))
+      first_here (omega arith) (λ k m. absurd (omega arith))
+      (sym (applies_single s h 0 0 a b refl (omega (arith, count))) ∙ eq-eqb (size h.children) 1 (sym count ∙ e))
 
   pub single_none : 7 ≤ r → r ≤ 8 → {n : ℕ} → n ≡ children (get_or l 0 0) → (n ≡ 1 → ⊥) → FirstChild r n l
   single_none a b c n =

@@ -1,5 +1,6 @@
 // The search at one place: the least child and inner child at which a rule applies.
 #![tactic(auto)]
+
 ghost use Rattle.std.specs.Prelude.{◌≡◌, ◌⊎◌, ℕ, ◌≤◌, ◌<◌, length, get_or, drop};
 ghost use Rattle.model.specs.Limits.{last_rule};
 ghost use Rattle.model.specs.Code.{decode, children};
