@@ -1,5 +1,6 @@
 // The single step: one rule at one place of a sheet, for child i and inner child j.
 #![tactic(auto)]
+
 ghost use Rattle.std.specs.Prelude.{◌≡◌};
 ghost use Rattle.calls.specs.Chains.{step_refusal};
 ghost use Rattle.calls.specs.Calls.{step_with};
