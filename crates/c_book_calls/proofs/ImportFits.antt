@@ -1,6 +1,5 @@
 -- The length of an imported book leaves room for the refusal in one number.
-use mathlib.Core.List.{List, []}
-use mathlib.Core.Path.{◌≡◌, ap}
+use mathlib.Core.List.{List}
 use Prim.Native.Nat.{ℕ, ◌<◌}
 use native.Mathlib.Omega.{arith}
 use lib.ListN.{length}

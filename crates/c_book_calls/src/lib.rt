@@ -1,5 +1,6 @@
 // The calls for C that make a book: the import of a clause file. Each answers one number, as in `c_calls`: the refusal, and the value.
 #![tactic(auto)]
+
 ghost use Rattle.std.specs.Prelude.{◌≡◌};
 ghost use Rattle.calls.specs.Calls.{import_of};
 ghost use Rattle.c_calls.specs.Packed.{packed_value};
