@@ -21,7 +21,8 @@ use Rattle.book_distinct_codes.proofs.ComesAgain.{ok_from, ok_more, ok_past, com
 -- The hash of a code is read off its 13 bytes.
 quad_take : (s : List ℕ) (k : ℕ) → k + 4 ≤ code_length → quad (take code_length s) k ≡ quad s k
 unfolding quad
-quad_take s k h = rw (get_or-take code_length s k 0 (omega arith), get_or-take code_length s (k + 1) 0 (omega arith), get_or-take code_length s (k + 2) 0 (omega arith), get_or-take code_length s (k + 3) 0 (omega arith))
+quad_take s k h = rw (get_or-take code_length s k 0 (omega arith), get_or-take code_length s (k + 1) 0 (omega arith),
+    get_or-take code_length s (k + 2) 0 (omega arith), get_or-take code_length s (k + 3) 0 (omega arith))
 
 pub hash_take : (s : List ℕ) → hash (take code_length s) ≡ hash s
 unfolding hash
@@ -110,7 +111,8 @@ bad_from n s (suc i) l e =
     bad_from n s i (omega arith) (ok_more n s i (omega arith) ∙ rw (add-one i, e) (spoilt (code_ok (code_at s i)) (not (comes_after n s i))))
 
 -- One code more, with its hash.
-module _ {n : ℕ} {s first next : List ℕ} {i : ℕ} (t : Entered n s first next (i + 1)) (few : n ≤ most_options) (h : ℕ) (small : h < buckets) (key : h ≡ hash (code_at s i)) where
+module _ {n : ℕ} {s first next : List ℕ} {i : ℕ} (t : Entered n s first next (i + 1)) (few : n ≤ most_options) (h : ℕ) (small : h < buckets)
+    (key : h ≡ hash (code_at s i)) where
   here : i < n
   here = omega (arith, t.left)
 
@@ -120,7 +122,8 @@ module _ {n : ℕ} {s first next : List ℕ} {i : ℕ} (t : Entered n s first ne
     where
       go : (b : Bool) → eqb k h ≡ b → Link n s i k (get_or (set first h i) k 0)
       go true e = rw (eqb-true k h e, get_or-set_same first h i 0 (omega (arith, t.hashes)), key) (link_here n s i)
-      go false e = rw (get_or-set_other first h k i 0 (eqb-false k h e)) (link_over n s i k (get_or first k 0) here (λ f. eqb-false k h e (f ∙ sym key)) (t.heads k m))
+      go false e = rw (get_or-set_other first h k i 0 (eqb-false k h e))
+          (link_over n s i k (get_or first k 0) here (λ f. eqb-false k h e (f ∙ sym key)) (t.heads k m))
 
   links_more : Links n s (set next i (get_or first h 0)) i
   links_more k a b = go (eqb k i) refl

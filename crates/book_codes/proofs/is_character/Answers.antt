@@ -24,7 +24,9 @@ returns-then-is_between-2 c =
     rw (← n.is_between.ensures, n.if-is_between.false, ← c.is_between-else-is_between.ensures, c.if-is_between-2.true)
 
 pub returns-then-is_between-3 : goal.returns-then-is_between-3
-returns-then-is_between-3 c = sym (no_letter (goal.at.returns-then-is_between-3 c).Else-is_between-2 ∙ rw (← c.is_between-else-is_between-2.ensures, c.if-is_between-3.true))
+returns-then-is_between-3 c = sym (no_letter (goal.at.returns-then-is_between-3 c).Else-is_between-2
+    ∙ rw (← c.is_between-else-is_between-2.ensures, c.if-is_between-3.true))
 
 pub returns-else-is_between-3 : goal.returns-else-is_between-3
-returns-else-is_between-3 c = sym (no_letter (goal.at.returns-else-is_between-3 c).Else-is_between-2 ∙ rw (← c.is_between-else-is_between-2.ensures, c.if-is_between-3.false))
+returns-else-is_between-3 c = sym (no_letter (goal.at.returns-else-is_between-3 c).Else-is_between-2
+    ∙ rw (← c.is_between-else-is_between-2.ensures, c.if-is_between-3.false))

@@ -15,13 +15,15 @@ returns-then-not-is_code c =
     let m = c in
     let n = m in
     let a = n.args in
-    sym (bad_from a.n a.s.now (n.loop-i.i - 1) (omega arith) (ok_more a.n a.s.now (n.loop-i.i - 1) (omega arith) ∙ rw (← m.is_code.ensures, c.if-not-is_code.true)))
+    sym (bad_from a.n a.s.now (n.loop-i.i - 1) (omega arith)
+        (ok_more a.n a.s.now (n.loop-i.i - 1) (omega arith) ∙ rw (← m.is_code.ensures, c.if-not-is_code.true)))
 
 pub comes_again-requires : goal.comes_again-requires
 comes_again-requires c =
     let g = c in
     let n = g in
-    walk (entered_before (omega arith) n.loop-i.invariant) (omega arith) g.hash_of-h.result g.hash_of-h.ensures.1 g.hash_of-h.ensures.0 (omega arith) c.wide16.ensures.0
+    walk (entered_before (omega arith) n.loop-i.invariant) (omega arith) g.hash_of-h.result g.hash_of-h.ensures.1 g.hash_of-h.ensures.0
+        (omega arith) c.wide16.ensures.0
 
 pub returns-then-comes_again : goal.returns-then-comes_again
 returns-then-comes_again c =
@@ -30,7 +32,8 @@ returns-then-comes_again c =
     let m = l in
     let n = m in
     let a = n.args in
-    sym (bad_from a.n a.s.now (n.loop-i.i - 1) (omega arith) (ok_more a.n a.s.now (n.loop-i.i - 1) (omega arith) ∙ rw (← m.is_code.ensures, l.if-not-is_code.false, ← r.comes_again.ensures, c.if-comes_again.true)))
+    sym (bad_from a.n a.s.now (n.loop-i.i - 1) (omega arith) (ok_more a.n a.s.now (n.loop-i.i - 1) (omega arith)
+        ∙ rw (← m.is_code.ensures, l.if-not-is_code.false, ← r.comes_again.ensures, c.if-comes_again.true)))
 
 pub loop-i-preserved : goal.loop-i-preserved
 loop-i-preserved c =
@@ -39,7 +42,8 @@ loop-i-preserved c =
     let l = g in
     let m = l in
     let n = m in
-    entered_more (entered_before (omega arith) n.loop-i.invariant) (omega arith) g.hash_of-h.result g.hash_of-h.ensures.1 g.hash_of-h.ensures.0 (sym m.is_code.ensures ∙ l.if-not-is_code.false) (sym r.comes_again.ensures ∙ c.if-comes_again.false)
+    entered_more (entered_before (omega arith) n.loop-i.invariant) (omega arith) g.hash_of-h.result g.hash_of-h.ensures.1 g.hash_of-h.ensures.0
+        (sym m.is_code.ensures ∙ l.if-not-is_code.false) (sym r.comes_again.ensures ∙ c.if-comes_again.false)
 
 pub returns : goal.returns
 returns c = sym (entered_all (omega arith) c.loop-i.invariant)
