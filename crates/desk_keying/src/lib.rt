@@ -1,5 +1,6 @@
 // The desk's lines: choices keyed one after another.
 #![tactic(auto)]
+
 ghost use Rattle.std.specs.Prelude.{◌≡◌, ◌||◌, ◌≤◌, eqb, length};
 ghost use Rattle.calls.specs.Outcomes.{accepted};
 ghost use Rattle.calls.specs.Desk.{lines, all_keyed, with_no_lines};
