@@ -1,5 +1,6 @@
 // The report.
 #![tactic(auto)]
+
 ghost use Rattle.std.specs.Prelude.{◌≡◌};
 ghost use Rattle.calls.specs.Calls.{report_of};
 ghost use Rattle.call_answers.specs.AnswerMeaning.{after_call};
