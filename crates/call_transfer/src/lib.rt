@@ -1,5 +1,6 @@
 // Books into sheets, and sheets into books.
 #![tactic(auto)]
+
 ghost use Rattle.std.specs.Prelude.{◌≡◌};
 ghost use Rattle.calls.specs.Calls.{load_of, write_of};
 ghost use Rattle.call_answers.specs.AnswerMeaning.{done_of, found_of, after_call};
