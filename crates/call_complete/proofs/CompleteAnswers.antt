@@ -1,13 +1,13 @@
 -- The answers to the "complete" question: the refusal that is due, and else what the two tables say.
 use mathlib.Core.Bool.{Bool, true, false, not, ◌&&◌, ◌||◌}
-use mathlib.Core.List.{List, [], ◌∷◌, map, flatten}
+use mathlib.Core.List.{List, [], ◌∷◌, map}
 use mathlib.Core.Option.{none, some}
 use mathlib.Core.Path.{◌≡◌, refl, sym, ap, ap₂, ◌∙◌}
 use Prim.Native.Nat.{ℕ, ◌≤◌, ◌<◌}
 use native.Mathlib.Omega.{arith}
 use borrow.Author.Tests.{ltb-true, lt-ltb}
 use lib.Dec.{eqb, ltb}
-use lib.ListN.{length, get_or, replicate}
+use lib.ListN.{replicate}
 use Rattle.model.specs.Base.{all, any}
 use Rattle.model.specs.Limits.{most_options}
 use Rattle.model.specs.Literal.{option}
@@ -22,9 +22,13 @@ use Rattle.calls.specs.Index.{names}
 use Rattle.calls.specs.Named.{is_named, is_decided, complete_among}
 use Rattle.calls.specs.Chains.{order_refusal, complete_refusal}
 use Rattle.calls.specs.Calls.{complete_of}
+use Rattle.call_answers.specs.declared.Refusal.{Refusal as Why}
+use Rattle.call_answers.specs.declared.Done.{Done}
+use Rattle.call_answers.specs.declared.Done.TheVariants.{Accepted, Refused}
+use Rattle.call_answers.specs.AnswerMeaning.{due_of}
 use Rattle.theory_forms.specs.Lists.{all_weaken, all_counted, any_map, any_flatten}
 use Rattle.theory_forms.specs.Sheets.{Formed, sheet_formed}
-use Rattle.theory_formats.specs.Loading.{Accepted, bodies_flat}
+use Rattle.theory_formats.specs.Loading.{Accepted as AcceptedBook, bodies_flat}
 use Rattle.theory_meaning.specs.FailedLiterals.{zero_everywhere}
 use Rattle.call_laws.specs.Accepted.{Orderly, order_accepted}
 use Rattle.call_laws.specs.Books.{accepted_book}
@@ -34,7 +38,7 @@ use Rattle.order_named.specs.Noting.{Adds}
 -- An option is named by some body exactly if it is by some node of an accepted book.
 book_names :
     (b : List ℕ) (v : ℕ) →
-    Accepted b →
+    AcceptedBook b →
     any (λ body. any (names v) (map node_of body)) (bodies_of b) ≡ any (names v) (map node_of (numbers_of b))
 unfolding any
 book_names b v a =
@@ -61,6 +65,11 @@ unfolding complete_among
 same_names p q n r h =
     ap (λ b. not r.contradictory && b) (all_counted _ _ n (λ v l. ap (λ b. not b || is_decided r v) (h v l)))
 
+-- What is not refused has no refusal.
+pub not_refused : (d : Done) → ((r : Why) → d ≡ Refused r → ⊥) → due_of d ≡ none
+not_refused Accepted h = refl
+not_refused (Refused r) h = absurd (h r refl)
+
 module _ (t : State) (b : List ℕ) where
   pub refused_so : {r : Refusal} → order_refusal t b ≡ some r → refused r ≡ complete_of t b
   unfolding complete_of complete_refusal answer
@@ -71,7 +80,7 @@ module _ (t : State) (b : List ℕ) where
     orderly : Orderly t b
     orderly = order_accepted t b e
 
-    pub book : Accepted b
+    pub book : AcceptedBook b
     book = accepted_book b orderly.book
 
     pub formed : Formed t.sheet

@@ -1,5 +1,6 @@
 // The "complete" question: a sheet, with the book and the lines that say which options matter.
 #![tactic(auto)]
+
 ghost use Rattle.std.specs.Prelude.{◌≡◌};
 ghost use Rattle.calls.specs.Calls.{complete_of};
 ghost use Rattle.order_lines.specs.LineMeaning.{order};
