@@ -1,13 +1,13 @@
 -- The answers of a withdrawal, in the order of its tests.
-use mathlib.Core.Bool.{true, false}
+use mathlib.Core.Bool.{true}
 use mathlib.Core.List.{List}
 use mathlib.Core.Option.{none, some}
 use mathlib.Core.Path.{◌≡◌, sym, ap, ◌∙◌}
 use Prim.Native.Nat.{ℕ, ◌+◌, ◌-◌, ◌*◌, ◌≤◌, ◌<◌}
 use native.Mathlib.Omega.{arith}
-use borrow.Author.Tests.{lt-ltb, le-ltb, eq-eqb, ne_eqb}
+use borrow.Author.Tests.{lt-ltb, le-ltb}
 use lib.Dec.{ltb}
-use lib.ListN.{length, get_or}
+use lib.ListN.{length}
 use lib.Seq.{length-take-le}
 use Rattle.model.specs.Base.{first_of, only_if, all, placed}
 use Rattle.model.specs.Literal.{option}
@@ -15,11 +15,11 @@ use Rattle.model.specs.Code.{weight}
 use Rattle.model.specs.Limits.{most_weight, literal_weight, sheet_length}
 use Rattle.model.specs.Sheet.{options_in, nodes_in, is_sheet, sheet_of}
 use Rattle.model.specs.Book.{options_of, book_nodes}
-use Rattle.calls.specs.Refusals.{Refusal, sheet_refused, line_refused, full_refused}
+use Rattle.calls.specs.Refusals.{Refusal, line_refused, full_refused}
 use Rattle.calls.specs.Outcomes.{refused, accepted}
 use Rattle.calls.specs.Lines.{most_lines, State, counted, without, moved_up, with_marks}
 use Rattle.calls.specs.Index.{fresh_count}
-use Rattle.calls.specs.Conditions.{has_lines_in_order, index_length}
+use Rattle.calls.specs.Conditions.{index_length}
 use Rattle.calls.specs.Chains.{order_refusal, withdraw_refusal, early, index_refusal}
 use Rattle.calls.specs.Calls.{withdraw_of, withdraw_with}
 use Rattle.theory_forms.specs.Sheets.{sheet_formed, nodes_made, options_made}

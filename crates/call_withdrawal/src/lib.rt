@@ -1,5 +1,6 @@
 // Withdrawals: a line taken back, and the sheet made anew without it.
 #![tactic(auto)]
+
 ghost use Rattle.std.specs.Prelude.{◌≡◌, ◌≤◌};
 ghost use Rattle.calls.specs.Chains.{withdraw_refusal};
 ghost use Rattle.calls.specs.Calls.{withdraw_with};
