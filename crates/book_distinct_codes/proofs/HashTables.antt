@@ -21,8 +21,12 @@ use Rattle.book_distinct_codes.proofs.ComesAgain.{ok_from, ok_more, ok_past, com
 -- The hash of a code is read off its 13 bytes.
 quad_take : (s : List ℕ) (k : ℕ) → k + 4 ≤ code_length → quad (take code_length s) k ≡ quad s k
 unfolding quad
-quad_take s k h = rw (get_or-take code_length s k 0 (omega arith), get_or-take code_length s (k + 1) 0 (omega arith),
-    get_or-take code_length s (k + 2) 0 (omega arith), get_or-take code_length s (k + 3) 0 (omega arith))
+quad_take s k h = rw (
+  get_or-take code_length s k 0 (omega arith),
+  get_or-take code_length s (k + 1) 0 (omega arith),
+  get_or-take code_length s (k + 2) 0 (omega arith),
+  get_or-take code_length s (k + 3) 0 (omega arith),
+)
 
 pub hash_take : (s : List ℕ) → hash (take code_length s) ≡ hash s
 unfolding hash

@@ -2,6 +2,7 @@
 // withdrawal, where they are accepted, store in the lent lines and the lent count what is to stand there. Each answers one number: its low
 // 8 bits are the refusal (0: accepted), the rest is the value.
 #![tactic(auto)]
+
 ghost use Rattle.std.specs.Prelude.{◌≡◌};
 ghost use Rattle.calls.specs.Calls.{key_with, withdraw_with, complete_of};
 ghost use Rattle.c_calls.specs.Packed.{packed_done, packed_bool};

@@ -1,6 +1,7 @@
 // Numbers in bytes; the numbers of a sheet as nodes, kind times 4,096 plus value; and the trees that a run of them spells, read from the
 // left.
 #![tactic(auto)]
+
 ghost use Rattle.std.specs.Prelude.{◌≡◌, ◌+◌, ◌-◌, ◌<◌, ◌≤◌, leb, length, true};
 ghost use Rattle.model.specs.Book.{word};
 ghost use Rattle.model.specs.Base.{only_if};

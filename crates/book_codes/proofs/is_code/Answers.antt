@@ -57,7 +57,7 @@ unfolding pick
 returns-then-not-is_listed-2 c =
     let m = c in
     c.is_zero_from.ensures
-        ∙ sym (turn (goal.at.returns-then-not-is_listed-2 c).In-loop-k ∙ rw (← m.is_listed-in-loop-k.ensures, c.if-not-is_listed-2.true))
+    ∙ sym (turn (goal.at.returns-then-not-is_listed-2 c).In-loop-k ∙ rw (← m.is_listed-in-loop-k.ensures, c.if-not-is_listed-2.true))
 
 pub loop-k-preserved : goal.loop-k-preserved
 unfolding pick

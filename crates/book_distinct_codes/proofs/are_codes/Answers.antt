@@ -33,15 +33,17 @@ returns-then-is_repeated c =
     let l = r in
     let m = l in
     sym (turn (goal.at.returns-then-is_repeated c).In-loop-i
-        ∙ rw (← m.is_code.ensures, l.if-not-is_code.false, ← r.is_repeated.ensures, c.if-is_repeated.true))
+    ∙ rw (← m.is_code.ensures, l.if-not-is_code.false, ← r.is_repeated.ensures, c.if-is_repeated.true))
 
 pub loop-i-preserved : goal.loop-i-preserved
 loop-i-preserved c =
     let r = c in
     let l = r in
-    let m = l in
-    (omega arith, turn (goal.at.loop-i-preserved c).In-loop-i
-        ∙ rw (← m.is_code.ensures, l.if-not-is_code.false, ← r.is_repeated.ensures, c.if-is_repeated.false))
+    let m = l in (
+      omega arith,
+      turn (goal.at.loop-i-preserved c).In-loop-i
+          ∙ rw (← m.is_code.ensures, l.if-not-is_code.false, ← r.is_repeated.ensures, c.if-is_repeated.false),
+    )
 
 pub returns : goal.returns
 returns c = c.are_few_codes.ensures ∙ sym c.loop-i.invariant.1

@@ -16,14 +16,14 @@ returns-then-not-is_code c =
     let n = m in
     let a = n.args in
     sym (bad_from a.n a.s.now (n.loop-i.i - 1) (omega arith)
-        (ok_more a.n a.s.now (n.loop-i.i - 1) (omega arith) ∙ rw (← m.is_code.ensures, c.if-not-is_code.true)))
+    (ok_more a.n a.s.now (n.loop-i.i - 1) (omega arith) ∙ rw (← m.is_code.ensures, c.if-not-is_code.true)))
 
 pub comes_again-requires : goal.comes_again-requires
 comes_again-requires c =
     let g = c in
     let n = g in
     walk (entered_before (omega arith) n.loop-i.invariant) (omega arith) g.hash_of-h.result g.hash_of-h.ensures.1 g.hash_of-h.ensures.0
-        (omega arith) c.wide16.ensures.0
+    (omega arith) c.wide16.ensures.0
 
 pub returns-then-comes_again : goal.returns-then-comes_again
 returns-then-comes_again c =
@@ -33,7 +33,7 @@ returns-then-comes_again c =
     let n = m in
     let a = n.args in
     sym (bad_from a.n a.s.now (n.loop-i.i - 1) (omega arith) (ok_more a.n a.s.now (n.loop-i.i - 1) (omega arith)
-        ∙ rw (← m.is_code.ensures, l.if-not-is_code.false, ← r.comes_again.ensures, c.if-comes_again.true)))
+    ∙ rw (← m.is_code.ensures, l.if-not-is_code.false, ← r.comes_again.ensures, c.if-comes_again.true)))
 
 pub loop-i-preserved : goal.loop-i-preserved
 loop-i-preserved c =
@@ -43,7 +43,7 @@ loop-i-preserved c =
     let m = l in
     let n = m in
     entered_more (entered_before (omega arith) n.loop-i.invariant) (omega arith) g.hash_of-h.result g.hash_of-h.ensures.1 g.hash_of-h.ensures.0
-        (sym m.is_code.ensures ∙ l.if-not-is_code.false) (sym r.comes_again.ensures ∙ c.if-comes_again.false)
+    (sym m.is_code.ensures ∙ l.if-not-is_code.false) (sym r.comes_again.ensures ∙ c.if-comes_again.false)
 
 pub returns : goal.returns
 returns c = sym (entered_all (omega arith) c.loop-i.invariant)

@@ -1,6 +1,6 @@
 -- `common_nodes::join` meets its contract: each answer is that of `Joined-by`, by the node's kind.
 use mathlib.Core.Bool.{true}
-use mathlib.Core.Logic.{inl, inr, ⊎_elim}
+use mathlib.Core.Logic.{inl, inr}
 use mathlib.Core.Path.{◌≡◌, sym, ◌∙◌}
 use Rattle.model.specs.Code.{kind}
 use Rattle.common_nodes.proofs.Joins.{either_kind, one_of, neither}

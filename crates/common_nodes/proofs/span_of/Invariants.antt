@@ -7,7 +7,7 @@ use Rattle.theory_reading.specs.Spans.{span}
 use Rattle.common_nodes.proofs.span_of.Given as goal
 
 abbrev pub invariant-loop-pending : goal.invariant-loop-pending
-invariant-loop-pending l =     (l.i ≤ length l.s) × (l.pending ≤ sheet_room + kind_factor * l.i) × (span l.trees l.s ≡ l.i + span l.pending (drop l.i l.s))
+invariant-loop-pending l = (l.i ≤ length l.s) × (l.pending ≤ sheet_room + kind_factor * l.i) × (span l.trees l.s ≡ l.i + span l.pending (drop l.i l.s))
 
 abbrev pub decreases-loop-pending : goal.decreases-loop-pending
 decreases-loop-pending l = length l.s - l.i
