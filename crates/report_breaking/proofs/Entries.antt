@@ -100,5 +100,6 @@ module _ (q : ℕ) where
   broken_drop (suc k) n ls [] e s = refl
   broken_drop (suc k) n ls (f ∷ fs) e s =
       let low = s.0 in
-      ap (λ r. broken q r (drop k fs)) (sym (take-take (bottom (begin f) (take k fs)) (begin f) ls (bottom_low (begin f) (take k fs) (stacked_take (begin f) k fs s.2))))
+      ap (λ r. broken q r (drop k fs)) (sym (take-take (bottom (begin f) (take k fs)) (begin f) ls
+      (bottom_low (begin f) (take k fs) (stacked_take (begin f) k fs s.2))))
       ∙ broken_drop k (begin f) (take (begin f) ls) fs (length-take-le (begin f) ls (omega arith)) s.2

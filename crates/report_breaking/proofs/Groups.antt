@@ -85,7 +85,8 @@ module _ (c : Conn) (q : ℕ) (ls fs : List ℕ) where
       let most = standing_most fs in
       sym (by_need
       ∙ ap (λ r. leb r (count (broken q ls fs))) h
-      ∙ leb_same (suc (length fs - standing fs)) (count (broken q ls fs)) (suc (length fs)) (standing fs + count (broken q ls fs)) (λ l. omega (arith, l)) (λ l. omega (arith, l))
+      ∙ leb_same (suc (length fs - standing fs)) (count (broken q ls fs)) (suc (length fs)) (standing fs + count (broken q ls fs))
+      (λ l. omega (arith, l)) (λ l. omega (arith, l))
       ∙ more_fail q ls fs refl s)
 
   -- More are lacking than one literal makes fail: none breaks it.
@@ -97,7 +98,8 @@ module _ (c : Conn) (q : ℕ) (ls fs : List ℕ) where
 pub fail_as_they_are : (q : ℕ) (ls fs : List ℕ) {n : ℕ} → length ls ≡ n → Stacked n fs → among q ls ≡ false →
     count (broken q ls fs) ≤ length fs - standing fs
 fail_as_they_are q ls fs {n} e s h =
-    let none : among q (drop (bottom n fs) ls) ≡ false = fails_if (among q (drop (bottom n fs) ls)) (λ m. true_false (sym (among_drop q (bottom n fs) ls m) ∙ h)) in
+    let none : among q (drop (bottom n fs) ls) ≡ false =
+    fails_if (among q (drop (bottom n fs) ls)) (λ m. true_false (sym (among_drop q (bottom n fs) ls m) ∙ h)) in
     omega (arith, leb-false (suc (length fs)) (standing fs + count (broken q ls fs)) (more_fail q ls fs e s ∙ none))
 
 -- The tree that is made of them.

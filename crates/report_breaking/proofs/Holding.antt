@@ -24,7 +24,13 @@ module _ (n : ℕ) (y : ℕ) (ls held : List ℕ) (inside : y < length held) whe
       (either (eqb x y))
     where
       at_it : raised n (y ∷ ls) held y ≡ raised n ls (set held y (n + 1)) y
-      at_it = rw (among_same y y ls refl, get_or-set_same held y (n + 1) 0 inside, eq-eqb (get_or held y 0) n e, ne_eqb (n + 1) n (λ q. omega arith), and-false (among y ls))
+      at_it = rw (
+        among_same y y ls refl,
+        get_or-set_same held y (n + 1) 0 inside,
+        eq-eqb (get_or held y 0) n e,
+        ne_eqb (n + 1) n (λ q. omega arith),
+        and-false (among y ls),
+      )
 
   pub raised_none : (get_or held y 0 ≡ n → ⊥) → (x : ℕ) → raised n (y ∷ ls) held x ≡ raised n ls held x
   unfolding raised pick
@@ -59,14 +65,23 @@ module _ (n : ℕ) (ls held : List ℕ) (x : ℕ) where
 -- not.
 module _ (n : ℕ) (some : 1 ≤ n) (y : ℕ) (kept ls held : List ℕ) (inside : y < length held) where
   pub kept_here : get_or held y 0 ≡ n → (x : ℕ) →
-      (among x (kept ++ (y ∷ [])) || (among x ls && eqb (get_or (set held y 0) x 0) n)) ≡ (among x kept || (among x (y ∷ ls) && eqb (get_or held x 0) n))
+      (among x (kept ++ (y ∷ [])) || (among x ls && eqb (get_or (set held y 0) x 0) n))
+      ≡ (among x kept || (among x (y ∷ ls) && eqb (get_or held x 0) n))
   kept_here e x = ⊎_elim
       (λ q. rw (eqb-true x y q) at_it)
       (λ q. let d = eqb-false x y q in rw (among_last x y kept, q, or-false (among x kept), among_other x y ls d, get_or-set_other held y x 0 0 d))
       (either (eqb x y))
     where
-      at_it : (among y (kept ++ (y ∷ [])) || (among y ls && eqb (get_or (set held y 0) y 0) n)) ≡ (among y kept || (among y (y ∷ ls) && eqb (get_or held y 0) n))
-      at_it = rw (among_last y y kept, eq-eqb y y refl, or-true (among y kept), among_same y y ls refl, eq-eqb (get_or held y 0) n e, or-true (among y kept))
+      at_it : (among y (kept ++ (y ∷ [])) || (among y ls && eqb (get_or (set held y 0) y 0) n))
+          ≡ (among y kept || (among y (y ∷ ls) && eqb (get_or held y 0) n))
+      at_it = rw (
+        among_last y y kept,
+        eq-eqb y y refl,
+        or-true (among y kept),
+        among_same y y ls refl,
+        eq-eqb (get_or held y 0) n e,
+        or-true (among y kept),
+      )
 
   pub kept_none : (get_or held y 0 ≡ n → ⊥) → (x : ℕ) →
       (among x kept || (among x ls && eqb (get_or (set held y 0) x 0) n)) ≡ (among x kept || (among x (y ∷ ls) && eqb (get_or held x 0) n))
@@ -76,7 +91,13 @@ module _ (n : ℕ) (some : 1 ≤ n) (y : ℕ) (kept ls held : List ℕ) (inside 
       (either (eqb x y))
     where
       at_it : (among y ls && eqb (get_or (set held y 0) y 0) n) ≡ (among y (y ∷ ls) && eqb (get_or held y 0) n)
-      at_it = rw (get_or-set_same held y 0 0 inside, ne_eqb 0 n (λ q. omega arith), and-false (among y ls), ne_eqb (get_or held y 0) n d, and-false (among y (y ∷ ls)))
+      at_it = rw (
+        get_or-set_same held y 0 0 inside,
+        ne_eqb 0 n (λ q. omega arith),
+        and-false (among y ls),
+        ne_eqb (get_or held y 0) n d,
+        and-false (among y (y ∷ ls)),
+      )
 
   -- A count is set back.
   pub blank_more : BlankBut (y ∷ ls) held → BlankBut ls (set held y 0)

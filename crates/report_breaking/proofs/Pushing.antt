@@ -48,8 +48,11 @@ module _ {v : ℕ → Bool} {places stack : List ℕ} {top end : ℕ} (h : Stack
       record {
         room = room;
         low = simp length-set (omega arith);
-        stacked = rw put (subst (λ n. Stacked n (f ∷ drop k fs)) (length-take-le to new room) (pushed_stacked (take end places) fs (take to new) k f before m));
-        whole = rw put (ap (λ n. bottom n (f ∷ drop k fs)) (sym (length-take-le to new room)) ∙ pushed_bottom (take end places) fs (take to new) k f before m ∙ ap (λ n. bottom n fs) (length-take-le end places h.room) ∙ h.whole);
+        stacked = rw put (subst (λ n. Stacked n (f ∷ drop k fs)) (length-take-le to new room)
+            (pushed_stacked (take end places) fs (take to new) k f before m));
+        whole = rw put (ap (λ n. bottom n (f ∷ drop k fs)) (sym (length-take-le to new room))
+            ∙ pushed_bottom (take end places) fs (take to new) k f before m
+            ∙ ap (λ n. bottom n fs) (length-take-le end places h.room) ∙ h.whole);
         inside = m.inside;
       }
 
@@ -57,5 +60,6 @@ module _ {v : ℕ → Bool} {places stack : List ℕ} {top end : ℕ} (h : Stack
   unfolding fs
   new_values q = rw put (pushed_broken (take end places) fs (take to new) k f before m q)
 
-  pub pushed : Stack new (set stack i f) i to × ((q : ℕ) → broken q (take to new) (drop i (set stack i f)) ≡ v q ∷ drop k (broken q (take end places) (drop top stack)))
+  pub pushed : Stack new (set stack i f) i to
+      × ((q : ℕ) → broken q (take to new) (drop i (set stack i f)) ≡ v q ∷ drop k (broken q (take end places) (drop top stack)))
   pushed = (new_stack, new_values)

@@ -1,6 +1,7 @@
 -- The stack of a pass over a tree from the right: an entry for each tree read, the leftmost tree's first, and the literals that
 -- break each, those of the leftmost tree last.
-use Rattle.std.specs.Prelude.{Bool, true, false, ◌&&◌, ◌||◌, List, [], ◌∷◌, ◌⊎◌, ◌≡◌, ℕ, suc, ◌+◌, ◌-◌, ◌/◌, ◌%◌, ◌≤◌, ◌<◌, eqb, length, get_or, set, take, drop}
+use Rattle.std.specs.Prelude.{Bool, true, false, ◌&&◌, ◌||◌, List, [], ◌∷◌, ◌⊎◌, ◌≡◌, ℕ, suc, ◌+◌, ◌-◌, ◌/◌, ◌%◌, ◌≤◌, ◌<◌, eqb}
+use Rattle.std.specs.Prelude.{length, get_or, set, take, drop}
 use Rattle.model.specs.Base.{pick}
 use Rattle.model.specs.Limits.{sheet_room, most_literals}
 use Rattle.model.specs.Forest.{or}

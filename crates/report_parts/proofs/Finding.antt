@@ -180,7 +180,8 @@ module _ {s ends homes : List ℕ} {i : ℕ} (sheet : Formed s) (w : Finding s e
           goes_on = omega arith;
           ends = within;
           tree = record {
-            one = ap (λ xs. trees (map node_of xs)) (sym (stretch_start i (2 + used_in s) k s within)) ∙ rw same (first_one (stretch i (2 + used_in s) s) known spelled.1 some_left);
+            one = ap (λ xs. trees (map node_of xs)) (sym (stretch_start i (2 + used_in s) k s within))
+                ∙ rw same (first_one (stretch i (2 + used_in s) s) known spelled.1 some_left);
             inside = λ m l e.
                 let short : m < i + k - i = omega (arith, stretch_long i (i + k) s (omega arith)) in
                 let at_m = stretch_number i (i + k) m s short in

@@ -34,7 +34,9 @@ pub conjunction_fails : (t : List ℕ) (x : ℕ) (xs : List ℕ) → (kind x ≡
 unfolding tree_fails node_of pick decode push
 conjunction_fails t x xs h =
     ⊎_elim
-    (λ e. rw e (root_with s and (first (children x) f) (after (children x) f) ∙ ap (λ b. b || fails s root (after (children x) f)) (root_and s (first (children x) f)) ∙ joined))
+    (λ e.
+    rw e (root_with s and (first (children x) f) (after (children x) f)
+    ∙ ap (λ b. b || fails s root (after (children x) f)) (root_and s (first (children x) f)) ∙ joined))
     (λ e. rw e (root_with s root (first (children x) f) (after (children x) f) ∙ joined))
     h
   where
@@ -85,12 +87,14 @@ module _ (xs : List ℕ) (known : xs ≡ map number_of (map node_of xs)) {u : �
   cut_fits = fits-⊕ (first 1 (forest xs)) (after 1 (forest xs)) (ap (λ f. all fits (encode f)) (first_after 1 (forest xs)) ∙ fitting)
 
   begun : map node_of (take (span 1 xs) xs) ≡ encode (first 1 (forest xs))
-  begun = ap (map node_of) (ap (λ ys. take (span 1 ys) ys) (sym as_spelled) ∙ take_trees 1 (forest xs) 0 (some_trees xs h) fitting) ∙ back _ cut_fits.0
+  begun = ap (map node_of) (ap (λ ys. take (span 1 ys) ys) (sym as_spelled)
+      ∙ take_trees 1 (forest xs) 0 (some_trees xs h) fitting) ∙ back _ cut_fits.0
 
   left : map node_of (drop (span 1 xs) xs) ≡ encode (after 1 (forest xs))
   unfolding spell
   left =
-      ap (map node_of) (ap (λ ys. drop (span 1 ys) ys) (sym as_spelled) ∙ drop_trees 1 (forest xs) 0 (some_trees xs h) fitting ∙ append-nil (map number_of (encode (after 1 (forest xs)))))
+      ap (map node_of) (ap (λ ys. drop (span 1 ys) ys) (sym as_spelled)
+      ∙ drop_trees 1 (forest xs) 0 (some_trees xs h) fitting ∙ append-nil (map number_of (encode (after 1 (forest xs)))))
       ∙ back _ cut_fits.1
 
   pub first_one : trees (map node_of (take (span 1 xs) xs)) ≡ some 1
@@ -123,7 +127,8 @@ module _ (xs : List ℕ) (known : xs ≡ map number_of (map node_of xs)) {u : �
 -- A tree's value depends on the table only where the tree's own literals have their places.
 module _ (t u : List ℕ) where
   abbrev Agree : List ℕ → Type 0
-  Agree xs = (i : ℕ) → i < length xs → is_literal (get_or xs i 0) ≡ true → eqb (get_or t (place_at (get_or xs i 0)) 0) 1 ≡ eqb (get_or u (place_at (get_or xs i 0)) 0) 1
+  Agree xs = (i : ℕ) → i < length xs → is_literal (get_or xs i 0) ≡ true →
+      eqb (get_or t (place_at (get_or xs i 0)) 0) 1 ≡ eqb (get_or u (place_at (get_or xs i 0)) 0) 1
 
   same_node : (x : ℕ) (bs : List Bool) → (is_literal x ≡ true → eqb (get_or t (place_at x) 0) 1 ≡ eqb (get_or u (place_at x) 0) 1) →
       with_node t x bs ≡ with_node u x bs

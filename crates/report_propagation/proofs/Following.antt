@@ -244,7 +244,8 @@ module _ {s ends homes : List ℕ} (sheet : Formed s) (table : Parted s ends hom
         d = found.1
 
         agree : (j : ℕ) → j < length (stretch i (get_or ends i 0) s) → is_literal (get_or (stretch i (get_or ends i 0) s) j 0) ≡ true →
-            eqb (get_or (set t (place_of l) 1) (place_at (get_or (stretch i (get_or ends i 0) s) j 0)) 0) 1 ≡ eqb (get_or t (place_at (get_or (stretch i (get_or ends i 0) s) j 0)) 0) 1
+            eqb (get_or (set t (place_of l) 1) (place_at (get_or (stretch i (get_or ends i 0) s) j 0)) 0) 1
+            ≡ eqb (get_or t (place_at (get_or (stretch i (get_or ends i 0) s) j 0)) 0) 1
         agree j b lit =
             let p = table.part i d in
             let short : j < get_or ends i 0 - i = rw (stretch_long i (get_or ends i 0) s (part_inside sheet p).0) at b in

@@ -1,5 +1,6 @@
 -- A table of failed literals with the trail of what was added to it, and parts that force nothing more.
-use Rattle.std.specs.Prelude.{Bool, true, false, not, ◌&&◌, List, [], ◌∷◌, ◌⊎◌, ◌≡◌, ℕ, zero, suc, ◌+◌, ◌-◌, ◌≤◌, ◌<◌, eqb, ltb, leb, length, get_or, set}
+use Rattle.std.specs.Prelude.{Bool, true, false, not, ◌&&◌, List, [], ◌∷◌, ◌⊎◌, ◌≡◌, ℕ, zero, suc, ◌+◌, ◌-◌, ◌≤◌, ◌<◌, eqb, ltb, leb}
+use Rattle.std.specs.Prelude.{length, get_or, set}
 use Rattle.model.specs.Base.{pick}
 use Rattle.model.specs.Limits.{sheet_length, most_literals}
 use Rattle.model.specs.Forest.{root}

@@ -36,7 +36,13 @@ begun tree t places stack held w d b =
       wide = w;
       deep = d;
       blank = b;
-      sound = record { room = omega arith; low = omega arith; stacked = rw (drop-length stack) tt; whole = rw (drop-length stack); inside = λ x h. true_false (sym h) };
+      sound = record {
+        room = omega arith;
+        low = omega arith;
+        stacked = rw (drop-length stack) tt;
+        whole = rw (drop-length stack);
+        inside = λ x h. true_false (sym h);
+      };
       told = λ q. rw (drop-length stack, drop-length tree) (sym (values_none (tried t q)));
     }
 
@@ -68,7 +74,8 @@ module _ {tree t places stack held : List ℕ} {top end i : ℕ} (h : SpellsTree
   as_they_are m =
       let ls = take end places in
       let fs = drop top stack in
-      let now : values_of t (drop i tree) ≡ broken most_literals ls fs = ap (λ u. values_of u (drop i tree)) (sym (tried_none t whole)) ∙ sym (r.told most_literals) in
+      let now : values_of t (drop i tree) ≡ broken most_literals ls fs =
+      ap (λ u. values_of u (drop i tree)) (sym (tried_none t whole)) ∙ sym (r.told most_literals) in
       rw (now, ← broken_take most_literals m ls fs)
       (fail_as_they_are most_literals ls (take m fs) (length-take-le end places r.sound.room) (stacked_take end m fs r.sound.stacked)
       (fails_if (among most_literals ls) (λ e. omega (arith, r.sound.inside most_literals e))))
@@ -80,14 +87,17 @@ module _ {tree t places stack held : List ℕ} {top end i : ℕ} (h : SpellsTree
       let p : suc (i - 1) ≡ i = omega arith in
       let m = children x in
       let put = rw (p, ← e) at ((here l).one_more (rw e at six) t q) in
-      let one : count (take m (values_of (tried t q) (drop i tree))) ≤ suc (count (take m (values_of t (drop i tree)))) = pick_keeps (λ u. count (take m (values_of u (drop i tree))) ≤ suc (count (take m (values_of t (drop i tree))))) (eqb (get_or t (opposite q) 0) 1) (omega arith) put in
+      let one : count (take m (values_of (tried t q) (drop i tree))) ≤ suc (count (take m (values_of t (drop i tree)))) =
+      pick_keeps (λ u. count (take m (values_of u (drop i tree))) ≤ suc (count (take m (values_of t (drop i tree)))))
+      (eqb (get_or t (opposite q) 0) 1) (omega arith) put in
       rw (broken_take q m (take end places) (drop top stack), r.told q) (omega (arith, one, as_they_are m))
 
   -- What is read with it.
   more : 0 < i → {x : ℕ} → x ≡ get_or tree (i - 1) 0 → {places' stack' held' : List ℕ} {top' end' : ℕ} →
       length places' ≡ length places → length stack' ≡ length stack → end' ≤ end + 1 → Stack places' stack' top' end' →
       Blank held' →
-      ((q : ℕ) → broken q (take end' places') (drop top' stack') ≡ with_node (tried t q) x (broken q (take end places) (drop top stack))) → Read tree t places' stack' held' top' end' (i - 1)
+      ((q : ℕ) → broken q (take end' places') (drop top' stack') ≡ with_node (tried t q) x (broken q (take end places) (drop top stack))) →
+      Read tree t places' stack' held' top' end' (i - 1)
   more l {x} e w d below s b f =
       let p : suc (i - 1) ≡ i = omega arith in
       record {
@@ -128,7 +138,9 @@ module _ {tree t places stack held : List ℕ} {top end i : ℕ} (h : SpellsTree
   verdict : (q : ℕ) → (failing entry || among q (take end places)) ≡ tree_fails (tried t q) tree
   unfolding broken
   verdict q =
-      let e : (failing entry || among q (drop (begin entry) (take end places))) ∷ broken q (take (begin entry) (take end places)) (drop (suc top) stack) ≡ tree_fails (tried t q) tree ∷ [] = rw next at (one q) in
+      let e : (failing entry || among q (drop (begin entry) (take end places)))
+      ∷ broken q (take (begin entry) (take end places)) (drop (suc top) stack)
+      ≡ tree_fails (tried t q) tree ∷ [] = rw next at (one q) in
       let f : (failing entry || among q (drop (begin entry) (take end places))) ≡ tree_fails (tried t q) tree = cc in
       ap (λ n. failing entry || among q (drop n (take end places))) (sym start) ∙ f
 

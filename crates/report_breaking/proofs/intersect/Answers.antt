@@ -69,7 +69,8 @@ module _ {places fs : List ℕ} {base end : ℕ} (g : Children places fs base en
     kept_inside x m = ⊎_elim
         (λ e. g.inside x (among_take x base (take end places) (rw (take-take base end places low) e)))
         (λ e. own_inside x (and_split (among x (own places base end)) _ (sym (found x) ∙ e)).0)
-        (or_split (among x (take base places)) (among x (take r ys)) (sym (among_append x (take base places) (take r ys)) ∙ rw (kept ys r (omega arith)) at m))
+        (or_split (among x (take base places)) (among x (take r ys))
+        (sym (among_append x (take base places) (take r ys)) ∙ rw (kept ys r (omega arith)) at m))
 
 pub offset_bounds-places-base : goal.offset_bounds-places-base
 offset_bounds-places-base c = omega (arith, low c.requires.0, c.requires.0.room, c.well_formed)
@@ -101,5 +102,8 @@ returns c =
     record {
       lower_bound = (omega arith, within g counts some k.new.list k.result long few found, front g k.new.list k.result (omega (arith, few, long)));
       by_index = breaks g counts some k.new.list k.result long few found;
-      in_table = (kept_inside g counts some k.new.list k.result long few found, (k.auto.held ∙ c.hold_all-count.auto.held ∙ p.2.0, k.ensures.by_index));
+      in_table = (
+        kept_inside g counts some k.new.list k.result long few found,
+        (k.auto.held ∙ c.hold_all-count.auto.held ∙ p.2.0, k.ensures.by_index),
+      );
     }

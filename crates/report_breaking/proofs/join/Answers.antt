@@ -159,7 +159,8 @@ returns-then-kind_of-ne4 c =
 pub intersect-requires : goal.intersect-requires
 intersect-requires c =
     let p = c.requires.children in
-    (p.0, some_stand c.args.x c.args.children.now (four (goal.at.intersect-requires c).Else-kind_of-ne4) (lacking (goal.at.intersect-requires c).Else-need-failing-2), p.2)
+    let k = goal.at.intersect-requires c in
+    (p.0, some_stand c.args.x c.args.children.now (four k.Else-kind_of-ne4) (lacking k.Else-need-failing-2), p.2)
 
 pub returns : goal.returns
 returns c =

@@ -67,10 +67,11 @@ module _ (places t : List ℕ) (p end : ℕ) (room : end < length places) (insid
 
 pub returns-then-failed-place-eq1 : goal.returns-then-failed-place-eq1
 returns-then-failed-place-eq1 c =
-    let p = c.requires in
+    let l = c.requires.place_lt_most_literals in
+    let e = c.requires.end_in_bounds in
     let g = c.args in
     record {
-      made = falls g.places.now g.failed.now g.place g.end p.end_in_bounds.0 p.end_in_bounds.2 p.place_lt_most_literals.0 p.place_lt_most_literals.1 c.if-failed-place-eq1.true;
+      made = falls g.places.now g.failed.now g.place g.end e.0 e.2 l.0 l.1 c.if-failed-place-eq1.true;
       end_bound = omega arith;
     }
 
@@ -81,20 +82,22 @@ bounds-failed-opposite_of c =
 
 pub returns-then-failed-opposite_of-eq1 : goal.returns-then-failed-opposite_of-eq1
 returns-then-failed-opposite_of-eq1 c =
-    let p = c.requires in
+    let l = c.requires.place_lt_most_literals in
+    let e = c.requires.end_in_bounds in
     let g = c.args in
-    let e = c.opposite_of.ensures in
+    let o = c.opposite_of.ensures in
     record {
-      made = unasked g.places.now g.failed.now g.place g.end p.end_in_bounds.0 p.end_in_bounds.2 p.place_lt_most_literals.0 p.place_lt_most_literals.1 c.if-failed-place-eq1.false (rw e at c.if-failed-opposite_of-eq1.true);
+      made = unasked g.places.now g.failed.now g.place g.end e.0 e.2 l.0 l.1 c.if-failed-place-eq1.false (rw o at c.if-failed-opposite_of-eq1.true);
       end_bound = omega arith;
     }
 
 pub returns : goal.returns
 returns c =
-    let p = c.requires in
+    let l = c.requires.place_lt_most_literals in
+    let e = c.requires.end_in_bounds in
     let g = c.args in
-    let e = c.opposite_of.ensures in
+    let o = c.opposite_of.ensures in
     record {
-      made = added g.places.now g.failed.now g.place g.end p.end_in_bounds.0 p.end_in_bounds.2 p.place_lt_most_literals.0 p.place_lt_most_literals.1 c.if-failed-place-eq1.false (rw e at c.if-failed-opposite_of-eq1.false);
+      made = added g.places.now g.failed.now g.place g.end e.0 e.2 l.0 l.1 c.if-failed-place-eq1.false (rw o at c.if-failed-opposite_of-eq1.false);
       end_bound = omega arith;
     }

@@ -53,7 +53,8 @@ returns-then-is_literal c =
     let w = pushed h 0 (g.top - 1) r.result.first r.new.places r.result.end at low room r.ensures.made in
     record {
       end_bound = (r.ensures.end_bound, w.0, p.failed_len.1);
-      by_index = λ q. w.1 q ∙ at_literal (tried g.failed.now q) g.x _ c.place_of.ensures (literal (goal.at.returns-then-is_literal c).Then-is_literal);
+      by_index = λ q. w.1 q
+          ∙ at_literal (tried g.failed.now q) g.x _ c.place_of.ensures (literal (goal.at.returns-then-is_literal c).Then-is_literal);
     }
 
 pub returns : goal.returns
@@ -65,9 +66,11 @@ returns c =
     let i : ℕ = g.top + c.children_of.result - 1 in
     let at : suc i ≡ g.top + children g.x = omega (arith, c.children_of.ensures, p.le_top.0) in
     let low : i < length g.stack.now = omega (arith, enough (goal.at.returns c).After-children_of, p.le_top.0) in
-    let room : r.result.end ≤ length r.new.places = omega (arith, r.ensures.end_le_end.0, r.auto.places, p.end_lt_sheet_room.0, p.end_lt_sheet_room.1) in
+    let room : r.result.end ≤ length r.new.places =
+    omega (arith, r.ensures.end_le_end.0, r.auto.places, p.end_lt_sheet_room.0, p.end_lt_sheet_room.1) in
     let w = pushed h (children g.x) i r.result.first r.new.places r.result.end at low room r.ensures.made in
     record {
       end_bound = (omega (arith, r.ensures.end_le_end.0), w.0, r.ensures.end_le_end.1);
-      by_index = λ q. w.1 q ∙ at_inner (tried g.failed.now q) g.x q (take g.end g.places.now) (drop g.top g.stack.now) (inner (goal.at.returns c).Else-is_literal);
+      by_index = λ q. w.1 q
+          ∙ at_inner (tried g.failed.now q) g.x q (take g.end g.places.now) (drop g.top g.stack.now) (inner (goal.at.returns c).Else-is_literal);
     }

@@ -18,7 +18,8 @@ small : (c : After-place_of-own) → c.place_of-own.result < most_literals
 small c =
     let w = c.loop-i.invariant in
     let e = c.wide16-x.ensures.0 in
-    rw (c.place_of-own.ensures ∙ ap place_at e) (literal_place _ w.1 c.loop-i.i w.2.from (omega arith) (literal e c.is_literal.ensures c.if-is_literal.true))
+    rw (c.place_of-own.ensures ∙ ap place_at e)
+    (literal_place _ w.1 c.loop-i.i w.2.from (omega arith) (literal e c.is_literal.ensures c.if-is_literal.true))
 
 pub loop-i-init : goal.loop-i-init
 unfolding used_in

@@ -9,7 +9,8 @@ use Rattle.report_propagation.proofs.follow.Given as goal
 
 abbrev pub invariant-loop-part : goal.invariant-loop-part
 invariant-loop-part l =
-    Formed l.sheet × Parted l.sheet l.ends l.homes × Linked l.sheet l.links × (l.small ≤ l.known) × Following l.sheet l.ends l.seen l.failed l.trail l.known l.large l.turn
+    Formed l.sheet × Parted l.sheet l.ends l.homes × Linked l.sheet l.links × (l.small ≤ l.known)
+    × Following l.sheet l.ends l.seen l.failed l.trail l.known l.large l.turn
 
 abbrev pub decreases-loop-part : goal.decreases-loop-part
 decreases-loop-part l = 8192 * (2 * most_literals - (l.small + l.large)) + l.turn.place

@@ -28,7 +28,8 @@ pub returns-then-failed-other-eq1 : goal.returns-then-failed-other-eq1
 unfolding fresh pick
 returns-then-failed-other-eq1 c =
     let o = c.opposite_of-other in
-    rw (← o.ensures, eq-eqb (get_or c.args.failed.now o.result 0) 1 c.if-failed-other-eq1.true) (record { value = refl; failed_after = refl; trail_after = refl })
+    rw (← o.ensures, eq-eqb (get_or c.args.failed.now o.result 0) 1 c.if-failed-other-eq1.true)
+    (record { value = refl; failed_after = refl; trail_after = refl })
 
 pub bounds-failed-other-2 : goal.bounds-failed-other-2
 bounds-failed-other-2 c = inside (goal.at.bounds-failed-other-2 c).After-opposite_of-other
@@ -43,4 +44,5 @@ pub returns : goal.returns
 unfolding fresh pick
 returns c =
     let o = c.opposite_of-other in
-    rw (← o.ensures, ne_eqb (get_or c.args.failed.now o.result 0) 1 c.if-failed-other-eq1.false) (record { value = refl; failed_after = refl; trail_after = refl })
+    rw (← o.ensures, ne_eqb (get_or c.args.failed.now o.result 0) 1 c.if-failed-other-eq1.false)
+    (record { value = refl; failed_after = refl; trail_after = refl })

@@ -48,7 +48,8 @@ returns-then-other-place c =
     let l = c.loop-i-test.true in
     let stands = c.if-failed-place-ne1.true in
     let e = c.wide16-x.ensures.0 in
-    scanned_two w.0 w.1 w.2 l (literal e c.is_literal.ensures c.if-not-is_literal.false) (placed e c.place_of-place.ensures) stands w.3 c.in-Only.is c.if-other-place.true
+    scanned_two w.0 w.1 w.2 l (literal e c.is_literal.ensures c.if-not-is_literal.false)
+    (placed e c.place_of-place.ensures) stands w.3 c.in-Only.is c.if-other-place.true
 
 pub returns : goal.returns
 returns c = let w = c.loop-i.invariant in scanned_all w.0 w.1 w.2 w.3 c.loop-i-test.false

@@ -22,6 +22,8 @@ loop-i-preserved c =
         | then-end-gt0+in-Known v ↦
             let look = rw e at v.in-Known.ensures in
             rw (v.seen-is, v.failed-is, v.trail-is, v.known-is) (watching_looked w.1 w.2 w.3 l (next i) look)
-        | else-end-gt0 v ↦ rw (v.seen-is, v.failed-is, v.trail-is, v.known-is) (watching_past w.1 w.2 w.3 refl (sym e ∙ omega (arith, v.if-end-gt0.false)))
+        | else-end-gt0 v ↦
+            rw (v.seen-is, v.failed-is, v.trail-is, v.known-is)
+            (watching_past w.1 w.2 w.3 refl (sym e ∙ omega (arith, v.if-end-gt0.false)))
       ],
     )
