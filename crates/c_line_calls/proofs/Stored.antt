@@ -1,6 +1,6 @@
 -- What stands in the lines and the count once a call on a copy of the lines has answered: what its definition says of the lent ones. And what
 -- an accepted call says of them, so that the stores that follow it are legal.
-use mathlib.Core.Bool.{Bool, true, false, not}
+use mathlib.Core.Bool.{Bool, true, false}
 use mathlib.Core.List.{List, ◌++◌, map-append, append_assoc}
 use mathlib.Core.Option.{Option, none, some}
 use mathlib.Core.Path.{◌≡◌, refl, sym, ap, ◌∙◌}
@@ -8,7 +8,7 @@ use Prim.Native.Nat.{ℕ, suc, ◌+◌, ◌-◌, ◌≤◌, ◌<◌, ◌^◌}
 use native.Mathlib.Numerals.{add-one}
 use native.Mathlib.Omega.{arith}
 use borrow.Author.Tests.{eq-eqb, ne_eqb}
-use lib.Dec.{T, eqb}
+use lib.Dec.{eqb}
 use lib.ListN.{length, take, drop, set, length-map}
 use lib.Seq.{take-take}
 use Rattle.model.specs.Base.{pick, placed}
@@ -79,14 +79,6 @@ Told o r ss zs m is =
 -- One of two lists and counts is stored, by whether the answer is 0.
 abbrev pub Left : Bool → List Line → ℕ → List Line → ℕ → List Line → ℕ → Type 0
 Left z ls n full after zs m = (zs ≡ pick z full ls) × (m ≡ pick z after n)
-
-pub holds : (z : Bool) → T z → z ≡ true
-holds true t = refl
-holds false t = absurd t
-
-pub fails : (z : Bool) → T (not z) → z ≡ false
-fails true t = absurd t
-fails false t = refl
 
 pub left_full :
     (z : Bool) (ls : List Line) (n : ℕ) (full : List Line) (after : ℕ) {zs : List Line} →
