@@ -25,7 +25,10 @@ module _ (b : List ℕ) (accepted : Accepted b) where
   unfolding options_of rules_of size_of codes_end contents_end length_due
   head_of = record { options = accepted.options; rules = accepted.rules; nodes = accepted.nodes; long = accepted.long }
 
-  pub loaded_is : sheet_of (options_of b) (book_nodes b) ≡ word b 0 ∷ (word b 4 + 1) ∷ (20480 + word b 2) ∷ words (word b 4) (drop (8 + 13 * word b 0 + 4 * word b 2) b) ++ replicate (most_nodes - word b 4) 0
+  pub loaded_is :
+      let bodies = drop (8 + 13 * word b 0 + 4 * word b 2) b in
+      sheet_of (options_of b) (book_nodes b)
+      ≡ word b 0 ∷ (word b 4 + 1) ∷ (20480 + word b 2) ∷ words (word b 4) bodies ++ replicate (most_nodes - word b 4) 0
   unfolding sheet_of book_nodes numbers_of options_of rules_of size_of codes_end contents_end number_of number conn_kind conn_value
   loaded_is =
       let xs : List ℕ = words (word b 4) (drop (8 + 13 * word b 0 + 4 * word b 2) b) in

@@ -96,7 +96,9 @@ module _ (s : List ℕ) (sheet : Formed s) where
   -- What is written, part by part.
   written_is :
       (b : List ℕ) →
-      written s b ≡ bytes_of (get_or s 0 0 ∷ children (get_or s 2 0) ∷ (get_or s 1 0 - 1) ∷ 0 ∷ []) ++ (take (13 * get_or s 0 0) (drop 8 b) ++ (bytes_of (lined_up 0 (spans (children (get_or s 2 0)) below)) ++ bytes_of below))
+      written s b
+      ≡ bytes_of (get_or s 0 0 ∷ children (get_or s 2 0) ∷ (get_or s 1 0 - 1) ∷ 0 ∷ [])
+      ++ (take (13 * get_or s 0 0) (drop 8 b) ++ (bytes_of (lined_up 0 (spans (children (get_or s 2 0)) below)) ++ bytes_of below))
   unfolding written options_in
   written_is b = rw (rules_are, numbers_are, size_is, spans_are, length_below)
 
@@ -137,7 +139,15 @@ module _ (s b : List ℕ) (sheet : Formed s) (book : Accepted b) (same : options
       let codes : List ℕ = take (13 * get_or s 0 0) (drop 8 b) in
       let contents : List ℕ = bytes_of (lined_up 0 (spans m xs)) in
       ap length (written_is s sheet b)
-      ∙ omega (arith, length-append codes (contents ++ bytes_of xs), length-append contents (bytes_of xs), length_codes, length_contents m xs, length_bytes xs, length_below s sheet)
+      ∙ omega (
+        arith,
+        length-append codes (contents ++ bytes_of xs),
+        length-append contents (bytes_of xs),
+        length_codes,
+        length_contents m xs,
+        length_bytes xs,
+        length_below s sheet,
+      )
 
   -- What is written, from what is read of the sheet and of the other book.
   pub written_from :
@@ -147,7 +157,9 @@ module _ (s b : List ℕ) (sheet : Formed s) (book : Accepted b) (same : options
       t ≡ used_in s - 1 →
       codes ≡ take (13 * n) (drop 8 b) →
       xs ≡ take t (drop 3 s) →
-      (bytes_of (n ∷ m ∷ t ∷ 0 ∷ []) ++ (codes ++ (bytes_of (lined_up 0 (spans m xs)) ++ bytes_of xs))) ++ drop (8 + (length codes + (4 * m + 2 * length xs))) old ≡ placed (written s b) old
+      (bytes_of (n ∷ m ∷ t ∷ 0 ∷ []) ++ (codes ++ (bytes_of (lined_up 0 (spans m xs)) ++ bytes_of xs)))
+      ++ drop (8 + (length codes + (4 * m + 2 * length xs))) old
+      ≡ placed (written s b) old
   unfolding placed options_in used_in
   written_from codes xs old e f g p q =
       rw (p, q, e, f, g, length_codes, length_below s sheet, ← length_written, ← written_is s sheet b)

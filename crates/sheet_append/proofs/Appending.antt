@@ -40,13 +40,15 @@ appended n k ns l form room =
     let wide : length (map number_of ns) + 1 ≡ suc (length ns) = omega (arith, length-map ns number_of) in
     let written = three_set n (suc (length ns)) (conn_kind root * kind_factor + k) (number_of (leaf l)) z (map number_of ns) wide in
     let tail : map number_of (ns ++ (leaf l ∷ [])) ++ replicate z 0 ≡ map number_of ns ++ (number_of (leaf l) ∷ replicate z 0) =
-    ap (λ xs. xs ++ replicate z 0) (map-append number_of ns (leaf l ∷ [])) ∙ append_assoc (map number_of ns) (number_of (leaf l) ∷ []) (replicate z 0) in
+    ap (λ xs. xs ++ replicate z 0) (map-append number_of ns (leaf l ∷ []))
+    ∙ append_assoc (map number_of ns) (number_of (leaf l) ∷ []) (replicate z 0) in
     let head_more : conn_kind root * kind_factor + suc k ≡ conn_kind root * kind_factor + k + 1 = omega arith in
     rw zeros
     (written
     ∙ sym
     (ap (sheet_of n) (chosen_flat l form)
-    ∙ ap₂ (λ m xs. n ∷ m ∷ (conn_kind root * kind_factor + suc k) ∷ xs) more (ap (λ w. map number_of (ns ++ (leaf l ∷ [])) ++ replicate w 0) left ∙ tail)
+    ∙ ap₂ (λ m xs. n ∷ m ∷ (conn_kind root * kind_factor + suc k) ∷ xs) more
+    (ap (λ w. map number_of (ns ++ (leaf l ∷ [])) ++ replicate w 0) left ∙ tail)
     ∙ ap (λ r. n ∷ (suc (length ns) + 1) ∷ r ∷ map number_of ns ++ (number_of (leaf l) ∷ replicate z 0)) head_more))
 
 -- What a sheet with room for a literal has at its first places.

@@ -6,7 +6,8 @@ use native.Mathlib.Nat.{add-zero}
 use native.Mathlib.Numerals.{add-one}
 use native.Mathlib.Omega.{arith}
 use lib.ListN.{length, get_or, take, drop, set, replicate, length-set, length-append, length-drop, take-append-drop, get_or-append, get_or-map}
-use lib.Seq.{slice, paste, paste-zero, paste-suc, drop-paste, get_or-drop, get_or-take, take_all, take-suc, append_snoc, set_at, length-take-le, take_at, drop-cons}
+use lib.Seq.{slice, paste, paste-zero, paste-suc, drop-paste, get_or-drop, get_or-take}
+use lib.Seq.{take_all, take-suc, append_snoc, set_at, length-take-le, take_at, drop-cons}
 use borrow.Author.Tests.{eq-eqb, ne_eqb}
 use Rattle.model.specs.Base.{pick}
 use Rattle.model.specs.Book.{characters}
@@ -32,7 +33,8 @@ module _ {d : List ℕ} {start end : ℕ} {src : List ℕ} {i : ℕ} {s : List �
   pub written_more : (z v : ℕ) → i < end → v ≡ get_or src w.count z → Written d start end src (i + 1) (set s i v)
   written_more z v h e =
       let k = w.count in
-      let next : set (paste d start src k) (start + k) (get_or src k z) ≡ paste d start src (suc k) = paste-suc d start src k z (omega arith) (omega arith) in
+      let next : set (paste d start src k) (start + k) (get_or src k z) ≡ paste d start src (suc k) =
+      paste-suc d start src k z (omega arith) (omega arith) in
       record {
         count = suc k;
         place = omega arith;
@@ -50,7 +52,9 @@ module _ {d : List ℕ} {start end : ℕ} {src : List ℕ} {i : ℕ} {s : List �
       let m = j - i in
       let e : j ≡ start + k + m = omega arith in
       let same : get_or (paste d start src k) (start + k + m) 0 ≡ get_or d (start + k + m) 0 =
-      sym (get_or-drop (start + k) (paste d start src k) m 0) ∙ ap (λ l. get_or l m 0) (drop-paste d start src k (omega arith) (omega arith)) ∙ get_or-drop (start + k) d m 0 in
+      sym (get_or-drop (start + k) (paste d start src k) m 0)
+      ∙ ap (λ l. get_or l m 0) (drop-paste d start src k (omega arith) (omega arith))
+      ∙ get_or-drop (start + k) d m 0 in
       rw (w.made, e) same
 
   -- After the last is written.
@@ -68,7 +72,8 @@ pub written_mapped :
     Written d start end (map f (slice start end d)) (i + 1) (set s i v)
 written_mapped {d} {start} {end} {i} f v w h e =
     let k = w.count in
-    let part : get_or (slice start end d) k 0 ≡ get_or d (start + k) 0 = get_or-drop start (take end d) k 0 ∙ get_or-take end d (start + k) 0 (omega arith) in
+    let part : get_or (slice start end d) k 0 ≡ get_or d (start + k) 0 =
+    get_or-drop start (take end d) k 0 ∙ get_or-take end d (start + k) 0 (omega arith) in
     let new : get_or (map f (slice start end d)) k (f 0) ≡ f (get_or d (start + k) 0) = get_or-map f (slice start end d) k 0 ∙ ap f part in
     written_more w (f 0) v h (e ∙ rw (written_ahead w i (omega arith), new, w.place))
 
@@ -99,7 +104,9 @@ module _ {d : List ℕ} {from i : ℕ} {s : List ℕ} (o : Opened d from i s) wh
       let v = get_or s j 0 in
       let r = take (from - i) (drop i d) ++ drop (from + 1) d in
       let read : v ≡ get_or d j 0 =
-      ap (λ l. get_or l j 0) o.made ∙ get_or-append (take (suc i) d) r 0 j (rw (length-take-le (suc i) d (omega arith)) (omega arith)) ∙ get_or-take (suc i) d j 0 (omega arith) in
+      ap (λ l. get_or l j 0) o.made
+      ∙ get_or-append (take (suc i) d) r 0 j (rw (length-take-le (suc i) d (omega arith)) (omega arith))
+      ∙ get_or-take (suc i) d j 0 (omega arith) in
       let left : from - j ≡ suc (from - i) = omega arith in
       record {
         within = omega arith;

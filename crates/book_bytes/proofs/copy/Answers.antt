@@ -17,7 +17,11 @@ loop-i-preserved c =
     let i = c.loop-i.i in (
       omega arith,
       simp length-set c.loop-i.invariant.1,
-      start_more (take i s) (take (i + 1) s) old (get_or s i 0) (rw (add-one i) (take-suc s i 0 (omega arith))) (length-take-le i s (omega arith)) (omega arith) c.loop-i.invariant.2,
+      start_more (take i s) (take (i + 1) s) old (get_or s i 0)
+          (rw (add-one i) (take-suc s i 0 (omega arith)))
+          (length-take-le i s (omega arith))
+          (omega arith)
+          c.loop-i.invariant.2,
     )
 
 pub returns : goal.returns

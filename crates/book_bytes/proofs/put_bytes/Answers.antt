@@ -23,7 +23,9 @@ loop-i-preserved c =
     let two : 2 * (i + 1) ≡ 2 * i + 2 = omega arith in (
       omega arith,
       omega (arith, put.auto.out),
-      put.ensures ∙ rw (wide.ensures.0, two, add-one i, take-suc s i 0) (bytes_more (take i s) old (get_or s i 0) (omega (arith, length-take-le i s (omega arith))) (omega arith) c.loop-i.invariant.2),
+      put.ensures
+          ∙ rw (wide.ensures.0, two, add-one i, take-suc s i 0)
+          (bytes_more (take i s) old (get_or s i 0) (omega (arith, length-take-le i s (omega arith))) (omega arith) c.loop-i.invariant.2),
     )
 
 pub returns : goal.returns

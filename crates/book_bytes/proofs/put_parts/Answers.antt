@@ -18,5 +18,8 @@ returns c =
     let old = c.args.out.now in
     let copy = c.copy in
     let trees = c.put_trees in
-    lent_start codes old refl (copy.ensures ∙ rw (take-length codes)) (bytes_of (lined_up 0 (spans m s)) ++ bytes_of s) (4 * m + 2 * length s) (omega arith)
+    lent_start codes old refl (copy.ensures ∙ rw (take-length codes))
+    (bytes_of (lined_up 0 (spans m s)) ++ bytes_of s)
+    (4 * m + 2 * length s)
+    (omega arith)
     trees.ensures

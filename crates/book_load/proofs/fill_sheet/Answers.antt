@@ -60,4 +60,6 @@ returns c =
     let front : List ℕ = o.result ∷ (t.result + 1) ∷ (20480 + m.result) ∷ [] in
     lent_after front old refl three.ensures fill.new.out (omega arith)
     ∙ ap (λ r. front ++ r) fill.ensures
-    ∙ loaded_from b c.requires.0 _ o.ensures m.ensures t.ensures (lent_part (8 + 13 * o.result + 4 * m.result) b) (simp (length-take, length-drop) (omega arith))
+    ∙ loaded_from b c.requires.0 _ o.ensures m.ensures t.ensures
+    (lent_part (8 + 13 * o.result + 4 * m.result) b)
+    (simp (length-take, length-drop) (omega arith))

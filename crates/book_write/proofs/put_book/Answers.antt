@@ -20,7 +20,8 @@ parts_fit :
     t ≤ most_nodes →
     8 + 13 * n ≤ length b →
     8 + (13 * n + (4 * m + 2 * t)) ≤ length l →
-    (length (mid_of 3 (3 + t - 3) s) ≤ sheet_room) × (length (mid_of 8 (8 + 13 * n - 8) b) + (4 * m + 2 * length (mid_of 3 (3 + t - 3) s)) ≤ length (mid_of 8 (length l - 8) l))
+    let nodes = length (mid_of 3 (3 + t - 3) s) in
+    (nodes ≤ sheet_room) × (length (mid_of 8 (8 + 13 * n - 8) b) + (4 * m + 2 * nodes) ≤ length (mid_of 8 (length l - 8) l))
 parts_fit s b l n m t whole few codes room =
     let xs = mid_len 3 (3 + t) s (omega arith) in
     let cs = mid_len 8 (8 + 13 * n) b codes in
@@ -79,6 +80,14 @@ returns c =
     let head = c.put_head in
     let wide : 8 + 13 * n - 8 ≡ 13 * n = omega arith in
     let count : 3 + t - 3 ≡ t = omega arith in
-    lent_start (bytes_of (n ∷ m ∷ t ∷ 0 ∷ [])) old refl head.ensures (codes ++ (bytes_of (lined_up 0 (spans m xs)) ++ bytes_of xs)) (length codes + (4 * m + 2 * length xs)) (omega (arith, known (goal.at.returns c).After-rules_in-m, head.auto.out))
+    lent_start (bytes_of (n ∷ m ∷ t ∷ 0 ∷ [])) old refl head.ensures
+    (codes ++ (bytes_of (lined_up 0 (spans m xs)) ++ bytes_of xs))
+    (length codes + (4 * m + 2 * length xs))
+    (omega (arith, known (goal.at.returns c).After-rules_in-m, head.auto.out))
     c.put_parts.ensures
-    ∙ written_from s b c.requires.formed c.requires.accepted.0 c.requires.accepted.1 codes xs old c.options_in-n.ensures.0 c.rules_in-m.ensures.0 c.nodes_below-t.ensures.0 (ap (λ k. take k (drop 8 b)) wide) (ap (λ k. take k (drop 3 s)) count)
+    ∙ written_from s b c.requires.formed c.requires.accepted.0 c.requires.accepted.1 codes xs old
+    c.options_in-n.ensures.0
+    c.rules_in-m.ensures.0
+    c.nodes_below-t.ensures.0
+    (ap (λ k. take k (drop 8 b)) wide)
+    (ap (λ k. take k (drop 3 s)) count)

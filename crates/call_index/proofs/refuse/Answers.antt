@@ -26,9 +26,11 @@ is_short-requires c = c.requires (not_early _ (sym c.refuses_early.ensures ∙ c
 pub returns-then-is_short : goal.returns-then-is_short
 returns-then-is_short c =
     let late = not_early _ (sym c.refuses_early.ensures ∙ c.if-refuses_early.false) in
-    refused_short _ _ _ late (sym c.is_stale.ensures ∙ c.if-is_stale.false) (ap due_of c.in-Accepted.is) (sym c.is_short.ensures ∙ c.if-is_short.true)
+    let fresh = sym c.is_stale.ensures ∙ c.if-is_stale.false in
+    refused_short _ _ _ late fresh (ap due_of c.in-Accepted.is) (sym c.is_short.ensures ∙ c.if-is_short.true)
 
 pub returns-else-is_short : goal.returns-else-is_short
 returns-else-is_short c =
     let late = not_early _ (sym c.refuses_early.ensures ∙ c.if-refuses_early.false) in
-    accepted_with _ _ _ late (sym c.is_stale.ensures ∙ c.if-is_stale.false) (ap due_of c.in-Accepted.is) (sym c.is_short.ensures ∙ c.if-is_short.false)
+    let fresh = sym c.is_stale.ensures ∙ c.if-is_stale.false in
+    accepted_with _ _ _ late fresh (ap due_of c.in-Accepted.is) (sym c.is_short.ensures ∙ c.if-is_short.false)

@@ -7,7 +7,8 @@ use Rattle.sheet_shifts.proofs.Shifting.{Written}
 use Rattle.sheet_shifts.proofs.assign.Given as goal
 
 abbrev pub invariant-loop-i : goal.invariant-loop-i
-invariant-loop-i l = Written l.initial.s l.from l.to (map (replaced l.same l.opposite l.for_same l.for_opposite) (slice l.from l.to l.initial.s)) l.i l.s
+invariant-loop-i l =
+    Written l.initial.s l.from l.to (map (replaced l.same l.opposite l.for_same l.for_opposite) (slice l.from l.to l.initial.s)) l.i l.s
 
 abbrev pub decreases-loop-i : goal.decreases-loop-i
 decreases-loop-i l = l.to - l.i

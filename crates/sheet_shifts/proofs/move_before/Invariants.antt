@@ -1,4 +1,5 @@
--- `sheet_shifts::move_before` meets its contract. Invariant: the numbers from the place `i` up to `from` stand one place to the right, so the place `i` is free.
+-- `sheet_shifts::move_before` meets its contract. Invariant: the numbers from the place `i` up to `from` stand one place to the right,
+-- so the place `i` is free.
 use Prim.Native.Nat.{◌≤◌}
 use Rattle.sheet_shifts.proofs.Shifting.{Opened}
 use Rattle.sheet_shifts.proofs.move_before.Given as goal

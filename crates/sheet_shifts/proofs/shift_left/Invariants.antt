@@ -1,4 +1,5 @@
--- `sheet_shifts::shift_left` meets its contract. Invariant: up to the place `i` stand the old numbers without those that were skipped; the rest is untouched.
+-- `sheet_shifts::shift_left` meets its contract. Invariant: up to the place `i` stand the old numbers without those that were skipped;
+-- the rest is untouched.
 use Prim.Native.Nat.{◌+◌, ◌-◌}
 use lib.ListN.{drop}
 use Rattle.sheet_shifts.proofs.Shifting.{Written}
