@@ -101,7 +101,8 @@ module _ {s sizes t : List ℕ} (w : Tabled s sizes t) where
         r < rule + 1 →
         none ≡ least_i r place (decode (drop place (nodes_in s)))
     tells_more {rule} come e r one lt =
-        below_more (λ k. 1 ≤ k → none ≡ least_i k place (decode (drop place (nodes_in s)))) rule (λ k l m. bound_tells k m (omega arith)) (λ m. e) r lt one
+        below_more (λ k. 1 ≤ k → none ≡ least_i k place (decode (drop place (nodes_in s)))) rule (λ k l m. bound_tells k m (omega arith))
+        (λ m. e) r lt one
 
     -- The bound rises to a number below which no rule applies.
     pub raised_to :
@@ -155,7 +156,8 @@ pub literal_none :
 literal_none {s} h p lt it r =
     let w = sheet_spelled h p (omega arith) in
     let f = decode (drop p (nodes_in s)) in
-    let here : is_literal (get_or (spell f w.0) 0 0) ≡ true = ap (λ xs. is_literal (get_or xs 0 0)) (sym w.1) ∙ ap is_literal (first_left (2 + p) s) ∙ it in
+    let here : is_literal (get_or (spell f w.0) 0 0) ≡ true =
+    ap (λ xs. is_literal (get_or xs 0 0)) (sym w.1) ∙ ap is_literal (first_left (2 + p) s) ∙ it in
     literal_quiet r p f (first_is f w.0 w.2 here).1
 
 -- A rule for another kind of node does not apply.
@@ -172,7 +174,8 @@ kind_none {s} h p lt r other =
     let l = drop (2 + p) s in
     let w = sheet_stretch s p h (omega arith) in
     let off : headed r l ≡ false =
-    ap (λ b. b && leb (fewest_for r) (children (get_or l 0 0))) (ne_eqb (kind (get_or l 0 0)) (kind_for r) (λ e. other (sym e ∙ ap kind (first_left (2 + p) s)))) in
+    ap (λ b. b && leb (fewest_for r) (children (get_or l 0 0)))
+    (ne_eqb (kind (get_or l 0 0)) (kind_for r) (λ e. other (sym e ∙ ap kind (first_left (2 + p) s)))) in
     i_never r p (forest_in l) (head_wrong r w.0 off) ∙ ap (least_i r p) w.1
 
 -- Where the search has come to a rule and a place: before the place the rule applies nowhere, and no lower rule applies at all.

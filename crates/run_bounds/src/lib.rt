@@ -1,6 +1,7 @@
 // The strategy's search by bounds: beside each place a number below which no rule applies there, so that a place is tried again only
 // where its bound was lowered.
 #![tactic(auto)]
+
 ghost use Rattle.std.specs.Prelude.{◌≡◌, false, ℕ, ◌+◌, ◌≤◌, ◌<◌, length, get_or, drop};
 ghost use Rattle.std.proofs.Math.Option.{none};
 ghost use Rattle.model.specs.Limits.{sheet_room, last_rule, no_rule};

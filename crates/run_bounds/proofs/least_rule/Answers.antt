@@ -1,0 +1,48 @@
+use mathlib.Core.Bool.{true}
+use mathlib.Core.Option.{none}
+use mathlib.Core.Path.{◌≡◌, sym, ap, ◌∙◌}
+use Prim.Native.Nat.{ℕ, ◌+◌, ◌<◌}
+use native.Mathlib.Omega.{arith}
+use lib.ListN.{get_or, drop}
+use Rattle.model.specs.Code.{kind, decode}
+use Rattle.model.specs.Limits.{sheet_room}
+use Rattle.model.specs.Sheet.{nodes_in}
+use Rattle.model.specs.Strategy.{least_i}
+use Rattle.theory_forms.specs.Scan.{is_literal}
+use Rattle.search_sizes.specs.Ranges.{range_more}
+use Rattle.run_bounds.proofs.RisingBounds.{literal_none, kind_none}
+use Rattle.run_bounds.proofs.least_rule.Goals as goal
+use Rattle.run_bounds.proofs.least_rule.Goals.{Start, then-kind_for-kind+in_default, else-kind_for-kind}
+
+-- The place has an entry.
+room : (c : goal.Start) → c.args.place < sheet_room
+room c = omega (arith, c.requires.place_bound, c.requires.measured.sheet.used)
+
+pub overflow_add-from : goal.overflow_add-from
+overflow_add-from c = omega (arith, room (goal.at.overflow_add-from c).Start)
+
+pub offset_bounds-sheet-from : goal.offset_bounds-sheet-from
+offset_bounds-sheet-from c = omega (arith, room (goal.at.offset_bounds-sheet-from c).Start)
+
+pub bounds-sheet-from : goal.bounds-sheet-from
+bounds-sheet-from c = omega (arith, room (goal.at.bounds-sheet-from c).Start, c.requires.measured.sheet.whole)
+
+pub returns-then-is_literal : goal.returns-then-is_literal
+returns-then-is_literal c =
+    let p = c.requires in
+    let a = c.args in
+    let it : is_literal (get_or a.sheet.now (2 + a.place) 0) ≡ true =
+    sym (c.is_literal.ensures ∙ ap is_literal c.wide16-head.ensures.0) ∙ c.if-is_literal.true in
+    (p.le_start.1, omega arith, λ s l m. literal_none p.measured.sheet a.place p.place_bound it s)
+
+pub loop-rule-preserved : goal.loop-rule-preserved
+loop-rule-preserved c =
+    let a = c.args in
+    let i = c.loop-rule.invariant in
+    let P : ℕ → Type 0 = λ s. none ≡ least_i s a.place (decode (drop a.place (nodes_in a.sheet.now))) in
+    let here : P c.loop-rule.rule = elim c.if-kind_for-kind.branch [
+      | then-kind_for-kind+in_default w ↦ w.in_default.ensures
+      | else-kind_for-kind w ↦ kind_none c.requires.measured.sheet a.place c.requires.place_bound c.loop-rule.rule
+          (λ e. w.if-kind_for-kind.false (c.kind_for.ensures ∙ e ∙ ap kind (sym c.wide16-head.ensures.0) ∙ sym c.kind_of-kind.ensures))
+    ] in
+    (omega (arith, i.0), omega arith, range_more P c.loop-rule.rule i.2 here)
