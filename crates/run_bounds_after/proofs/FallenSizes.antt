@@ -41,7 +41,8 @@ falls_same to place by t u same w =
     }
 
 -- The whole: table t, table o with its entries moved and ones after them, and table u with its first sizes fallen.
-module _ (to place new old : ℕ) (t o u : List ℕ) (long : length t ≡ sheet_room) (order : to ≤ new) (down : new ≤ old) (inside : old ≤ sheet_room) where
+module _ (to place new old : ℕ) (t o u : List ℕ) (long : length t ≡ sheet_room) (order : to ≤ new) (down : new ≤ old)
+    (inside : old ≤ sheet_room) where
   abbrev back : ℕ
   back = old - new
 

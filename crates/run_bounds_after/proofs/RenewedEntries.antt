@@ -25,7 +25,9 @@ ones_none from t = record { ones = λ q a b. absurd (omega arith); before = λ q
 pub ones_more : (from to : ℕ) (t u : List ℕ) → from ≤ to → to < length u → Ones from to t u → Ones from (to + 1) t (set u to 1)
 ones_more from to t u le l o =
     record {
-      ones = λ q a b. ⊎_elim (λ e. let same : q ≡ to = eqb-true q to e in ap (λ k. get_or (set u to 1) k 0) same ∙ get_or-set_same u to 1 0 l) (λ e. let other : q ≡ to → ⊥ = eqb-false q to e in get_or-set_other u to q 1 0 other ∙ o.ones q a (omega (arith, other))) (either (eqb q to));
+      ones = λ q a b. ⊎_elim (λ e. let same : q ≡ to = eqb-true q to e in ap (λ k. get_or (set u to 1) k 0) same ∙ get_or-set_same u to 1 0 l)
+          (λ e. let other : q ≡ to → ⊥ = eqb-false q to e in get_or-set_other u to q 1 0 other ∙ o.ones q a (omega (arith, other)))
+          (either (eqb q to));
       before = λ q a. get_or-set_other u to q 1 0 (λ e. omega arith) ∙ o.before q a;
       after = λ q a. get_or-set_other u to q 1 0 (λ e. omega arith) ∙ o.after q (omega arith);
     }

@@ -96,7 +96,8 @@ module _ (s : List ℕ) (h : Formed s) (x : Redex) (a : Applies x s) where
             (step_after x.rule x.place x.i x.j ns one did q (omega arith) ∙ ap (λ k. drop k ns) sum, omega (arith, w.moved_by));
         shift = λ k. omega (arith, w.moved_by);
         level = λ l. omega (arith, level_zone x.rule x.place x.i x.j ns ms l);
-        spread = λ low top. let its = sym e ∙ ap (λ k. zone k x.place x.i x.j ns ms) (family_9 x.rule low top) in (ap (λ k. k.from) its, ap (λ k. k.new) its);
+        spread = λ low top. let its = sym e ∙ ap (λ k. zone k x.place x.i x.j ns ms) (family_9 x.rule low top) in
+            (ap (λ k. k.from) its, ap (λ k. k.new) its);
       }
 
   it : Turned (family_at x.rule) x.place x.i x.j (nodes_in s) (after_step x (nodes_in s))

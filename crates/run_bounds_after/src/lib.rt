@@ -2,6 +2,7 @@
 // entries moved and those that may be too high back at 1; after a step of rule 9 or 10, those of the nodes that have got a constant
 // among their children back at 1; and the table of sizes with its entries moved and those of the trees that lost nodes lower.
 #![tactic(auto)]
+
 ghost use Rattle.std.specs.Prelude.{◌≡◌, false, ℕ, ◌+◌, ◌-◌, ◌≤◌, ◌<◌, length, get_or, drop};
 ghost use Rattle.model.specs.Limits.{sheet_room};
 ghost use Rattle.model.specs.Forest.{size, kids};
