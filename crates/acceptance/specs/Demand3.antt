@@ -17,9 +17,9 @@ use Rattle.calls.specs.Lines.{Line, State, counted}
 use Rattle.calls.specs.Calls.{Ran, check_of, load_of, report_of, run_with}
 use Rattle.calls.specs.Index.{fresh_count}
 use Rattle.calls.specs.History.{Call, run, after_calls, Account, loaded, account_calls, meaning, is_stretch, steps_of, ends_settled}
-use Rattle.promise.specs.Lists as lists
-use Rattle.promise.specs.Runs as runs
-use Rattle.promise.specs.Order as order
+use Rattle.promise.proofs.Lists as lists
+use Rattle.promise.proofs.Runs as runs
+use Rattle.promise.proofs.Order as order
 
 module _
     (book target : List ℕ)

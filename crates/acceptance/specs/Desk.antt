@@ -14,7 +14,7 @@ use Rattle.calls.specs.History.{choice_clauses}
 use Rattle.calls.specs.Desk.{lines, keyed, all_keyed, with_no_lines, line, refused_word, first_line, option_lines}
 use Rattle.calls.specs.Desk.{desk_budget, screen_length, desk_of}
 use Rattle.theory_meaning.specs.ExactReports.{report_tells}
-use Rattle.promise.specs.Desk as desks
+use Rattle.promise.proofs.Desk as desks
 
 -- The program "reads `book.bin`", "then choices from standard input, one a line"; it "keys them in order, then makes one run with a budget
 -- of 100,000". Document 02, U2: it "begins with an empty list".

@@ -11,6 +11,7 @@ use Rattle.calls.specs.Calls.{check_of, load_of, key_with, withdraw_with, run_wi
 use Rattle.calls.specs.History.{Call, key, withdraw, after_call, after_calls, loaded, account_calls, is_stretch}
 use Rattle.call_laws.specs.Rekeyed.{keying, keyings}
 use Rattle.promise.specs.Withdrawals as withdrawals
+use Rattle.promise.proofs.Withdrawals as withdrawal_proofs
 
 -- The calls that key lines in order (`keyings`), each lent the fresh count of its sheet as its index.
 pub no_line_is_no_call : (t : State) → keyings [] t ≡ []
@@ -75,4 +76,4 @@ pub taken_back_as_never_keyed :
     (out_has_room : options_of book ≤ length out) →
     report_of (after_calls (before ++ (key index v negative ∷ (between ++ (withdraw book index' here.count ∷ [])))) start).sheet out
     ≡ report_of here.sheet out
-taken_back_as_never_keyed = withdrawals.taken_back_as_never_keyed
+taken_back_as_never_keyed = withdrawal_proofs.taken_back_as_never_keyed

@@ -15,6 +15,7 @@ use Rattle.calls.specs.Conditions.{has_lines_in_order}
 use Rattle.calls.specs.Calls.{check_of, load_of, complete_of}
 use Rattle.calls.specs.History.{Call, after_calls, Account, loaded, account_calls, meaning}
 use Rattle.promise.specs.Complete as promised
+use Rattle.promise.proofs.Complete.{complete_as_pair}
 
 -- The clauses of n options are not contradictory, and every option that is named is derived in or out.
 abbrev pub Complete : ℕ → List Clause → (ℕ → Bool) → Type 0
@@ -25,11 +26,8 @@ Complete n cs named =
     (is_named : named v ≡ true) →
     Derived cs (pos v) ⊎ Derived cs (neg v))
 
-as_promised : (n : ℕ) (cs : List Clause) (named : ℕ → Bool) → promised.Complete n cs named ↔ Complete n cs named
-as_promised n cs named = ((λ c. (c.consistent, c.decided)), λ c. record { consistent = c.0; decided = c.1 })
-
-not_as_promised : {A B : Type 0} → A ↔ B → (A → ⊥) ↔ (B → ⊥)
-not_as_promised w = ((λ no b. no (w.1 b)), λ no a. no (w.0 a))
+not_either : {A B : Type 0} → A ↔ B → (A → ⊥) ↔ (B → ⊥)
+not_either w = ((λ no b. no (w.1 b)), λ no a. no (w.0 a))
 
 -- A sheet, an accepted book of its N and lines in order are lent. "The mention is judged on the book and the choices": `is_named` asks the
 -- lent book and the counted lines, and what the sheet itself names plays no part.
@@ -53,13 +51,13 @@ module _
     pub complete_exactly :
         (complete_of order book ≡ accepted true)
         ↔ Complete (options_in order.sheet) (clauses_in order.sheet) (is_named book (counted order))
-    complete_exactly = Iff.trans (promised.complete_exact order book lent).says_complete (as_promised _ _ _)
+    complete_exactly = Iff.trans (promised.complete_exact order book lent).says_complete (complete_as_pair _ _ _)
 
     pub incomplete_exactly :
         (complete_of order book ≡ accepted false)
         ↔ (Complete (options_in order.sheet) (clauses_in order.sheet) (is_named book (counted order)) → ⊥)
     incomplete_exactly =
-        Iff.trans (promised.complete_exact order book lent).says_incomplete (not_as_promised (as_promised _ _ _))
+        Iff.trans (promised.complete_exact order book lent).says_incomplete (not_either (complete_as_pair _ _ _))
 
     -- What was complete by document 01's words, "not contradictory and every option is 1 or 2", is complete now.
     pub complete_as_before :
@@ -94,7 +92,7 @@ module _
     complete_after o =
         Iff.trans
         ((promised.complete_after book target lines count book_accepted target_long_enough calls).says o).says_complete
-        (as_promised _ _ _)
+        (complete_as_pair _ _ _)
 
     pub incomplete_after :
         (lines_in_order : has_lines_in_order end ≡ true) →
@@ -103,7 +101,7 @@ module _
     incomplete_after o =
         Iff.trans
         ((promised.complete_after book target lines count book_accepted target_long_enough calls).says o).says_incomplete
-        (not_as_promised (as_promised _ _ _))
+        (not_either (complete_as_pair _ _ _))
 
     pub else_refused :
         (lines_not_in_order : has_lines_in_order end ≡ false) →

@@ -15,7 +15,8 @@ use Rattle.call_laws.specs.Valuations.{same_both, same_report}
 use Rattle.call_laws.specs.Effects.{kept_options}
 use Rattle.call_laws.specs.Reordered.{reordered_models, reordered_choices}
 use Rattle.promise.specs.Reports.{reported}
-use Rattle.promise.specs.Lists.{order_of, loaded_agrees, demand_3}
+use Rattle.promise.specs.Lists.{order_of, loaded_agrees}
+use Rattle.promise.proofs.Lists.{demand_3}
 
 -- Two accepted books of one N, any lines, any two lists of calls. Where the books that the two accounts end with have the same bodies in
 -- any order (`List.Permᴰ`: the library's permutations), and their choices are the same in any order, the reports are the same, byte for
