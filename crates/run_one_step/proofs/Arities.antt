@@ -46,9 +46,12 @@ module _ (c : Conn) (l : Literal) where
   arms_assigned : (f : Forest) → arms (assigned c l f) ≡ arms f
   unfolding size assigned encode
   arms_assigned nil = refl
-  arms_assigned (lit x f) = let h = ap (λ xs. 0 ∷ xs) (arms_assigned f) in assigned_lit (λ g. arms g ≡ 0 ∷ arms f) c l x f (λ e. h) (λ e. h) (λ e o. h)
+  arms_assigned (lit x f) = let h = ap (λ xs. 0 ∷ xs) (arms_assigned f) in
+      assigned_lit (λ g. arms g ≡ 0 ∷ arms f) c l x f (λ e. h) (λ e. h) (λ e o. h)
   arms_assigned (node d k f) =
-      ap₂ ◌∷◌ (size_assigned c l k) (map-append below (encode (assigned c l k)) (encode (assigned c l f)) ∙ ap₂ ◌++◌ (arms_assigned k) (arms_assigned f) ∙ sym (map-append below (encode k) (encode f)))
+      ap₂ ◌∷◌ (size_assigned c l k)
+      (map-append below (encode (assigned c l k)) (encode (assigned c l f))
+      ∙ ap₂ ◌++◌ (arms_assigned k) (arms_assigned f) ∙ sym (map-append below (encode k) (encode f)))
 
   -- The children of a node, but for one literal among them.
   module _ (a b : Forest) where
@@ -77,7 +80,9 @@ turned_arms p i j ns ms w =
     let sizes : size m ≡ size k = children_size c l.0 a b ∙ ap size stays in
     let same : arms m ≡ arms k = children_arms c l.0 a b ∙ ap arms stays in
     let tree : arms (w.new ⊕ w.rest) ≡ arms (node c k w.rest) =
-    ap (λ g. arms (g ⊕ w.rest)) (sym made) ∙ ap₂ ◌∷◌ sizes (map-append below (encode m) (encode w.rest) ∙ ap (λ xs. xs ++ arms w.rest) same ∙ sym (map-append below (encode k) (encode w.rest))) in
+    ap (λ g. arms (g ⊕ w.rest)) (sym made) ∙
+    ap₂ ◌∷◌ sizes
+    (map-append below (encode m) (encode w.rest) ∙ ap (λ xs. xs ++ arms w.rest) same ∙ sym (map-append below (encode k) (encode w.rest))) in
     ap (map below) w.became
     ∙ map-append below w.before (encode (w.new ⊕ w.rest))
     ∙ ap (λ xs. map below w.before ++ xs) tree

@@ -30,7 +30,8 @@ use Rattle.run_one_step.specs.Foreseen.{Foreseen}
 use Rattle.run_one_step.specs.Followed.{Spared, Followed}
 use Rattle.run_one_step.proofs.Quiets.{quiet_from, quiet_to}
 
-module _ (s : List ℕ) (h : Formed s) (x : Redex) (a : Applies x s) {p : Plan} (f : Foreseen x (nodes_in s) p) (low up : List ℕ) (n : Followed x.rule p (after_step x (nodes_in s)) low up) where
+module _ (s : List ℕ) (h : Formed s) (x : Redex) (a : Applies x s) {p : Plan} (f : Foreseen x (nodes_in s) p) (low up : List ℕ)
+    (n : Followed x.rule p (after_step x (nodes_in s)) low up) where
   -- How far the entries after the zone have moved, and that the zone begins among the nodes.
   abbrev back : ℕ
   back = p.zone.old - p.zone.new
@@ -102,18 +103,27 @@ module _ (s : List ℕ) (h : Formed s) (x : Redex) (a : Applies x s) {p : Plan} 
           let deep : Holds q x.place (nodes_in s) → Twice q x.place (nodes_in s) =
           λ held. ⊎_elim (λ k. absurd (d.inner k)) (λ k. ⊎_elim (λ e. absurd (d.outer e)) (λ e. e) k.1) (f.nearest q held) in
           let other : q ≡ x.place → ⊥ = λ e. d.place (e ∙ sym f.place) in
-          quiet_to r q (decode (drop q (after_step x (nodes_in s)))) (step_before x.rule x.place x.i x.j (nodes_in s) (O.one s h x a) (O.did s h x a) q r (omega (arith, f.zoned.before)) other deep (was q (omega (arith, small)) (omega arith)))
+          quiet_to r q (decode (drop q (after_step x (nodes_in s))))
+          (step_before x.rule x.place x.i x.j (nodes_in s) (O.one s h x a) (O.did s h x a) q r (omega (arith, f.zoned.before)) other deep
+          (was q (omega (arith, small)) (omega arith)))
       go (kept c y) =
           let still = level y in
-          quiet_to r q (decode (drop q (after_step x (nodes_in s)))) (spread_inside x.rule x.place x.i x.j (nodes_in s) (O.one s h x a) (O.did s h x a) y.nine y.ten q r (omega (arith, y.later, f.place)) (omega (arith, (f.zoned.spread y.nine y.ten).1)) y.free (was q (omega arith) (omega (arith, y.same))))
+          quiet_to r q (decode (drop q (after_step x (nodes_in s))))
+          (spread_inside x.rule x.place x.i x.j (nodes_in s) (O.one s h x a) (O.did s h x a) y.nine y.ten q r (omega (arith, y.later, f.place))
+          (omega (arith, (f.zoned.spread y.nine y.ten).1)) y.free (was q (omega arith) (omega (arith, y.same))))
       go (moved within there same) =
-          quiet_to r q (decode (drop q (after_step x (nodes_in s)))) (λ i j. ap (λ xs. rewrite r i j (decode xs)) there ∙ was (q + back) within (omega arith) i j)
+          quiet_to r q (decode (drop q (after_step x (nodes_in s))))
+          (λ i j. ap (λ xs. rewrite r i j (decode xs)) there ∙ was (q + back) within (omega arith) i j)
 
   -- Before all that was forgotten the entries stay as they were, so that they are as high as they were before the step's place.
   untouched : (q : ℕ) → q < p.outer → get_or up q 0 ≡ get_or low q 0
   untouched q l =
       n.moved.before q (omega (arith, f.outer_before, f.inner_before, f.zoned.place_from))
-      (record { place = λ e. omega (arith, f.place, f.outer_before, f.inner_before); inner = λ e. omega (arith, f.outer_before); outer = λ e. omega arith })
+      (record {
+        place = λ e. omega (arith, f.place, f.outer_before, f.inner_before);
+        inner = λ e. omega (arith, f.outer_before);
+        outer = λ e. omega arith;
+      })
 
   pub high_before : {r : ℕ} → High r 0 x.place low → High r 0 p.outer up
   high_before high q b l = let k = high q b (omega (arith, f.outer_before, f.inner_before)) in omega (arith, untouched q l)
@@ -140,7 +150,11 @@ module _ (s : List ℕ) (h : Formed s) (x : Redex) (a : Applies x s) {p : Plan} 
     high_outside q l (inr e) =
         let v = f.zoned.after q e.1 l in
         let k = high (q + back) (omega arith) v.1 in
-        let other : Apart p q = record { place = λ d. omega (arith, e.0, f.place); inner = λ d. omega (arith, e.0, f.inner_before); outer = λ d. omega (arith, e.0, f.inner_before, f.outer_before) } in
+        let other : Apart p q = record {
+          place = λ d. omega (arith, e.0, f.place);
+          inner = λ d. omega (arith, e.0, f.inner_before);
+          outer = λ d. omega (arith, e.0, f.inner_before, f.outer_before);
+        } in
         let same = n.moved.after q e.1 (omega (arith, v.1, O.few s h x a)) other in
         omega arith
 

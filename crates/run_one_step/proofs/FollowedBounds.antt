@@ -29,7 +29,8 @@ no_zone p =
     }
 
 -- By rules 9 and 10 so has a table renewed without a zone, and then set back in the tree after its head.
-module _ (rule : ℕ) (nine : 9 ≤ rule) (ten : rule ≤ 10) (ms : List Node) (p : Plan) (ok : Planned p) (t v u : List ℕ) (n : Renewed (no_zone p) t v) (b : SetBack (p.place + 1) p.zone.new ms v u) (tree : p.zone.from ≡ p.place) (inside : p.place < p.zone.new) where
+module _ (rule : ℕ) (nine : 9 ≤ rule) (ten : rule ≤ 10) (ms : List Node) (p : Plan) (ok : Planned p) (t v u : List ℕ)
+    (n : Renewed (no_zone p) t v) (b : SetBack (p.place + 1) p.zone.new ms v u) (tree : p.zone.from ≡ p.place) (inside : p.place < p.zone.new) where
   -- The places up to the step's own stay as they were renewed.
   upto : (q : ℕ) → q ≤ p.place → get_or u q 0 ≡ get_or v q 0
   upto q l = b.outside q (inl (omega arith))

@@ -31,7 +31,8 @@ use Rattle.run_one_step.proofs.SizesMoved.{sizes_fall, sizes_moved}
 use Rattle.run_one_step.proofs.Stepping.{After, after}
 
 -- A step from one sheet to another, with what was seen ahead of it.
-module _ {s t low : List ℕ} {x : Redex} (c : ComeTo x.rule x.place s t low) (a : Applies x s) {p : Plan} (f : Foreseen x (nodes_in s) p) {u : List ℕ} (e : u ≡ stepped_by x s) where
+module _ {s t low : List ℕ} {x : Redex} (c : ComeTo x.rule x.place s t low) (a : Applies x s) {p : Plan}
+    (f : Foreseen x (nodes_in s) p) {u : List ℕ} (e : u ≡ stepped_by x s) where
   h : Formed s
   h = c.tables.measured.sheet
 

@@ -28,7 +28,8 @@ use Rattle.run_bounds_after.proofs.ZoneChildren.{size_here}
 use Rattle.run_bounds_after.proofs.SheetZones as O
 use Rattle.run_one_step.proofs.Sizing.{zeros_here}
 
-module _ (s u : List ℕ) (h : Formed s) (k : Formed u) (x : Redex) (a : Applies x s) (same : nodes_in u ≡ after_step x (nodes_in s)) {z : Zone} (w : Zoned x (nodes_in s) z) (fewer : x.rule ≡ 14 → ⊥) (t : List ℕ) (sizes : SizesFrom 0 (drop 2 s) t) where
+module _ (s u : List ℕ) (h : Formed s) (k : Formed u) (x : Redex) (a : Applies x s) (same : nodes_in u ≡ after_step x (nodes_in s)) {z : Zone}
+    (w : Zoned x (nodes_in s) z) (fewer : x.rule ≡ 14 → ⊥) (t : List ℕ) (sizes : SizesFrom 0 (drop 2 s) t) where
   abbrev ns : List Node
   ns = nodes_in s
 
@@ -64,7 +65,8 @@ module _ (s u : List ℕ) (h : Formed s) (k : Formed u) (x : Redex) (a : Applies
       (omega (arith, w.before, e.order.from_old, e.old_within, counts.0), omega (arith, w.before, e.order.from_new, e.new_within, counts.1))
 
   -- A tree that reaches past the place, from the place itself or from one before it, loses as many nodes as the sheet.
-  lost : (q : ℕ) → q < used_in s → q ≤ x.place → x.place < q + get_or t q 0 → tree_length q (after_step x (nodes_in s)) + (z.old - z.new) ≡ get_or t q 0
+  lost : (q : ℕ) → q < used_in s → q ≤ x.place → x.place < q + get_or t q 0 →
+      tree_length q (after_step x (nodes_in s)) + (z.old - z.new) ≡ get_or t q 0
   lost q l le reaches =
       let one = O.one s h x a in
       let did = O.did s h x a in
@@ -72,7 +74,8 @@ module _ (s u : List ℕ) (h : Formed s) (k : Formed u) (x : Redex) (a : Applies
       ⊎_elim
       (λ e. let here : q ≡ p = eqb-true q p e in
       let at = length_at x.rule p x.i x.j ns one did in
-      let both : tree_length q ms + length ns ≡ tree_length q ns + length ms = ap (λ n. tree_length n ms + length ns) here ∙ at ∙ ap (λ n. tree_length n ns + length ms) (sym here) in
+      let both : tree_length q ms + length ns ≡ tree_length q ns + length ms =
+      ap (λ n. tree_length n ms + length ns) here ∙ at ∙ ap (λ n. tree_length n ns + length ms) (sym here) in
       omega (arith, was q l, both, c.0, c.1, c.2))
       (λ e. let off = eqb-false q p e in
       let lt : q < p = omega (arith, off) in
@@ -83,12 +86,14 @@ module _ (s u : List ℕ) (h : Formed s) (k : Formed u) (x : Redex) (a : Applies
   pub sizes_fall : (to : ℕ) → to ≤ z.from → to ≤ x.place + 1 → Falls to x.place (z.old - z.new) t
   sizes_fall to le past =
       record {
-        short = λ q l. let i = (inside q (omega arith)).0 in omega (arith, was q i, size_here s h q i, span_one q (drop 2 s) (omega (arith, long, h.used)), long);
+        short = λ q l. let i = (inside q (omega arith)).0 in
+            omega (arith, was q i, size_here s h q i, span_one q (drop 2 s) (omega (arith, long, h.used)), long);
         enough = λ q l reaches. omega (arith, lost q (inside q (omega arith)).0 (omega arith) reaches);
       }
 
   -- The tree at a place before the zone that does not hold the step's place keeps its length.
-  kept : (q : ℕ) → q < z.from → (q ≡ x.place → ⊥) → (Holds q x.place (nodes_in s) → ⊥) → tree_length q (after_step x (nodes_in s)) ≡ tree_length q (nodes_in s)
+  kept : (q : ℕ) → q < z.from → (q ≡ x.place → ⊥) → (Holds q x.place (nodes_in s) → ⊥) →
+      tree_length q (after_step x (nodes_in s)) ≡ tree_length q (nodes_in s)
   kept q l other out = length_before x.rule p x.i x.j ns (O.one s h x a) (O.did s h x a) q (omega (arith, w.before)) other out
 
   -- After the nodes each size is 1.
@@ -96,9 +101,11 @@ module _ (s u : List ℕ) (h : Formed s) (k : Formed u) (x : Redex) (a : Applies
   past_nodes q le l = ap (span 1) (zeros_here u k q le (omega arith)) ∙ span_zero (sheet_room - q) (omega arith)
 
   was_past : (q : ℕ) → used_in s ≤ q → q < sheet_room → get_or t q 0 ≡ 1
-  was_past q le l = sizes q (omega arith) (omega (arith, long)) ∙ ap (span 1) (zeros_here s h q le (omega arith)) ∙ span_zero (sheet_room - q) (omega arith)
+  was_past q le l = sizes q (omega arith) (omega (arith, long)) ∙ ap (span 1) (zeros_here s h q le (omega arith)) ∙
+      span_zero (sheet_room - q) (omega arith)
 
-  module _ (to : ℕ) (v : List ℕ) (least : (to ≤ z.from) × (to ≤ x.place + 1) × ((to ≡ z.from) ⊎ (to ≡ x.place + 1))) (r : Resized to x.place z.new z.old t v) where
+  module _ (to : ℕ) (v : List ℕ) (least : (to ≤ z.from) × (to ≤ x.place + 1) × ((to ≡ z.from) ⊎ (to ≡ x.place + 1)))
+      (r : Resized to x.place z.new z.old t v) where
     -- Before the zone.
     front : (q : ℕ) → q < z.from → get_or v q 0 ≡ span 1 (drop q (drop 2 u))
     front q l = go (either (ltb q to)) (either (ltb p (q + get_or t q 0)))
@@ -109,7 +116,8 @@ module _ (s u : List ℕ) (h : Formed s) (k : Formed u) (x : Redex) (a : Applies
         i : (q < used_in s) × (q < used_in u)
         i = inside q l
 
-        go : (ltb q to ≡ true) ⊎ (ltb q to ≡ false) → (ltb p (q + get_or t q 0) ≡ true) ⊎ (ltb p (q + get_or t q 0) ≡ false) → get_or v q 0 ≡ span 1 (drop q (drop 2 u))
+        go : (ltb q to ≡ true) ⊎ (ltb q to ≡ false) → (ltb p (q + get_or t q 0) ≡ true) ⊎ (ltb p (q + get_or t q 0) ≡ false) →
+            get_or v q 0 ≡ span 1 (drop q (drop 2 u))
         go (inl e) (inl d) =
             let lt = ltb-true q to e in
             let gone = lost q i.0 (omega (arith, least.1)) (ltb-true p (q + n) d) in
@@ -117,7 +125,9 @@ module _ (s u : List ℕ) (h : Formed s) (k : Formed u) (x : Redex) (a : Applies
         go (inl e) (inr d) =
             let lt = ltb-true q to e in
             let short = ltb-false p (q + n) d in
-            let same_size = kept q l (λ c. omega (arith, c, size_here s h q i.0, was q i.0, span_one q (drop 2 s) (omega (arith, long, h.used)))) (λ held. omega (arith, held.1, was q i.0)) in
+            let same_size =
+            kept q l (λ c. omega (arith, c, size_here s h q i.0, was q i.0, span_one q (drop 2 s) (omega (arith, long, h.used))))
+            (λ held. omega (arith, held.1, was q i.0)) in
             r.before q lt ∙ pick_false (ltb p (q + n)) (n - back) n d ∙ omega (arith, was q i.0, same_size, is q i.1)
         go (inr e) d =
             let ge = ltb-false q to e in

@@ -58,7 +58,8 @@ sizes_past s u h k t sizes most a b q le l =
     let there : q < length (drop 2 s) = omega (arith, length-drop 2 s, h.whole) in
     sizes q (omega arith) there ∙ ap (span 1) (zeros_here s h q (omega arith) (omega arith) ∙ sym (zeros_here u k q (omega arith) (omega arith)))
 
-module _ (s u : List ℕ) (h : Formed s) (k : Formed u) (x : Redex) (a : Applies x s) (same : nodes_in u ≡ after_step x (nodes_in s)) {z : Zone} (w : Zoned x (nodes_in s) z) (even : Level x.rule) where
+module _ (s u : List ℕ) (h : Formed s) (k : Formed u) (x : Redex) (a : Applies x s) (same : nodes_in u ≡ after_step x (nodes_in s)) {z : Zone}
+    (w : Zoned x (nodes_in s) z) (even : Level x.rule) where
   level : length (after_step x (nodes_in s)) ≡ length (nodes_in s)
   level = level_length x.rule x.place x.i x.j (nodes_in s) (O.one s h x a) (O.did s h x a) even
 
@@ -78,8 +79,14 @@ module _ (s u : List ℕ) (h : Formed s) (k : Formed u) (x : Redex) (a : Applies
           let reaches = ltb x.place (tree_end q (nodes_in s)) in
           ⊎_elim
           (λ y. let both = and_split inside reaches y in
-          omega (arith, length_holding x.rule x.place x.i x.j (nodes_in s) (O.one s h x a) (O.did s h x a) q (ltb-true q x.place both.0, ltb-true x.place (tree_end q (nodes_in s)) both.1), level))
-          (λ y. length_before x.rule x.place x.i x.j (nodes_in s) (O.one s h x a) (O.did s h x a) q (omega (arith, w.before)) e (λ held. true_false (sym (and_join (lt-ltb q x.place held.0) (lt-ltb x.place (tree_end q (nodes_in s)) held.1)) ∙ y)))
+          omega (
+            arith,
+            length_holding x.rule x.place x.i x.j (nodes_in s) (O.one s h x a) (O.did s h x a)
+                q (ltb-true q x.place both.0, ltb-true x.place (tree_end q (nodes_in s)) both.1),
+            level,
+          ))
+          (λ y. length_before x.rule x.place x.i x.j (nodes_in s) (O.one s h x a) (O.did s h x a) q (omega (arith, w.before)) e
+          (λ held. true_false (sym (and_join (lt-ltb q x.place held.0) (lt-ltb x.place (tree_end q (nodes_in s)) held.1)) ∙ y)))
           (either (inside && reaches))
 
       go : (q < z.from) ⊎ (z.new ≤ q) → tree_length q (after_step x (nodes_in s)) ≡ tree_length q (nodes_in s)

@@ -76,7 +76,14 @@ nearest_two {s} {t} m p inner outer within reach near reach_2 near_2 q held = go
         (q ≡ outer) ⊎ Twice q p (nodes_in s)
     deeper q held l lt w (inl e) = inl (eqb-true q outer e)
     deeper q held l lt w (inr e) =
-        inr (record { outer = outer; inner = inner; later = omega (arith, w.1, eqb-false q outer e); deeper = w.0; outer_holds = holds outer (omega (arith, w.0)) (reach_2 w.0); inner_holds = holds inner lt (reach lt) })
+        inr (record {
+          outer = outer;
+          inner = inner;
+          later = omega (arith, w.1, eqb-false q outer e);
+          deeper = w.0;
+          outer_holds = holds outer (omega (arith, w.0)) (reach_2 w.0);
+          inner_holds = holds inner lt (reach lt);
+        })
 
     go :
         (q : ℕ) →

@@ -1,5 +1,6 @@
 // One step of a run by bounds: the sheet, the sizes of its trees and the bounds beside its places go on together.
 #![tactic(auto)]
+
 ghost use Rattle.std.specs.Prelude.{◌≡◌, ◌⊎◌, ◌≤◌, ◌<◌, length, drop};
 ghost use Rattle.model.specs.Limits.{sheet_room};
 ghost use Rattle.model.specs.Sheet.{used_in, nodes_in};
