@@ -1,5 +1,6 @@
 // The core of a run: the strategy's steps on a sheet, as many as the budget allows or as there are.
 #![tactic(auto)]
+
 ghost use Rattle.std.specs.Prelude.{◌≡◌, true, false};
 ghost use Rattle.model.specs.Base.{maybe};
 ghost use Rattle.theory_rewriting.specs.Reached.{Ends};
