@@ -1,5 +1,6 @@
 // Runs of the strategy's steps, with a budget.
 #![tactic(auto)]
+
 ghost use Rattle.std.specs.Prelude.{◌≡◌};
 ghost use Rattle.calls.specs.Outcomes.{accepted};
 ghost use Rattle.calls.specs.Chains.{run_refusal};
