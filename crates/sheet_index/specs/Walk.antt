@@ -9,7 +9,9 @@ fresh_from s p = entries_from p 0 (options_in s) (drop p (nodes_in s))
 
 -- The number at a place is the same as each of the three after it.
 unfoldable pub four_alike : List ℕ → ℕ → Bool
-four_alike s i = eqb (get_or s i 0) (get_or s (i + 1) 0) && (eqb (get_or s i 0) (get_or s (i + 2) 0) && eqb (get_or s i 0) (get_or s (i + 3) 0))
+four_alike s i =
+    eqb (get_or s i 0) (get_or s (i + 1) 0)
+    && (eqb (get_or s i 0) (get_or s (i + 2) 0) && eqb (get_or s i 0) (get_or s (i + 3) 0))
 
 -- The same of the seven after it.
 unfoldable pub eight_alike : List ℕ → ℕ → Bool
