@@ -1,6 +1,7 @@
 // The calls on sheets, for C (include/nibdrumlin_sheets.h). Each answers one number, as the calls of `c_calls` do: the low 8 bits are
 // the refusal (0: accepted), the rest is the value.
 #![tactic(auto)]
+
 ghost use Rattle.std.specs.Prelude.{◌≡◌};
 ghost use Rattle.calls.specs.Calls.{load_of, write_of, report_of, step_with, run_with, fill_of};
 ghost use Rattle.c_calls.specs.Packed.{packed_done, packed_value, packed_bool};
