@@ -1,5 +1,6 @@
 // One order at the desk: a book and the lines keyed, and all that is printed.
 #![tactic(auto)]
+
 ghost use Rattle.std.specs.Prelude.{◌≡◌, false, ◌++◌, [], ◌≤◌, length, replicate};
 ghost use Rattle.std.proofs.Math.Option.{none};
 ghost use Rattle.model.specs.Book.{options_of, codes_of};
