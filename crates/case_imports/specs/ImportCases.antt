@@ -29,8 +29,8 @@ pub files_read :
 unfolding definitions samples
 files_read = refl
 
--- "Each clause becomes one any_of, a lone mark too, clauses and marks in file order." Its bytes in hexadecimal: the head 2, 1, 3, 0; the
--- codes V1 and V2; the pair 0, 3; any_of with two children, option 0, option 1 barred.
+-- "Each clause becomes one any-of, a lone mark too, clauses and marks in file order." Its bytes in hexadecimal: the head 2, 1, 3, 0; the
+-- codes V1 and V2; the pair 0, 3; any-of with two children, option 0, option 1 barred.
 pub bytes_given :
     imports "p cnf 2 1\n1 -2 0\n"
     ≡ record {

@@ -21,7 +21,7 @@ unfoldable pub text : String → List ℕ
 text String.[] = []
 text (String.◌∷◌ c s) = Char.code c ∷ text s
 
--- "A node is one number: kind × 4,096 + value. Kind 1 is an option, 2 the same option barred, 3 all_of and 4 any_of (value the
+-- "A node is one number: kind × 4,096 + value. Kind 1 is an option, 2 the same option barred, 3 all-of and 4 any-of (value the
 -- number of children), 5 the root."
 abbrev pub plain : ℕ → ℕ
 plain v = 4096 + v
@@ -42,7 +42,7 @@ root k = 20480 + k
 abbrev pub at_least : ℕ → ℕ → ℕ
 at_least k members = 24576 + members * 64 + k
 
--- "P, Q, R are options 0, 1, 2"; S is option 3. "An empty all_of is true, an empty any_of is false."
+-- "P, Q, R are options 0, 1, 2"; S is option 3. "An empty all-of is true, an empty any-of is false."
 abbrev pub P : ℕ
 P = plain 0
 
@@ -98,7 +98,7 @@ unfoldable pub book : List String → List (List ℕ) → List ℕ
 book cs rs =
     book_of (length cs ∷ length rs ∷ length (joined rs) ∷ 0 ∷ []) (codes cs) (pairs 0 rs) (joined rs)
 
--- A book of weight 4,097: one any_of with 2,047 marks, and a rule more.
+-- A book of weight 4,097: one any-of with 2,047 marks, and a rule more.
 unfoldable pub heavy : ℕ → List ℕ
 heavy node = book ("P" ∷ []) ((any_of 2047 ∷ replicate 2047 P) ∷ (node ∷ []) ∷ [])
 

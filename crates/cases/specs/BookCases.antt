@@ -136,7 +136,7 @@ pub contents_checked : contents ≡ 0 ∷ replicate 9 4
 unfolding definitions samples checked contents
 contents_checked = refl
 
--- "Kind 1 is an option, 2 the same option barred, 3 all_of and 4 any_of, 5 the root"; document 02, U4: "a new node kind 6". Of the sixteen
+-- "Kind 1 is an option, 2 the same option barred, 3 all-of and 4 any-of, 5 the root"; document 02, U4: "a new node kind 6". Of the sixteen
 -- kinds that a number can have, with the value 0, as the only node of a body; then the highest number.
 unfoldable pub kinds : List ℕ
 kinds = map (λ x. checked (book ("P" ∷ []) ((x ∷ []) ∷ []))) (map (λ k. k * 4096) (numbers 0 16) ++ (65535 ∷ []))
@@ -169,7 +169,7 @@ pub bodies_checked : bodies ≡ 0 ∷ replicate 10 5
 unfolding definitions samples checked bodies
 bodies_checked = refl
 
--- "One any_of with 2,047 marks is accepted": with the root its weight is 4,096, be they plain or barred; "with 2,048, refused 6".
+-- "One any-of with 2,047 marks is accepted": with the root its weight is 4,096, be they plain or barred; "with 2,048, refused 6".
 unfoldable pub heaviest : List ℕ
 heaviest =
     map

@@ -21,7 +21,7 @@ good =
 
 unfoldable pub bad : List (List ℕ)
 bad =
-    -- An option twice: side by side, with a mark or a constant between, plain beside barred; as the children of any_of and all_of.
+    -- An option twice: side by side, with a mark or a constant between, plain beside barred; as the children of any-of and all-of.
     (at_least 1 2 ∷ P ∷ P ∷ [])
     ∷ (at_least 1 3 ∷ P ∷ Q ∷ P ∷ [])
     ∷ (at_least 1 3 ∷ not_P ∷ True ∷ not_P ∷ [])
@@ -62,7 +62,7 @@ pub most_members :
 unfolding definitions samples
 most_members = refl
 
--- "The weight is nodes plus marks (root counted)": a node of kind 6 is one node. With an any_of of 2,046 marks the root makes 4,094, so two
+-- "The weight is nodes plus marks (root counted)": a node of kind 6 is one node. With an any-of of 2,046 marks the root makes 4,094, so two
 -- of them still fit, and three do not.
 unfoldable pub with_leasts : ℕ → List (List ℕ)
 with_leasts n = (any_of 2046 ∷ replicate 2046 P) ∷ replicate n (at_least 0 0 ∷ [])

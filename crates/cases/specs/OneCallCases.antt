@@ -146,8 +146,8 @@ pub high_options_so :
 unfolding definitions samples high_options
 high_options_so = refl
 
--- "8 sheet full: weight + 2 is over 4,096." Of an any_of with 2,046 marks the weight is 4,094 with the root, so a choice still fits;
--- "one any_of with 2,047 marks is accepted and a choice is then refused 8".
+-- "8 sheet full: weight + 2 is over 4,096." Of an any-of with 2,046 marks the weight is 4,094 with the root, so a choice still fits;
+-- "one any-of with 2,047 marks is accepted and a choice is then refused 8".
 unfoldable pub last_choices : List ℕ
 last_choices =
     said (key_of (lined (sheet 1 (root 1 ∷ any_of 2046 ∷ replicate 2046 P)) [] 0) 0 true).answer

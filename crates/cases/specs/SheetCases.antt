@@ -4,7 +4,7 @@ use Rattle.model.specs.Sheet.{is_sheet}
 use Rattle.case_samples.specs.Opened.{definitions}
 use Rattle.case_samples.specs.Samples.{P, True, plain, barred, all_of, any_of, root, sheet, samples}
 
--- No rules, no options; the last of 512 options; "an all_of with 4,094 trues", which fills every place.
+-- No rules, no options; the last of 512 options; "an all-of with 4,094 trues", which fills every place.
 unfoldable pub good : List Bool
 good =
     map

@@ -45,13 +45,13 @@ steps =
     ∷ turned 11 1 0 0 (root 1 ∷ all_of 1 ∷ all_of 1 ∷ P ∷ [])
     ∷ turned 12 0 1 1 (root 3 ∷ Q ∷ all_of 3 ∷ True ∷ P ∷ R ∷ R ∷ [])
     ∷ turned 12 0 0 0 (root 1 ∷ all_of 1 ∷ P ∷ [])
-    -- 13: "child i an all_of, all other children marks: child i's children replace it"; with no other child; an empty all_of.
+    -- 13: "child i an all-of, all other children marks: child i's children replace it"; with no other child; an empty all-of.
     ∷ turned 13 1 1 0 (root 1 ∷ all_of 3 ∷ P ∷ all_of 2 ∷ False ∷ R ∷ Q ∷ [])
     ∷ turned 13 1 0 0 (root 1 ∷ all_of 1 ∷ all_of 1 ∷ P ∷ [])
     ∷ turned 13 1 1 0 (root 1 ∷ all_of 2 ∷ P ∷ True ∷ [])
     ∷ turned 13 1 0 0 (root 1 ∷ all_of 1 ∷ True ∷ [])
-    -- 14: "the marks, then all_of(a, any_of(the all-ofs, each without its first a))"; here a stands among the marks too and twice in
-    -- the first all_of. Then two all-ofs that share both their marks: j says which is a. A second a stays where it was; three all-ofs.
+    -- 14: "the marks, then all-of(a, any-of(the all-ofs, each without its first a))"; here a stands among the marks too and twice in
+    -- the first all-of. Then two all-ofs that share both their marks: j says which is a. A second a stays where it was; three all-ofs.
     ∷ turned 14 1 1 1 (root 2 ∷ any_of 4 ∷ P ∷ all_of 3 ∷ Q ∷ P ∷ P ∷ not_R ∷ all_of 1 ∷ P ∷ R ∷ [])
     ∷ turned 14 1 0 0 (root 1 ∷ any_of 2 ∷ all_of 2 ∷ P ∷ Q ∷ all_of 2 ∷ Q ∷ P ∷ [])
     ∷ turned 14 1 0 1 (root 1 ∷ any_of 2 ∷ all_of 2 ∷ P ∷ Q ∷ all_of 2 ∷ Q ∷ P ∷ [])
@@ -79,7 +79,7 @@ steps =
     ∷ turned 16 1 0 0 (root 2 ∷ at_least 63 2 ∷ P ∷ True ∷ R ∷ [])
     ∷ turned 16 1 0 0 (root 1 ∷ at_least 0 0 ∷ [])
     ∷ turned 16 1 0 0 (root 1 ∷ at_least 1 0 ∷ [])
-    -- 17: "turns k = 1 into any_of, else k = members into all_of"; 1 of 1 becomes an any_of. 0 of 0 and 1 of 0 fit its words too.
+    -- 17: "turns k = 1 into any-of, else k = members into all-of"; 1 of 1 becomes an any-of. 0 of 0 and 1 of 0 fit its words too.
     ∷ turned 17 1 0 0 (root 2 ∷ at_least 1 3 ∷ P ∷ True ∷ not_R ∷ R ∷ [])
     ∷ turned 17 1 0 0 (root 2 ∷ at_least 3 3 ∷ P ∷ False ∷ not_R ∷ R ∷ [])
     ∷ turned 17 1 0 0 (root 1 ∷ at_least 1 1 ∷ P ∷ [])
@@ -296,7 +296,7 @@ idle_steps =
     ∷ turned 9 1 1 0 (root 1 ∷ any_of 2 ∷ P ∷ all_of 1 ∷ P ∷ [])
     ∷ turned 10 0 0 0 (root 2 ∷ P ∷ Q ∷ [])
     ∷ turned 10 0 1 0 (root 2 ∷ P ∷ all_of 1 ∷ P ∷ [])
-    -- 11, 12: child i is no all_of; its child j is no mark.
+    -- 11, 12: child i is no all-of; its child j is no mark.
     ∷ turned 11 1 0 0 (root 1 ∷ all_of 1 ∷ any_of 1 ∷ P ∷ [])
     ∷ turned 11 1 0 0 (root 1 ∷ all_of 1 ∷ all_of 2 ∷ True ∷ P ∷ [])
     ∷ turned 11 1 0 0 (root 1 ∷ all_of 1 ∷ True ∷ [])
@@ -304,18 +304,18 @@ idle_steps =
     ∷ turned 12 0 0 0 (root 1 ∷ all_of 2 ∷ True ∷ P ∷ [])
     ∷ turned 11 1 0 0 (root 1 ∷ all_of 1 ∷ at_least 1 1 ∷ P ∷ [])
     ∷ turned 12 0 0 0 (root 1 ∷ at_least 1 1 ∷ P ∷ [])
-    -- 13: child i is no all_of; another child is no mark.
+    -- 13: child i is no all-of; another child is no mark.
     ∷ turned 13 1 0 0 (root 1 ∷ all_of 1 ∷ any_of 1 ∷ P ∷ [])
     ∷ turned 13 1 0 0 (root 1 ∷ all_of 2 ∷ all_of 1 ∷ P ∷ True ∷ [])
     ∷ turned 13 1 1 0 (root 1 ∷ all_of 2 ∷ any_of 1 ∷ P ∷ all_of 1 ∷ P ∷ [])
     ∷ turned 13 1 0 0 (root 1 ∷ all_of 1 ∷ at_least 1 1 ∷ P ∷ [])
     ∷ turned 13 1 0 0 (root 1 ∷ all_of 2 ∷ all_of 1 ∷ P ∷ at_least 1 1 ∷ Q ∷ [])
-    -- 14: i is a mark, or not the first all_of; j at a second a, or at no mark.
+    -- 14: i is a mark, or not the first all-of; j at a second a, or at no mark.
     ∷ turned 14 1 0 0 (root 1 ∷ any_of 3 ∷ P ∷ all_of 1 ∷ P ∷ all_of 1 ∷ P ∷ [])
     ∷ turned 14 1 1 0 (root 1 ∷ any_of 2 ∷ all_of 1 ∷ P ∷ all_of 1 ∷ P ∷ [])
     ∷ turned 14 1 0 1 (root 1 ∷ any_of 2 ∷ all_of 2 ∷ P ∷ P ∷ all_of 1 ∷ P ∷ [])
     ∷ turned 14 1 0 0 (root 1 ∷ any_of 2 ∷ all_of 2 ∷ True ∷ P ∷ all_of 1 ∷ P ∷ [])
-    -- 14: an all_of without a, with its opposite only, with a further down; a child that is neither mark nor all_of.
+    -- 14: an all-of without a, with its opposite only, with a further down; a child that is neither mark nor all-of.
     ∷ turned 14 1 0 0 (root 1 ∷ any_of 3 ∷ all_of 1 ∷ P ∷ all_of 1 ∷ P ∷ all_of 1 ∷ Q ∷ [])
     ∷ turned 14 1 0 0 (root 1 ∷ any_of 2 ∷ all_of 1 ∷ P ∷ all_of 1 ∷ not_P ∷ [])
     ∷ turned 14 1 0 0 (root 1 ∷ any_of 2 ∷ all_of 1 ∷ P ∷ all_of 1 ∷ all_of 1 ∷ P ∷ [])

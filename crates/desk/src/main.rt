@@ -1,6 +1,6 @@
 // The desk program: reads the option book `book.bin` and the choices on standard input, and prints what the order gives. All that is
 // decided is decided by `desk_session::session`, which is proved to give every byte; here the bytes are only read and written. No more
-// than 65,536 of either are read: the rest cannot change what is printed (`desk_session`: `Buffers.desk-cut`). Where choices are typed at
+// than 65,536 of either are read: the rest cannot change what is printed (`desk_session`: `Buffers.desk_cut`). Where choices are typed at
 // a terminal, standard error has a word on how, and why a line was refused; where they are piped, nothing is written there.
 #![tactic(auto)]
 
