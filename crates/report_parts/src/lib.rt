@@ -17,11 +17,7 @@ fn claim(homes: &mut [u16; SHEET_LENGTH], from: usize, to: usize)
     requires { (from ≤ to) × (to ≤ sheet_length) × (length homes.old ≡ sheet_length) }
     ensures { Claimed from to homes.old homes.new }
 {
-    let mut n = from;
-    while n < to {
-        homes[n] = from as u16;
-        n += 1;
-    }
+    homes[from..to].fill(from as u16);
 }
 
 // Finds the parts: at the place where a part begins its end is noted, and at the place of each of its numbers where it begins.
@@ -31,10 +27,11 @@ pub fn find(sheet: &[u16], ends: &mut [u16; SHEET_LENGTH], homes: &mut [u16; SHE
     requires homes_value { homes.old ≡ replicate sheet_length 0 }
     ensures { Parted sheet.now ends.new homes.new }
 {
-    let end = 2 + common_nodes::wide16(sheet[1]);
+    let end = 2 + usize::from(sheet[1]);
     let mut i = 2;
+    // A `while`, since a part is passed in one turn.
     while i < end {
-        let k = common_nodes::kind_of(common_nodes::wide16(sheet[i]));
+        let k = common_nodes::kind_of(usize::from(sheet[i]));
         if k == 3 || k == 5 {
             i += 1;
         } else {
@@ -53,15 +50,13 @@ pub fn link(sheet: &[u16], links: &mut [u16; LINKS_LENGTH])
     requires links_value { links.old ≡ replicate links_length 0 }
     ensures { Linked sheet.now links.new }
 {
-    let end = 2 + common_nodes::wide16(sheet[1]);
-    let mut i = 2;
-    while i < end {
-        let x = common_nodes::wide16(sheet[i]);
+    let end = 2 + usize::from(sheet[1]);
+    for i in 2..end {
+        let x = usize::from(sheet[i]);
         if common_nodes::is_literal(x) {
             let own = SHEET_LENGTH + common_nodes::place_of(x);
             links[i] = links[own];
             links[own] = i as u16;
         }
-        i += 1;
     }
 }

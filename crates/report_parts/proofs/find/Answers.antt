@@ -17,12 +17,12 @@ spanned c = c.span_of.ensures.0 ∙ ap (λ e. span 1 (stretch c.loop-i.i e c.arg
 pub loop-i-init : goal.loop-i-init
 unfolding used_in
 loop-i-init c =
-    (ap (λ u. 2 + u) c.wide16-end.ensures.0, c.requires.formed, finding_none _ c.requires.ends_value c.requires.homes_value)
+    (ap (λ u. 2 + u) c.from-end.ensures, c.requires.formed, finding_none _ c.requires.ends_value c.requires.homes_value)
 
 pub loop-i-preserved-then-k-eq5 : goal.loop-i-preserved-then-k-eq5
 loop-i-preserved-then-k-eq5 c =
     let w = c.loop-i.invariant in
-    let e = ap kind (sym c.wide16.ensures.0) ∙ sym c.kind_of-k.ensures in
+    let e = ap kind (sym c.from.ensures) ∙ sym c.kind_of-k.ensures in
     (w.0, w.1, finding_head w.1 w.2 (omega arith) (⊎_elim (λ v. inl (e ∙ v)) (λ v. inr (e ∙ v.1)) c.if-k-eq5.either))
 
 pub loop-i-smaller : goal.loop-i-smaller

@@ -17,13 +17,13 @@ literal e f h = ap is_literal (sym e) ∙ sym f ∙ h
 small : (c : After-place_of-own) → c.place_of-own.result < most_literals
 small c =
     let w = c.loop-i.invariant in
-    let e = c.wide16-x.ensures.0 in
+    let e = c.from-x.ensures in
     rw (c.place_of-own.ensures ∙ ap place_at e)
     (literal_place _ w.1 c.loop-i.i w.2.from (omega arith) (literal e c.is_literal.ensures c.if-is_literal.true))
 
 pub loop-i-init : goal.loop-i-init
 unfolding used_in
-loop-i-init c = (ap (λ u. 2 + u) c.wide16-end.ensures.0, c.requires.formed, linking_none _ c.requires.links_value)
+loop-i-init c = (ap (λ u. 2 + u) c.from-end.ensures, c.requires.formed, linking_none _ c.requires.links_value)
 
 pub overflow_add-own : goal.overflow_add-own
 overflow_add-own c = omega (arith, small (goal.at.overflow_add-own c).After-place_of-own)
@@ -43,7 +43,7 @@ bounds-links-own-then-is_literal c = omega (arith, small (goal.at.bounds-links-o
 pub loop-i-preserved : goal.loop-i-preserved
 loop-i-preserved c =
     let w = c.loop-i.invariant in
-    let e = c.wide16-x.ensures.0 in (
+    let e = c.from-x.ensures in (
       w.0,
       w.1,
       elim c.if-is_literal.branch [
