@@ -6,29 +6,12 @@ ghost use Rattle.std.proofs.Math.Seq.{slice};
 ghost use Rattle.theory_reading.specs.Stretches.{live};
 ghost use Rattle.sheet_shifts.specs.Replaced.{replaced};
 
-// Numbers from a place on move so many places to the left; the last ones stay as well.
-fn shift_left(s: &mut [u16], at: usize, count: usize)
-    requires { at + count ≤ length s.old }
-    ensures { let l = s.old in s.new ≡ take at l ++ (drop (at + count) l ++ drop (length l - count) l) }
-{
-    let end = s.len() - count;
-    let mut i = at;
-    while i < end {
-        s[i] = s[i + count];
-        i += 1;
-    }
-}
-
 // Numbers from a place on become zero.
 pub fn clear_from(s: &mut [u16], at: usize)
     requires { at ≤ length s.old }
     ensures { s.new ≡ take at s.old ++ replicate (length s.old - at) 0 }
 {
-    let mut i = at;
-    while i < s.len() {
-        s[i] = 0;
-        i += 1;
-    }
+    s[at..].fill(0);
 }
 
 // So many numbers at a place go; those after them move up, and zeros follow.
@@ -36,7 +19,7 @@ pub fn remove(s: &mut [u16], at: usize, count: usize)
     requires { at + count ≤ length s.old }
     ensures { s.new ≡ take at s.old ++ (drop (at + count) s.old ++ replicate count 0) }
 {
-    shift_left(s, at, count);
+    s.copy_within(at + count.., at);
     let end = s.len() - count;
     clear_from(s, end);
 }
@@ -47,27 +30,19 @@ pub fn move_before(s: &mut [u16], to: usize, from: usize)
     ensures { let l = s.old in
         s.new ≡ take to l ++ (get_or l from 0 ∷ take (from - to) (drop to l) ++ drop (from + 1) l) }
 {
-    let moved = s[from];
-    let mut i = from;
-    while to < i {
-        s[i] = s[i - 1];
-        i -= 1;
-    }
-    s[to] = moved;
+    s[to..=from].rotate_right(1);
 }
 
 // How many numbers stand before the first zero.
 pub fn live_count(s: &[u16]) -> usize
     ensures { result ≡ length (live s.now) }
 {
-    let mut i = 0;
-    while i < s.len() {
-        if s[i] == 0 {
+    for (i, x) in s.iter().enumerate() {
+        if *x == 0 {
             return i;
         }
-        i += 1;
     }
-    i
+    s.len()
 }
 
 // What a number becomes when `same` and `opposite` are given new values.
@@ -75,12 +50,12 @@ fn replacement(n: u16, same: u16, opposite: u16, for_same: u16, for_opposite: u1
     ensures { result ≡ replaced same opposite for_same for_opposite n }
 {
     if n == same {
-        return for_same;
+        for_same
+    } else if n == opposite {
+        for_opposite
+    } else {
+        n
     }
-    if n == opposite {
-        return for_opposite;
-    }
-    n
 }
 
 // In the places from..to every number equal to `same` or to `opposite` is replaced.
@@ -97,9 +72,7 @@ pub fn assign(
     ensures { let l = s.old in
         s.new ≡ take from l ++ (map (replaced same opposite for_same for_opposite) (slice from to l) ++ drop to l) }
 {
-    let mut i = from;
-    while i < to {
-        s[i] = replacement(s[i], same, opposite, for_same, for_opposite);
-        i += 1;
+    for x in &mut s[from..to] {
+        *x = replacement(*x, same, opposite, for_same, for_opposite);
     }
 }

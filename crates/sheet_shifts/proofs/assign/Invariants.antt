@@ -1,14 +1,9 @@
--- `sheet_shifts::assign` meets its contract. Invariant: the places from `from` to `i` hold the new numbers; the rest is untouched.
-use Prim.Native.Nat.{◌-◌}
-use mathlib.Core.List.{map}
-use lib.Seq.{slice}
+-- `sheet_shifts::assign` meets its contract. Invariant: the numbers passed are replaced, and the rest are the old ones.
+use Rattle.std.proofs.Common.{◌≡◌, ◌++◌, map, take, drop}
 use Rattle.sheet_shifts.specs.Replaced.{replaced}
-use Rattle.sheet_shifts.proofs.Shifting.{Written}
 use Rattle.sheet_shifts.proofs.assign.Given as goal
 
-abbrev pub invariant-loop-i : goal.invariant-loop-i
-invariant-loop-i l =
-    Written l.initial.s l.from l.to (map (replaced l.same l.opposite l.for_same l.for_opposite) (slice l.from l.to l.initial.s)) l.i l.s
-
-abbrev pub decreases-loop-i : goal.decreases-loop-i
-decreases-loop-i l = l.to - l.i
+abbrev pub invariant-loop-x : goal.invariant-loop-x
+invariant-loop-x l =
+    let old = l.initial.x-items in
+    l.x-items ≡ map (replaced l.same l.opposite l.for_same l.for_opposite) (take l.x-index old) ++ drop l.x-index old

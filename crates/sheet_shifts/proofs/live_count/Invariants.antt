@@ -1,12 +1,7 @@
 -- `sheet_shifts::live_count` meets its contract. Invariant: no zero was met, so what is left to count are the numbers from the place `i` on.
-use Prim.Native.Nat.{◌+◌, ◌-◌, ◌≤◌}
-use mathlib.Core.Path.{◌≡◌}
-use lib.ListN.{length, drop}
+use Rattle.std.proofs.Common.{◌≡◌, ◌+◌, length, drop}
 use Rattle.theory_reading.specs.Stretches.{live}
 use Rattle.sheet_shifts.proofs.live_count.Given as goal
 
 abbrev pub invariant-loop-i : goal.invariant-loop-i
-invariant-loop-i l = (l.i ≤ length l.s) × (length (live l.s) ≡ l.i + length (live (drop l.i l.s)))
-
-abbrev pub decreases-loop-i : goal.decreases-loop-i
-decreases-loop-i l = length l.s - l.i
+invariant-loop-i l = length (live l.s) ≡ l.i + length (live (drop l.i l.s))

@@ -16,8 +16,8 @@ returns-then-n-opposite c =
     let a = c.args in
     rw (ne_eqb a.n a.same c.if-n-same.false, eq-eqb a.n a.opposite c.if-n-opposite.true)
 
-pub returns : goal.returns
+pub returns-else-n-opposite : goal.returns-else-n-opposite
 unfolding replaced pick
-returns c =
+returns-else-n-opposite c =
     let a = c.args in
     rw (ne_eqb a.n a.same c.if-n-same.false, ne_eqb a.n a.opposite c.if-n-opposite.false)
