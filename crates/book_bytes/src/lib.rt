@@ -11,10 +11,8 @@ fn put_numbers(s: &[u8], count: usize, out: &mut [u16])
     requires { (count ≤ length out.old) × (2 * count ≤ length s.now) }
     ensures { out.new ≡ words count s.now ++ drop count out.old }
 {
-    let mut i = 0;
-    while i < count {
+    for i in 0..count {
         out[i] = common_nodes::number_at(s, 2 * i);
-        i += 1;
     }
 }
 
@@ -42,8 +40,9 @@ pub fn put_word(out: &mut [u8], k: usize, x: usize)
     requires { k + 1 < length out.old }
     ensures { out.new ≡ set (set out.old k (x % 256)) (k + 1) (x / 256 % 256) }
 {
-    out[k] = (x % 256) as u8;
-    out[k + 1] = (x / 256 % 256) as u8;
+    let [low, high, ..] = x.to_le_bytes();
+    out[k] = low;
+    out[k + 1] = high;
 }
 
 // The four numbers of the head.
@@ -62,22 +61,16 @@ pub fn copy(s: &[u8], count: usize, out: &mut [u8])
     requires { (count ≤ length s.now) × (count ≤ length out.old) }
     ensures { out.new ≡ take count s.now ++ drop count out.old }
 {
-    let mut i = 0;
-    while i < count {
-        out[i] = s[i];
-        i += 1;
-    }
+    out[..count].copy_from_slice(&s[..count]);
 }
 
 // Numbers as bytes, at the start of a slice.
-fn put_bytes(s: &[u16], count: usize, out: &mut [u8])
-    requires { (count ≤ length s.now) × (2 * count ≤ length out.old) }
-    ensures { out.new ≡ bytes_of (take count s.now) ++ drop (2 * count) out.old }
+fn put_bytes(s: &[u16], out: &mut [u8])
+    requires { 2 * length s.now ≤ length out.old }
+    ensures { out.new ≡ bytes_of s.now ++ drop (2 * length s.now) out.old }
 {
-    let mut i = 0;
-    while i < count {
-        put_word(out, 2 * i, common_nodes::wide16(s[i]));
-        i += 1;
+    for (i, x) in s.iter().enumerate() {
+        put_word(out, 2 * i, usize::from(*x));
     }
 }
 
@@ -87,13 +80,11 @@ fn put_contents(s: &[u16], m: usize, out: &mut [u8])
     ensures { out.new ≡ bytes_of (lined_up 0 (spans m s.now)) ++ drop (4 * m) out.old }
 {
     let mut at = 0;
-    let mut k = 0;
-    while k < m {
+    for k in 0..m {
         let count = common_nodes::span_of(&s[at..], 1);
         put_word(out, 4 * k, at);
         put_word(out, 4 * k + 2, count);
         at += count;
-        k += 1;
     }
 }
 
@@ -105,7 +96,7 @@ fn put_trees(s: &[u16], m: usize, out: &mut [u8])
 {
     put_contents(s, m, out);
     let bodies = 4 * m;
-    put_bytes(s, s.len(), &mut out[bodies..]);
+    put_bytes(s, &mut out[bodies..]);
 }
 
 // Codes, and the trees after them.

@@ -10,24 +10,15 @@ use Rattle.book_bytes.proofs.put_bytes.Goals as goal
 
 pub loop-i-init : goal.loop-i-init
 unfolding bytes_of
-loop-i-init c = (omega arith, refl, refl)
+loop-i-init c = refl
 
 pub loop-i-preserved : goal.loop-i-preserved
 loop-i-preserved c =
     let s = c.args.s.now in
     let old = c.args.out.now in
     let i = c.loop-i.i in
-    let put = c.put_word in
-    let wide = c.wide16 in
     let within : i < length s = omega arith in
-    let two : 2 * (i + 1) ≡ 2 * i + 2 = omega arith in (
-      omega arith,
-      omega (arith, put.auto.out),
-      put.ensures
-          ∙ rw (wide.ensures.0, two, add-one i, take-suc s i 0)
-          (bytes_more (take i s) old (get_or s i 0) (omega (arith, length-take-le i s (omega arith))) (omega arith) c.loop-i.invariant.2),
-    )
-
-pub returns : goal.returns
-returns c =
-    let e : c.loop-i.i ≡ c.args.count = omega arith in cc
+    let two : 2 * (i + 1) ≡ 2 * i + 2 = omega arith in
+    c.put_word.ensures
+    ∙ rw (c.from.ensures, two, add-one i, take-suc s i 0)
+    (bytes_more (take i s) old (get_or s i 0) (omega (arith, length-take-le i s (omega arith))) (omega arith) c.loop-i.invariant)

@@ -1,4 +1,4 @@
-use mathlib.Core.Path.{◌≡◌, refl, ap, ◌∙◌}
+use mathlib.Core.Path.{refl, ap, ◌∙◌}
 use native.Mathlib.Omega.{arith}
 use Rattle.model.specs.Book.{bytes_of, lined_up}
 use Rattle.theory_formats.specs.Contents.{total}
@@ -9,7 +9,7 @@ use Rattle.book_bytes.proofs.put_contents.Goals as goal
 
 pub loop-k-init : goal.loop-k-init
 unfolding bytes_of lined_up spans total
-loop-k-init c = (omega arith, omega arith, refl, refl, refl)
+loop-k-init c = (omega arith, refl, refl)
 
 pub loop-k-preserved : goal.loop-k-preserved
 loop-k-preserved c =
@@ -17,17 +17,9 @@ loop-k-preserved c =
     let old = c.args.out.now in
     let k = c.loop-k.k in
     let tree = c.span_of-count in
-    let first = c.put_word in
-    let second = c.put_word-in-loop-k in
-    let here = c.loop-k.invariant.3 in
+    let here = c.loop-k.invariant.1 in
     let long = tree.ensures.0 ∙ ap (span 1) (lent_part c.loop-k.at s) in (
       omega arith,
-      omega arith,
-      omega arith,
       begins s k here long,
-      contents_more s k here long old (omega arith) c.loop-k.invariant.4 first.ensures second.ensures,
+      contents_more s k here long old (omega arith) c.loop-k.invariant.2 c.put_word.ensures c.put_word-in-loop-k.ensures,
     )
-
-pub returns : goal.returns
-returns c =
-    let e : c.loop-k.k ≡ c.args.m = omega arith in cc

@@ -2,7 +2,7 @@
 -- where their node counts end.
 use mathlib.Core.List.{◌++◌}
 use mathlib.Core.Path.{◌≡◌}
-use Prim.Native.Nat.{◌*◌, ◌-◌, ◌≤◌}
+use Prim.Native.Nat.{◌*◌, ◌≤◌}
 use lib.ListN.{length, drop}
 use Rattle.model.specs.Book.{bytes_of, lined_up}
 use Rattle.theory_formats.specs.Contents.{total}
@@ -11,11 +11,4 @@ use Rattle.book_bytes.proofs.put_contents.Given as goal
 
 abbrev pub invariant-loop-k : goal.invariant-loop-k
 invariant-loop-k l =
-    (l.k ≤ l.m)
-    × (l.at ≤ length l.s)
-    × (length l.out ≡ length l.initial.out)
-    × (l.at ≡ total (spans l.k l.s))
-    × (l.out ≡ bytes_of (lined_up 0 (spans l.k l.s)) ++ drop (4 * l.k) l.initial.out)
-
-abbrev pub decreases-loop-k : goal.decreases-loop-k
-decreases-loop-k l = l.m - l.k
+    (l.at ≤ length l.s) × (l.at ≡ total (spans l.k l.s)) × (l.out ≡ bytes_of (lined_up 0 (spans l.k l.s)) ++ drop (4 * l.k) l.initial.out)

@@ -1,9 +1,7 @@
 -- `book_bytes::put_trees` meets its contract: the contents, and the rest is lent for the numbers.
-use mathlib.Core.Path.{◌∙◌}
 use Prim.Native.Nat.{◌*◌}
 use native.Mathlib.Omega.{arith}
 use lib.ListN.{length}
-use lib.Seq.{take-length}
 use Rattle.model.specs.Book.{bytes_of, lined_up}
 use Rattle.theory_reading.specs.Spans.{spans}
 use Rattle.common_lists.proofs.Lent.{lent_start}
@@ -18,4 +16,4 @@ returns c =
     let contents = c.put_contents in
     let bodies = c.put_bytes in
     lent_start (bytes_of (lined_up 0 (spans m s))) old (length_contents m s) contents.ensures (bytes_of s) (2 * length s) (omega arith)
-    (bodies.ensures ∙ rw (take-length s))
+    bodies.ensures
