@@ -1,13 +1,13 @@
--- The counted lines, one after another: the next one's test, and the end.
-use mathlib.Core.Bool.{true, ◌&&◌}
-use mathlib.Core.List.{List}
-use mathlib.Core.Path.{◌≡◌, ap, ◌∙◌}
-use Prim.Native.Nat.{ℕ, ◌+◌, ◌≤◌, ◌<◌}
-use native.Mathlib.Numerals.{add-one}
+-- The counted lines: what the option of one is, how many there are, and what they all say.
+use mathlib.Core.Bool.{◌&&◌}
+use mathlib.Core.List.{List, [], ◌∷◌}
+use mathlib.Core.Path.{◌≡◌, refl, ap, ap₂, ◌∙◌}
+use Prim.Native.Nat.{ℕ, zero, suc, ◌≤◌, ◌<◌}
 use native.Mathlib.Omega.{arith}
 use lib.Dec.{leb, ltb}
-use lib.ListN.{length, get_or, take, drop, length-map, drop_of_length-le, get_or-map}
-use lib.Seq.{drop-cons, length-take-le, get_or-take}
+use lib.ListN.{length, get_or, take, length-map, get_or-map}
+use lib.Seq.{length-take-le, get_or-take}
+use Rattle.std.specs.List.{list_all}
 use Rattle.model.specs.Base.{all}
 use Rattle.model.specs.Literal.{option}
 use Rattle.model.specs.Sheet.{options_in}
@@ -30,23 +30,14 @@ counted_option c ls i h =
 pub counted_length : (c : ℕ) (ls : List Line) → c ≤ length ls → length (take c (lines_of ls)) ≡ c
 counted_length c ls few = length-take-le c (lines_of ls) (omega (arith, length-map ls line_of))
 
-module _ (n c : ℕ) (ls : List Line) (few : c ≤ length ls) where
-  pub order_more :
-      (i : ℕ) →
-      i < c →
-      all (λ l. ltb (option l) n) (drop i (take c (lines_of ls)))
-      ≡ (ltb (get_or ls i blank).option n && all (λ l. ltb (option l) n) (drop (i + 1) (take c (lines_of ls))))
-  unfolding all
-  order_more i h =
-      rw (
-        drop-cons (take c (lines_of ls)) i (line_of blank) (omega (arith, counted_length c ls few)),
-        add-one i,
-        counted_option c ls i h,
-      )
-
-  pub order_end : (i : ℕ) → c ≤ i → all (λ l. ltb (option l) n) (drop i (take c (lines_of ls))) ≡ true
-  unfolding all
-  order_end i h = rw (drop_of_length-le (take c (lines_of ls)) {i = i} (omega (arith, counted_length c ls few)))
+-- What all counted lines say, of the lines as they are lent.
+pub counted_all :
+    (n c : ℕ) (ls : List Line) →
+    all (λ l. ltb (option l) n) (take c (lines_of ls)) ≡ list_all (λ d. ltb d.option n) (take c ls)
+unfolding all
+counted_all n zero ls = refl
+counted_all n (suc c) [] = refl
+counted_all n (suc c) (d ∷ ls) = ap₂ ◌&&◌ (ap (λ v. ltb v n) (option_literal d.option d.negative)) (counted_all n c ls)
 
 -- The lines are in order by their slots, their count and their options.
 pub in_order_by :

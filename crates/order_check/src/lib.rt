@@ -13,16 +13,8 @@ use order_lines::{Line, MOST_LINES, SLOTS};
 pub fn are_in_order(lines: [Line; SLOTS], count: u16, n: u16) -> bool
     ensures { result ≡ (leb count most_lines && all (λ l. ltb (option l) n) (take count (lines_of lines))) }
 {
-    if MOST_LINES < count {
-        return false;
-    }
-    let many = common_nodes::wide16(count);
-    let mut i = 0;
-    while i < many {
-        if n <= lines[i].option {
-            return false;
-        }
-        i += 1;
-    }
-    true
+    count <= MOST_LINES
+        && lines[..usize::from(count)]
+            .iter()
+            .all(|line| line.option < n)
 }

@@ -1,16 +1,14 @@
--- Lines that are copied one by one: how many may be read, one more that is copied, all of them, and what a reader of the copy may rely on.
+-- Lines that are copied: how many may be read, what then stands in the array, and what a reader of the copy may rely on.
 use mathlib.Core.Bool.{Bool, true, false, ◌&&◌}
 use mathlib.Core.List.{List, ◌++◌}
 use mathlib.Core.Path.{◌≡◌, refl, sym, ap, ◌∙◌}
-use Prim.Native.Nat.{ℕ, ◌+◌, ◌-◌, ◌≤◌, ◌<◌}
-use native.Mathlib.Numerals.{add-one}
+use Prim.Native.Nat.{ℕ, ◌+◌, ◌-◌, ◌≤◌}
 use native.Mathlib.Omega.{arith}
 use lib.Dec.{T, eqb, leb, eqb→eq, leb→le}
-use lib.ListN.{length, take, drop, set, get_or, replicate, length-append, length-drop, length-replicate, replicate-append-replicate}
-use lib.Seq.{take-suc, length-take-le, take_at, drop_at}
+use lib.ListN.{length, take, drop, replicate, length-append, length-drop, length-replicate, replicate-append-replicate}
+use lib.Seq.{length-take-le, take_at, drop_at}
 use borrow.Author.Tests.{eq-eqb, le-leb}
 use package.mir.Facts.{and_yes}
-use Rattle.common_lists.proofs.Starts.{start_more}
 use Rattle.model.specs.Base.{pick}
 use Rattle.order_lines.specs.declared.Line.{Line}
 use Rattle.order_lines.specs.LineMeaning.{blank}
@@ -41,15 +39,12 @@ drop_replicate {A} i n a h =
     ap (drop i) apart ∙ drop_at (replicate i a) (replicate (n - i) a) i (length-replicate i a)
 
 module _ (l : List Line) where
-  -- the array once i lines are copied
+  -- the array with the first i lines copied
   abbrev pub copies_of : ℕ → List Line
   copies_of i = take i l ++ drop i (replicate 64 blank)
 
   pub copied_long : (i : ℕ) → i ≤ length l → i ≤ 64 → length (copies_of i) ≡ 64
   copied_long i h k = omega (arith, length-append (take i l) (drop i (replicate 64 blank)), length-take-le i l h, length-drop i (replicate 64 blank))
-
-  pub copied_more : (i : ℕ) → i < length l → i < 64 → set (copies_of i) i (get_or l i blank) ≡ copies_of (i + 1)
-  copied_more i h k = start_more (take i l) (take (i + 1) l) (replicate 64 blank) (get_or l i blank) (ap (λ n. take n l) (add-one i) ∙ take-suc l i blank h) (length-take-le i l (omega arith)) (omega arith) refl
 
   pub copied_all : (n i : ℕ) → i ≡ readable (length l) n → copies_of i ≡ copied_lines l n
   unfolding copied_lines

@@ -1,3 +1,2 @@
 pub mod Copies
-pub mod Moved
 pub mod LineLaws

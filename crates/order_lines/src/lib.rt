@@ -17,27 +17,32 @@ pub struct Line {
     pub negative: bool,
 }
 
+// What stands where no line is.
+const BLANK: Line = Line {
+    option: 0,
+    negative: false,
+};
+
 // How many lines may be read: the count, where there are 64 slots and no more lines than slots; else none.
 fn readable(slots: usize, count: u16) -> usize
     ensures { result ≡ readable slots count }
 {
-    if slots != SLOTS {
-        return 0;
+    if slots == SLOTS && count <= MOST_LINES {
+        usize::from(count)
+    } else {
+        0
     }
-    if MOST_LINES < count {
-        return 0;
-    }
-    count as usize
 }
 
 // The count by which lines are judged: with another number of slots one that is over the limit, as such lines are refused alike.
 pub fn judged(slots: usize, count: u16) -> u16
     ensures { result ≡ judged slots count }
 {
-    if slots != SLOTS {
-        return MOST_LINES + 1;
+    if slots == SLOTS {
+        count
+    } else {
+        MOST_LINES + 1
     }
-    count
 }
 
 // The counted lines by value; the other places are blank. A slot past the count is never read.
@@ -45,15 +50,8 @@ pub fn copied(lines: &[Line], count: u16) -> [Line; SLOTS]
     ensures { result ≡ copied_lines lines.now count }
 {
     let many = readable(lines.len(), count);
-    let mut all = [Line {
-        option: 0,
-        negative: false,
-    }; SLOTS];
-    let mut i: usize = 0;
-    while i < many {
-        all[i] = lines[i];
-        i = i + 1;
-    }
+    let mut all = [BLANK; SLOTS];
+    all[..many].copy_from_slice(&lines[..many]);
     all
 }
 
@@ -62,10 +60,5 @@ pub fn move_up(lines: &mut [Line], k: usize, last: usize)
     requires { (k ≤ last) × (last < length lines.old) }
     ensures { lines.new ≡ moved_up k last lines.old }
 {
-    let mut i = k;
-    while i < last {
-        let next = i + 1;
-        lines[i] = lines[next];
-        i = next;
-    }
+    lines.copy_within(k + 1..=last, k);
 }

@@ -1,35 +1,28 @@
-use mathlib.Core.Path.{◌≡◌, ap, ◌∙◌}
-use Prim.Native.Nat.{◌<◌}
+-- `order_lines::copied` meets its contract: the lines that may be read stand in the array, before blank ones.
+use mathlib.Core.List.{◌++◌}
+use mathlib.Core.Path.{sym, ap, ◌∙◌}
 use native.Mathlib.Omega.{arith}
-use lib.ListN.{length, set, get_or}
+use lib.ListN.{length, drop, replicate}
+use lib.Seq.{length-take-le}
 use Rattle.order_lines.specs.LineMeaning.{blank}
-use Rattle.order_lines.specs.LentLines.{readable}
-use Rattle.order_lines.proofs.Copies.{readable_fits, copied_more, copied_all}
+use Rattle.order_lines.proofs.Copies.{readable_fits, copied_all}
 use Rattle.order_lines.proofs.copied.Goals as goal
 
-pub offset_bounds-lines-i : goal.offset_bounds-lines-i
-offset_bounds-lines-i c = omega (arith, readable_fits (length c.args.lines.now) c.args.count)
+pub slice_bounds-all-end : goal.slice_bounds-all-end
+slice_bounds-all-end c = omega (arith, readable_fits (length c.args.lines.now) c.args.count)
 
-pub bounds-lines-i : goal.bounds-lines-i
-bounds-lines-i c = omega (arith, readable_fits (length c.args.lines.now) c.args.count)
+pub slice_bounds-copy_from_slice-end : goal.slice_bounds-copy_from_slice-end
+slice_bounds-copy_from_slice-end c = sym (length-take-le c.readable-many.result _ (omega (arith, readable_fits (length c.args.lines.now) c.args.count)))
 
-pub offset_bounds-all-i : goal.offset_bounds-all-i
-offset_bounds-all-i c = omega (arith, readable_fits (length c.args.lines.now) c.args.count)
+pub slice_bounds-copy_from_slice-end-2 : goal.slice_bounds-copy_from_slice-end-2
+slice_bounds-copy_from_slice-end-2 c = sym (length-take-le c.readable-many.result _ (omega (arith, readable_fits (length c.args.lines.now) c.args.count)))
 
-pub bounds-all-i : goal.bounds-all-i
-bounds-all-i c = omega (arith, readable_fits (length c.args.lines.now) c.args.count)
-
-pub loop-i-preserved : goal.loop-i-preserved
-loop-i-preserved c =
-    let lines = c.args.lines.now in
-    let i = c.loop-i.i in
-    let fits = readable_fits (length lines) c.args.count in
-    let inside : i < length lines = omega (arith, fits) in
-    let room : i < 64 = omega (arith, fits) in
-    (omega arith, ap (λ l. set l i (get_or lines i blank)) c.loop-i.invariant.1 ∙ copied_more lines i inside room)
+pub copy_from_slice-requires : goal.copy_from_slice-requires
+copy_from_slice-requires c =
+    let fits = readable_fits (length c.args.lines.now) c.args.count in
+    length-take-le c.readable-many.result _ (omega (arith, fits)) ∙ sym (length-take-le c.readable-many.result c.args.lines.now (omega (arith, fits)))
 
 pub returns : goal.returns
 returns c =
-    let lines = c.args.lines.now in
-    let e : c.loop-i.i ≡ readable (length lines) c.args.count = omega arith in
-    c.loop-i.invariant.1 ∙ copied_all lines c.args.count c.loop-i.i e
+    ap (λ l. l ++ drop c.readable-many.result (replicate 64 blank)) c.copy_from_slice.ensures.after
+    ∙ copied_all c.args.lines.now c.args.count c.readable-many.result c.readable-many.ensures

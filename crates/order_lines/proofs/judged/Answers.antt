@@ -5,10 +5,10 @@ use Rattle.model.specs.Base.{pick}
 use Rattle.order_lines.specs.LentLines.{judged}
 use Rattle.order_lines.proofs.judged.Goals as goal
 
-pub returns-then-slots-ne-SLOTS : goal.returns-then-slots-ne-SLOTS
+pub returns-then-slots-eq-SLOTS : goal.returns-then-slots-eq-SLOTS
 unfolding judged pick
-returns-then-slots-ne-SLOTS c = rw (ne_eqb _ 64 c.if-slots-ne-SLOTS.true) refl
+returns-then-slots-eq-SLOTS c = rw (eq-eqb _ 64 c.if-slots-eq-SLOTS.true) refl
 
-pub returns : goal.returns
+pub returns-else-slots-eq-SLOTS : goal.returns-else-slots-eq-SLOTS
 unfolding judged pick
-returns c = rw (eq-eqb _ 64 c.if-slots-ne-SLOTS.false) refl
+returns-else-slots-eq-SLOTS c = rw (ne_eqb _ 64 c.if-slots-eq-SLOTS.false) refl

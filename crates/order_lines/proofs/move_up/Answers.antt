@@ -1,19 +1,22 @@
-use mathlib.Core.Path.{sym, ap, ◌∙◌}
-use Prim.Native.Nat.{◌+◌}
+-- `order_lines::move_up` meets its contract: from k + 1 up to `last` there are `last` - k lines, and what follows them stands from `last` on.
+use mathlib.Core.List.{List, append_assoc}
+use mathlib.Core.Path.{◌≡◌, ◌∙◌}
+use Prim.Native.Nat.{ℕ, ◌+◌, ◌-◌, ◌≤◌}
 use native.Mathlib.Omega.{arith}
-use lib.ListN.{set, get_or}
-use Rattle.order_lines.specs.LineMeaning.{blank}
-use Rattle.order_lines.proofs.Moved.{moved_none, moved_more}
+use lib.ListN.{take, drop}
+use Rattle.std.specs.List.{copy_within}
+use Rattle.order_lines.specs.LentLines.{moved_up}
 use Rattle.order_lines.proofs.move_up.Goals as goal
 
-pub loop-i-init : goal.loop-i-init
-loop-i-init c = (omega arith, omega arith, sym (moved_none c.args.k c.args.lines.now))
+copied_within : {A : Type 0} (k last : ℕ) (l : List A) → k ≤ last → copy_within l (k + 1) (last + 1) k ≡ moved_up k last l
+unfolding moved_up
+copied_within k last l h =
+    let many : last + 1 - (k + 1) ≡ last - k = omega arith in
+    let end : k + (last - k) ≡ last = omega arith in
+    rw (many, end) (append_assoc (take k l) (take (last - k) (drop (k + 1) l)) (drop last l))
 
-pub loop-i-preserved : goal.loop-i-preserved
-loop-i-preserved c =
-    let i = c.loop-i.i in (
-      omega arith,
-      omega arith,
-      ap (λ l. set l i (get_or l (i + 1) blank)) c.loop-i.invariant.2
-          ∙ moved_more c.args.k c.args.lines.now i blank (omega arith) (omega arith),
-    )
+pub returns : goal.returns
+returns c =
+    let a = c.args in
+    c.copy_within.ensures.after
+    ∙ rw (c.new.ensures.start, c.new.ensures.end) (copied_within a.k a.last a.lines.now c.requires.0)

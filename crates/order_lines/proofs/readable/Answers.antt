@@ -4,15 +4,17 @@ use borrow.Author.Tests.{eq-eqb, ne_eqb, lt-leb, le-leb}
 use Rattle.model.specs.Base.{pick}
 use Rattle.order_lines.specs.LentLines.{readable}
 use Rattle.order_lines.proofs.readable.Goals as goal
+use Rattle.order_lines.proofs.readable.Goals.{else-slots-eq-SLOTS-via-then-slots-eq-SLOTS+else-count-le-MOST_LINES, else-slots-eq-SLOTS-via-else-slots-eq-SLOTS}
 
-pub returns-then-slots-ne-SLOTS : goal.returns-then-slots-ne-SLOTS
+pub returns-then-count-le-MOST_LINES : goal.returns-then-count-le-MOST_LINES
 unfolding readable pick
-returns-then-slots-ne-SLOTS c = rw (ne_eqb _ 64 c.if-slots-ne-SLOTS.true) refl
+returns-then-count-le-MOST_LINES c = rw (eq-eqb _ 64 c.if-slots-eq-SLOTS.true, le-leb _ _ c.if-count-le-MOST_LINES.true) c.from.ensures
 
-pub returns-then-count-gt-MOST_LINES : goal.returns-then-count-gt-MOST_LINES
+pub returns-else-slots-eq-SLOTS : goal.returns-else-slots-eq-SLOTS
 unfolding readable pick
-returns-then-count-gt-MOST_LINES c = rw (eq-eqb _ 64 c.if-slots-ne-SLOTS.false, lt-leb _ _ c.if-count-gt-MOST_LINES.true) refl
-
-pub returns : goal.returns
-unfolding readable pick
-returns c = rw (eq-eqb _ 64 c.if-slots-ne-SLOTS.false, le-leb _ _ c.if-count-gt-MOST_LINES.false) refl
+returns-else-slots-eq-SLOTS c =
+    elim c.else-slots-eq-SLOTS.branch [
+      | else-slots-eq-SLOTS-via-then-slots-eq-SLOTS+else-count-le-MOST_LINES w ↦
+          rw (eq-eqb _ 64 w.if-slots-eq-SLOTS.true, lt-leb _ _ w.if-count-le-MOST_LINES.false) refl
+      | else-slots-eq-SLOTS-via-else-slots-eq-SLOTS w ↦ rw (ne_eqb _ 64 w.if-slots-eq-SLOTS.false) refl
+    ]
