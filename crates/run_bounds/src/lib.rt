@@ -16,7 +16,7 @@ ghost use Rattle.run_bounds.specs.BoundTables.{High, Tabled, Raised, ComeTo};
 ghost use Rattle.run_bounds.specs.Floors.{floor_of, place_of};
 
 use common_limits::{LAST_RULE, NO_RULE};
-use search_place::{Next, Redex, Spot};
+use search_place::{Redex, Spot};
 use search_sizes::BLOCK;
 
 // The bound of a place where no rule applies.
@@ -41,7 +41,7 @@ fn next_for(kind: usize, rule: usize) -> usize
 
 // Where the rule applies at a place whose bound has come to the rule; where the rule does not apply the bound rises to the next rule for
 // such a node, and past all rules at a literal.
-fn try_at(sheet: &[u16], sizes: &[u16], low: &mut [u16], rule: usize, place: usize) -> Spot
+fn try_at(sheet: &[u16], sizes: &[u16], low: &mut [u16], rule: usize, place: usize) -> Option<Spot>
     requires le_rule { (1 ≤ rule) × (rule ≤ last_rule) }
     requires tabled { Tabled sheet.now sizes.now low.old }
     requires place_bound { place < used_in sheet.now }
@@ -51,20 +51,19 @@ fn try_at(sheet: &[u16], sizes: &[u16], low: &mut [u16], rule: usize, place: usi
     ensures rule_bound_2 { spot_of rule place result ≡ none → rule < get_or low.new place 0 }
 {
     if rule < common_nodes::wide16(low[place]) {
-        return Spot::Nowhere;
+        return None;
     }
     let from = 2 + place;
     let head = common_nodes::wide16(sheet[from]);
     if common_nodes::is_literal(head) {
         low[place] = PAST_ALL;
-        return Spot::Nowhere;
+        return None;
     }
-    let spot = search_place::least_at(sheet, sizes, rule, place);
-    if let Spot::At(i, j) = spot {
-        return Spot::At(i, j);
+    if let Some(spot) = search_place::least_at(sheet, sizes, rule, place) {
+        return Some(spot);
     }
     low[place] = next_for(common_nodes::kind_of(head), rule) as u16;
-    Spot::Nowhere
+    None
 }
 
 // Whether one of a block of bounds, from a place on, is not past a rule: where not, all are past it. The loop has no way out and its
@@ -120,7 +119,13 @@ fn first_waiting(low: &[u16], rule: usize, from: usize, to: usize) -> usize
 }
 
 // The least place for a rule that all bounds have come to, from a start on before which all are past it.
-fn least_place(sheet: &[u16], sizes: &[u16], low: &mut [u16], rule: usize, start: usize) -> Next
+fn least_place(
+    sheet: &[u16],
+    sizes: &[u16],
+    low: &mut [u16],
+    rule: usize,
+    start: usize,
+) -> Option<Redex>
     requires rule_le_last_rule { rule ≤ last_rule }
     requires come_to { ComeTo rule start sheet.now sizes.now low.old }
     ensures result_value { next_of result ≡ least_place rule (nodes_in sheet.now) }
@@ -129,18 +134,17 @@ fn least_place(sheet: &[u16], sizes: &[u16], low: &mut [u16], rule: usize, start
     let used = common_nodes::wide16(sheet[1]);
     let mut place = first_waiting(low, rule, start, used);
     while place < used {
-        let spot = try_at(sheet, sizes, low, rule, place);
-        if let Spot::At(i, j) = spot {
-            return Next::Redex(Redex {
+        if let Some(spot) = try_at(sheet, sizes, low, rule, place) {
+            return Some(Redex {
                 rule: rule,
                 place: place,
-                i: i,
-                j: j,
+                i: spot.i,
+                j: spot.j,
             });
         }
         place = first_waiting(low, rule, place + 1, used);
     }
-    Next::Nothing
+    None
 }
 
 // The strategy's step, where all bounds have come to a rule, and those before a cursor are past it.
@@ -150,7 +154,7 @@ pub fn next_redex(
     low: &mut [u16],
     floor: usize,
     cursor: usize,
-) -> Next
+) -> Option<Redex>
     requires { ComeTo floor cursor sheet.now sizes.now low.old }
     ensures result_value { next_of result ≡ next (nodes_in sheet.now) }
     ensures come_to { ComeTo (floor_of no_rule result) (place_of result) sheet.now sizes.now low.new }
@@ -158,14 +162,13 @@ pub fn next_redex(
     let mut rule = floor;
     let mut start = cursor;
     while rule <= LAST_RULE {
-        let found = least_place(sheet, sizes, low, rule, start);
-        if let Next::Redex(redex) = found {
-            return Next::Redex(redex);
+        if let Some(redex) = least_place(sheet, sizes, low, rule, start) {
+            return Some(redex);
         }
         rule += 1;
         start = 0;
     }
-    Next::Nothing
+    None
 }
 
 // The least rule from a start on, and below a limit, that applies at a place; the limit where none does. At a literal none does, and at
@@ -186,17 +189,14 @@ fn least_rule(sheet: &[u16], sizes: &[u16], place: usize, start: usize, limit: u
         return limit;
     }
     let kind = common_nodes::kind_of(head);
-    let mut rule = start;
-    while rule < limit {
-        if rule_table::kind_for(rule) == kind {
-            let spot = search_place::least_at(sheet, sizes, rule, place);
-            if let Spot::At(i, j) = spot {
-                return rule;
-            }
+    for rule in start..limit {
+        if rule_table::kind_for(rule) == kind
+            && search_place::least_at(sheet, sizes, rule, place).is_some()
+        {
+            return rule;
         }
-        rule += 1;
     }
-    rule
+    limit
 }
 
 // The bound of a place rises up to a limit, or to the least rule below it that applies there: the number it has come to.

@@ -1,18 +1,30 @@
 -- The tables that a run begins with, and a run whose budget is spent.
-use mathlib.Core.Bool.{true, false}
+use mathlib.Core.Bool.{Bool, true, false, not}
 use mathlib.Core.List.{List}
 use mathlib.Core.Option.{Option, none, some}
-use mathlib.Core.Path.{◌≡◌, sym}
+use mathlib.Core.Path.{◌≡◌, refl, sym}
 use Prim.Native.Nat.{ℕ}
 use native.Mathlib.Omega.{arith}
 use lib.ListN.{replicate, length-replicate, get_or-replicate}
+use Rattle.std.specs.Option.{is_some}
+use Rattle.std.specs.Prelude as P
 use Rattle.model.specs.Base.{maybe}
 use Rattle.model.specs.Limits.{sheet_room}
 use Rattle.model.specs.Strategy.{Redex, next}
 use Rattle.model.specs.Sheet.{nodes_in}
 use Rattle.theory_rewriting.specs.Reached.{Reached, Ends, run_done, run_over}
+use Rattle.search_place.specs.declared.Redex as R
+use Rattle.search_place.specs.Redexes.{next_of}
 use Rattle.search_sizes.specs.SizeTables.{Measured}
 use Rattle.run_bounds.specs.BoundTables.{ComeTo}
+
+-- Whether the strategy has no step, as the program asks it.
+pub none_left : (o : P.Option R.Redex) (b : Bool) → is_some o ≡ not b → b ≡ maybe true (λ x. false) (next_of o)
+unfolding maybe
+none_left P.None true e = refl
+none_left P.None false e = cc
+none_left (P.Some x) true e = cc
+none_left (P.Some x) false e = refl
 
 pub run_ended :
     {start s : List ℕ} {count : ℕ} →

@@ -9,23 +9,12 @@ ghost use Rattle.search_place.specs.Redexes.{next_of};
 ghost use Rattle.run_bounds.specs.BoundTables.{ComeTo};
 
 use common_limits::SHEET_ROOM;
-use search_place::Next;
 
 // What a run ends with: whether no rule applies any more, and the number of steps done.
 #[derive(Clone, Copy)]
 pub struct Ended {
     pub settled: bool,
     pub count: u64,
-}
-
-// Whether the strategy has no step.
-fn is_none(next: Next) -> bool
-    ensures { result ≡ maybe true (λ x. false) (next_of next) }
-{
-    if let Next::Nothing = next {
-        return true;
-    }
-    false
 }
 
 // The strategy's steps on a sheet, by the sizes of its trees and the bounds of its places.
@@ -38,7 +27,7 @@ fn run_by(sheet: &mut [u16], sizes: &mut [u16], low: &mut [u16], budget: u64) ->
     let mut count = 0;
     while count < budget {
         let next = run_bounds::next_redex(sheet, sizes, low, floor, cursor);
-        let Next::Redex(redex) = next else {
+        let Some(redex) = next else {
             return Ended {
                 settled: true,
                 count: count,
@@ -51,7 +40,7 @@ fn run_by(sheet: &mut [u16], sizes: &mut [u16], low: &mut [u16], budget: u64) ->
     }
     let last = run_bounds::next_redex(sheet, sizes, low, floor, cursor);
     Ended {
-        settled: is_none(last),
+        settled: last.is_none(),
         count: count,
     }
 }

@@ -1,5 +1,6 @@
 -- What each case of a search's answer is in the definitions, and what a step does.
 use Rattle.std.specs.Prelude.{true, List, ◌≡◌, ℕ}
+use Rattle.std.specs.Prelude as P
 use Rattle.std.proofs.Math.Option.{Option, none, some}
 use Rattle.model.specs.Base.{is_some}
 use Rattle.model.specs.Results.{stepped}
@@ -7,19 +8,16 @@ use Rattle.model.specs.Rules.{step}
 use Rattle.model.specs.Sheet.{nodes_in}
 use Rattle.model.specs.Strategy.{Redex, redex}
 use Rattle.search_place.specs.declared.Spot as S
-use Rattle.search_place.specs.declared.Spot.TheVariants as V₁
 use Rattle.search_place.specs.declared.Redex as R
-use Rattle.search_place.specs.declared.Next as N
-use Rattle.search_place.specs.declared.Next.TheVariants as V₂
 
 -- The child and the inner child, for a rule at a place.
-abbrev pub spot_of : ℕ → ℕ → S.Spot → Option Redex
-spot_of rule place (V₁.At i j) = some (redex rule place i j)
-spot_of rule place V₁.Nowhere = none
+abbrev pub spot_of : ℕ → ℕ → P.Option S.Spot → Option Redex
+spot_of rule place (P.Some x) = some (redex rule place x.i x.j)
+spot_of rule place P.None = none
 
-abbrev pub next_of : N.Next → Option Redex
-next_of (V₂.Redex x) = some (redex x.rule x.place x.i x.j)
-next_of V₂.Nothing = none
+abbrev pub next_of : P.Option R.Redex → Option Redex
+next_of (P.Some x) = some (redex x.rule x.place x.i x.j)
+next_of P.None = none
 
 -- A step applies to the nodes of a sheet; the sheet after it.
 abbrev pub Applies : R.Redex → List ℕ → Type 0

@@ -16,9 +16,9 @@ ghost use Rattle.search_place.specs.Sought.{Sought};
 
 // Where a rule applies to a node: the child and the inner child.
 #[derive(Clone, Copy)]
-pub enum Spot {
-    At(usize, usize),
-    Nowhere,
+pub struct Spot {
+    pub i: usize,
+    pub j: usize,
 }
 
 // A step: rule, place, child and inner child.
@@ -30,15 +30,8 @@ pub struct Redex {
     pub j: usize,
 }
 
-// The strategy's step.
-#[derive(Clone, Copy)]
-pub enum Next {
-    Redex(Redex),
-    Nothing,
-}
-
 // The least inner child for rules 11 and 12: the first literal of the conjunction that is child i.
-fn least_lifted(part: &[u16], sizes: &[u16], rule: usize, i: usize, at: usize) -> Spot
+fn least_lifted(part: &[u16], sizes: &[u16], rule: usize, i: usize, at: usize) -> Option<Spot>
     requires le_rule { (11 ≤ rule) × (rule ≤ 12) }
     requires stretch { Stretch part.now }
     requires headed { Headed rule part.now }
@@ -49,23 +42,23 @@ fn least_lifted(part: &[u16], sizes: &[u16], rule: usize, i: usize, at: usize) -
 {
     let head = common_nodes::wide16(part[at]);
     if common_nodes::kind_of(head) != 3 {
-        return Spot::Nowhere;
+        return None;
     }
     let m = common_nodes::children_of(head);
     let mut j = 0;
     let mut from = at + 1;
     while j < m {
         if common_nodes::is_literal(common_nodes::wide16(part[from])) {
-            return Spot::At(i, j);
+            return Some(Spot { i: i, j: j });
         }
         from += common_nodes::wide16(sizes[from]);
         j += 1;
     }
-    Spot::Nowhere
+    None
 }
 
 // The least inner child for rule 13, which has no use for any but 0. Before its child i only literals may stand, a number each.
-fn least_merged(part: &[u16], i: usize, at: usize) -> Spot
+fn least_merged(part: &[u16], i: usize, at: usize) -> Option<Spot>
     requires stretch { Stretch part.now }
     requires headed { Headed 13 part.now }
     requires i_bound { (i < children (get_or part.now 0 0))
@@ -73,16 +66,16 @@ fn least_merged(part: &[u16], i: usize, at: usize) -> Spot
     ensures { (p : ℕ) → spot_of 13 p result ≡ least_j 13 p i (forest_in part.now) }
 {
     if at != 1 + i {
-        return Spot::Nowhere;
+        return None;
     }
     if rule_lift::applies(part, 13, i, 0, at) {
-        return Spot::At(i, 0);
+        return Some(Spot { i: i, j: 0 });
     }
-    Spot::Nowhere
+    None
 }
 
 // The least inner child for rule 14, before whose child i too only literals may stand.
-fn least_factored(part: &[u16], sizes: &[u16], i: usize, at: usize) -> Spot
+fn least_factored(part: &[u16], sizes: &[u16], i: usize, at: usize) -> Option<Spot>
     requires stretch { Stretch part.now }
     requires headed { Headed 14 part.now }
     requires i_bound { (i < children (get_or part.now 0 0))
@@ -91,17 +84,17 @@ fn least_factored(part: &[u16], sizes: &[u16], i: usize, at: usize) -> Spot
     ensures { (p : ℕ) → spot_of 14 p result ≡ least_j 14 p i (forest_in part.now) }
 {
     if at != 1 + i {
-        return Spot::Nowhere;
+        return None;
     }
     let j = search_common::first_common(part, sizes, i);
     if common_nodes::arity_of(common_nodes::wide16(part[at])) < j {
-        return Spot::Nowhere;
+        return None;
     }
-    Spot::At(i, j)
+    Some(Spot { i: i, j: j })
 }
 
 // The least inner child for child i and a rule that looks into it.
-fn least_inner(part: &[u16], sizes: &[u16], rule: usize, i: usize, at: usize) -> Spot
+fn least_inner(part: &[u16], sizes: &[u16], rule: usize, i: usize, at: usize) -> Option<Spot>
     requires le_rule { (11 ≤ rule) × (rule ≤ 14) }
     requires stretch { Stretch part.now }
     requires headed { Headed rule part.now }
@@ -112,13 +105,13 @@ fn least_inner(part: &[u16], sizes: &[u16], rule: usize, i: usize, at: usize) ->
 {
     match rule {
         11..=12 => least_lifted(part, sizes, rule, i, at),
-        13..=13 => least_merged(part, i, at),
+        13 => least_merged(part, i, at),
         _ => least_factored(part, sizes, i, at),
     }
 }
 
 // The least child and inner child for such a rule.
-fn least_inside(part: &[u16], sizes: &[u16], rule: usize) -> Spot
+fn least_inside(part: &[u16], sizes: &[u16], rule: usize) -> Option<Spot>
     requires le_rule { (11 ≤ rule) × (rule ≤ 14) }
     requires stretch { Stretch part.now }
     requires headed { Headed rule part.now }
@@ -129,14 +122,13 @@ fn least_inside(part: &[u16], sizes: &[u16], rule: usize) -> Spot
     let mut i = 0;
     let mut at = 1;
     while i < k {
-        let spot = least_inner(part, sizes, rule, i, at);
-        if let Spot::At(x, y) = spot {
-            return Spot::At(x, y);
+        if let Some(spot) = least_inner(part, sizes, rule, i, at) {
+            return Some(spot);
         }
         at += common_nodes::wide16(sizes[at]);
         i += 1;
     }
-    Spot::Nowhere
+    None
 }
 
 // The first child that is one of the constants which a rule looks for; as many as there are children where there is none.
@@ -189,26 +181,26 @@ fn first_beside(part: &[u16], sizes: &[u16], rule: usize) -> usize
             first_constant(part, sizes, rule, constant, constant)
         }
         7..=8 => only_child(part, rule),
-        15..=15 => first_constant(part, sizes, rule, rule_least::FALSE, rule_least::TRUE),
+        15 => first_constant(part, sizes, rule, rule_least::FALSE, rule_least::TRUE),
         _ => search_recurring::first_recurring(part, sizes, rule),
     }
 }
 
 // Rules 16 and 17 are about the node alone, and have use for no child but 0.
-fn least_ended(part: &[u16], rule: usize) -> Spot
+fn least_ended(part: &[u16], rule: usize) -> Option<Spot>
     requires le_rule { (16 ≤ rule) × (rule ≤ 17) }
     requires stretch { Stretch part.now }
     requires headed { Headed rule part.now }
     ensures { (p : ℕ) → spot_of rule p result ≡ least_i rule p (forest_in part.now) }
 {
     if rule_least::ends(part, rule, 0, 0) {
-        return Spot::At(0, 0);
+        return Some(Spot { i: 0, j: 0 });
     }
-    Spot::Nowhere
+    None
 }
 
 // The least child and inner child for a rule at the first tree of a stretch.
-pub fn least_child(part: &[u16], sizes: &[u16], rule: usize) -> Spot
+pub fn least_child(part: &[u16], sizes: &[u16], rule: usize) -> Option<Spot>
     requires le_rule { (1 ≤ rule)
         × (rule ≤ last_rule)
         × (1 ≤ length part.now) }
@@ -217,7 +209,7 @@ pub fn least_child(part: &[u16], sizes: &[u16], rule: usize) -> Spot
     ensures { (p : ℕ) → spot_of rule p result ≡ least_i rule p (forest_in part.now) }
 {
     if !rule_table::is_headed(part, rule) {
-        return Spot::Nowhere;
+        return None;
     }
     match rule {
         11..=14 => least_inside(part, sizes, rule),
@@ -225,15 +217,15 @@ pub fn least_child(part: &[u16], sizes: &[u16], rule: usize) -> Spot
         _ => {
             let i = first_beside(part, sizes, rule);
             if i < common_nodes::children_of(common_nodes::wide16(part[0])) {
-                return Spot::At(i, 0);
+                return Some(Spot { i: i, j: 0 });
             }
-            Spot::Nowhere
+            None
         }
     }
 }
 
 // The same at a place of a sheet.
-pub fn least_at(sheet: &[u16], sizes: &[u16], rule: usize, place: usize) -> Spot
+pub fn least_at(sheet: &[u16], sizes: &[u16], rule: usize, place: usize) -> Option<Spot>
     requires le_rule { (1 ≤ rule) × (rule ≤ last_rule) }
     requires measured { Measured sheet.now sizes.now }
     requires place_bound { place < used_in sheet.now }

@@ -16,12 +16,12 @@ counted c = c.wide16-used.ensures.0 ∙ sym (used_here c.args.sheet.now)
 passed :
     (c : goal.In_default) →
     let a = c.args in
-    ComeTo a.rule (c.loop-place.place + 1) a.sheet.now a.sizes.now c.try_at-spot.new.low
+    ComeTo a.rule (c.loop-place.place + 1) a.sheet.now a.sizes.now c.try_at.new.low
 passed c =
     let a = c.args in
     let i = c.loop-place.invariant in
-    let e = c.try_at-spot.ensures.raised in
-    let new = c.try_at-spot.new.low in
+    let e = c.try_at.ensures.raised in
+    let new = c.try_at.new.low in
     let rises = e.rises in
     let past = c.in_default.ensures.rule_bound_2 refl in
     record {
@@ -46,10 +46,10 @@ loop-place-init c =
     let w = c.first_waiting-place.ensures in
     come_further c.requires.come_to (omega (arith, w.1, counted (goal.at.loop-place-init c).After-wide16-used)) w.2
 
-pub try_at-spot-requires : goal.try_at-spot-requires
-try_at-spot-requires c =
+pub try_at-requires : goal.try_at-requires
+try_at-requires c =
     let i = c.loop-place.invariant in
-    let within : c.loop-place.place < used_in c.args.sheet.now = omega (arith, counted (goal.at.try_at-spot-requires c).After-wide16-used) in
+    let within : c.loop-place.place < used_in c.args.sheet.now = omega (arith, counted (goal.at.try_at-requires c).After-wide16-used) in
     record {
       le_rule = (i.some_rule, c.requires.rule_le_last_rule);
       tabled = i.tables;
@@ -57,15 +57,15 @@ try_at-spot-requires c =
       rule_bound = i.high c.loop-place.place (omega arith) within;
     }
 
-pub returns-in-At : goal.returns-in-At
-returns-in-At c =
+pub returns-in-Some : goal.returns-in-Some
+returns-in-Some c =
     let a = c.args in
     let i = c.loop-place.invariant in
-    let e = c.try_at-spot.ensures in
-    let new = c.try_at-spot.new.low in
+    let e = c.try_at.ensures in
+    let new = c.try_at.new.low in
     let rises = e.raised.rises in
-    let found = c.in-At.ensures.result_value in
-    let used = counted (goal.at.returns-in-At c).After-wide16-used in
+    let found = c.in-Some.ensures.result_value in
+    let used = counted (goal.at.returns-in-Some c).After-wide16-used in
     let few = i.tables.measured.sheet.count in
     record {
       result_value = p_found a.rule (nodes_in a.sheet.now) c.loop-place.place (omega arith) found (none_before i);

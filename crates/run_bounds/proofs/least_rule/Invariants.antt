@@ -2,7 +2,7 @@
 -- start on, below the present one, applies at the place.
 use mathlib.Core.Option.{none}
 use mathlib.Core.Path.{◌≡◌}
-use Prim.Native.Nat.{ℕ, ◌-◌, ◌≤◌, ◌<◌}
+use Prim.Native.Nat.{ℕ, ◌≤◌, ◌<◌}
 use lib.ListN.{drop}
 use Rattle.model.specs.Code.{decode}
 use Rattle.model.specs.Sheet.{nodes_in}
@@ -10,10 +10,4 @@ use Rattle.model.specs.Strategy.{least_i}
 use Rattle.run_bounds.proofs.least_rule.Given as goal
 
 abbrev pub invariant-loop-rule : goal.invariant-loop-rule
-invariant-loop-rule l =
-    (l.start ≤ l.rule)
-    × (l.rule ≤ l.limit)
-    × ((s : ℕ) → l.start ≤ s → s < l.rule → none ≡ least_i s l.place (decode (drop l.place (nodes_in l.sheet))))
-
-abbrev pub decreases-loop-rule : goal.decreases-loop-rule
-decreases-loop-rule l = l.limit - l.rule
+invariant-loop-rule l = (s : ℕ) → l.start ≤ s → s < l.rule → none ≡ least_i s l.place (decode (drop l.place (nodes_in l.sheet)))

@@ -7,10 +7,10 @@ use Rattle.run_bounds.specs.BoundTables.{ComeTo}
 use Rattle.run_bounds.proofs.RisingBounds.{none_lower, come_first}
 use Rattle.run_bounds.proofs.next_redex.Goals as goal
 
-pub returns-in-Redex-clause-result_value : goal.returns-in-Redex-clause-result_value
-returns-in-Redex-clause-result_value c =
+pub returns-in-Some-clause-result_value : goal.returns-in-Some-clause-result_value
+returns-in-Some-clause-result_value c =
     let i = c.loop-rule.invariant in
-    r_found (nodes_in c.args.sheet.now) c.loop-rule.rule i.some_rule (omega arith) c.in-Redex.ensures.result_value (none_lower i)
+    r_found (nodes_in c.args.sheet.now) c.loop-rule.rule i.some_rule (omega arith) c.in-Some.ensures.result_value (none_lower i)
 
 pub returns : goal.returns
 returns c =

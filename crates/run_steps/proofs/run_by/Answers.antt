@@ -7,16 +7,16 @@ use Rattle.model.specs.Sheet.{nodes_in}
 use Rattle.model.specs.Strategy.{next, redex}
 use Rattle.theory_rewriting.specs.Reached.{Reached, reached_start, next_here, reached_more, run_done}
 use Rattle.search_place.specs.Redexes.{next_of}
-use Rattle.run_steps.proofs.StartAndEnd.{run_ended}
+use Rattle.run_steps.proofs.StartAndEnd.{none_left, run_ended}
 use Rattle.run_steps.proofs.run_by.Goals as goal
-use Rattle.run_steps.proofs.run_by.Goals.{In-Redex}
+use Rattle.run_steps.proofs.run_by.Goals.{In-Some}
 
 -- The strategy's step, as the search found it.
 found :
-    (c : goal.In-Redex) →
-    let x = c.in-Redex.redex in
+    (c : goal.In-Some) →
+    let x = c.in-Some.redex in
     next (nodes_in c.loop-count.sheet) ≡ some (redex x.rule x.place x.i x.j)
-found c = sym c.in-Redex.ensures.result_value
+found c = sym c.in-Some.ensures.result_value
 
 pub loop-count-init : goal.loop-count-init
 loop-count-init c =
@@ -28,7 +28,7 @@ returns-in_default c =
 
 pub advance-ahead-requires : goal.advance-ahead-requires
 advance-ahead-requires c =
-    record { come_to = c.in-Redex.ensures.come_to; applies = next_here c.loop-count.invariant.2 (found (goal.at.advance-ahead-requires c).In-Redex) }
+    record { come_to = c.in-Some.ensures.come_to; applies = next_here c.loop-count.invariant.2 (found (goal.at.advance-ahead-requires c).In-Some) }
 
 pub loop-count-preserved : goal.loop-count-preserved
 unfolding stepped
@@ -37,12 +37,12 @@ loop-count-preserved c =
     let e = c.advance-ahead.ensures in (
       omega arith,
       c.advance-ahead.auto.sheet ∙ i.1,
-      subst (Reached _ (c.loop-count.count + 1)) (sym e.sheet_after) (reached_more i.2 (found (goal.at.loop-count-preserved c).In-Redex)),
+      subst (Reached _ (c.loop-count.count + 1)) (sym e.sheet_after) (reached_more i.2 (found (goal.at.loop-count-preserved c).In-Some)),
       e.come_to_2,
     )
 
 pub returns : goal.returns
 returns c =
-    rw c.is_none.ensures
+    rw (none_left c.next_redex-last.result c.is_none.result c.is_none.ensures)
     (run_ended c.loop-count.invariant.2 _ (omega (arith, c.loop-count.invariant.0))
     (next_of c.next_redex-last.result) c.next_redex-last.ensures.result_value)

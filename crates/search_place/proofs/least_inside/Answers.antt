@@ -35,23 +35,23 @@ bounds-part-0 c =
 pub loop-i-init : goal.loop-i-init
 loop-i-init c = passed_first
 
-pub least_inner-spot-requires : goal.least_inner-spot-requires
-least_inner-spot-requires c =
+pub least_inner-requires : goal.least_inner-requires
+least_inner-requires c =
     let p = c.requires in
     record {
       le_rule = p.le_rule;
       stretch = p.stretch;
       headed = p.headed;
-      i_bound = (omega (arith, counted (goal.at.least_inner-spot-requires c).After-children_of-k), c.loop-i.invariant.here);
+      i_bound = (omega (arith, counted (goal.at.least_inner-requires c).After-children_of-k), c.loop-i.invariant.here);
       sizes_of = p.sizes_of;
     }
 
-pub returns-in-At : goal.returns-in-At
-returns-in-At c =
+pub returns-in-Some : goal.returns-in-Some
+returns-in-Some c =
     let a = c.args in
     λ p. i_found a.rule p (forest_in a.part.now) c.loop-i.i
-    (omega (arith, counted (goal.at.returns-in-At c).After-children_of-k, children_counted c.requires.stretch c.requires.headed))
-    (c.in-At.ensures p) (λ q l. c.loop-i.invariant.before q l p)
+    (omega (arith, counted (goal.at.returns-in-Some c).After-children_of-k, children_counted c.requires.stretch c.requires.headed))
+    (c.in-Some.ensures p) (λ q l. c.loop-i.invariant.before q l p)
 
 pub offset_bounds-sizes-at : goal.offset_bounds-sizes-at
 offset_bounds-sizes-at c = let w = inside (goal.at.offset_bounds-sizes-at c).In-loop-i in omega arith
