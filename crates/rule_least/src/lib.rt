@@ -12,12 +12,7 @@ ghost use Rattle.theory_rewriting.specs.Heads.{Headed, rewritten_to};
 ghost use Rattle.rule_least.specs.LeastHeads.{is_constant, without_member, is_ended, ended_head};
 
 use common_limits::LEAST_FACTOR;
-
-// The number of an empty conjunction (kind 3).
-pub const TRUE: u16 = 12288;
-
-// The number of an empty disjunction (kind 4).
-pub const FALSE: u16 = 16384;
+pub use rule_table::{FALSE, TRUE};
 
 // The number is one of the two.
 fn is_constant(x: u16) -> bool
@@ -32,9 +27,10 @@ fn without_member(head: usize, member: u16) -> u16
     ensures { result ≡ without_member head member }
 {
     if member == TRUE && 0 < head % LEAST_FACTOR {
-        return (head - LEAST_FACTOR - 1) as u16;
+        (head - LEAST_FACTOR - 1) as u16
+    } else {
+        (head - LEAST_FACTOR) as u16
     }
-    (head - LEAST_FACTOR) as u16
 }
 
 // Whether rule 15 applies to the first tree of the stretch, whose head is right for it, at the member i that stands at a place.
@@ -44,10 +40,7 @@ pub fn drops(part: &[u16], i: usize, j: usize, at: usize) -> bool
     requires i_bound { (i < children (get_or part.now 0 0)) × (at ≡ child_at i part.now) }
     ensures { result ≡ is_some (rewrite 15 i j (forest_in part.now)) }
 {
-    if j != 0 {
-        return false;
-    }
-    is_constant(part[at])
+    j == 0 && is_constant(part[at])
 }
 
 // The step itself, where the rule applies: member i, one number, goes.
@@ -58,7 +51,7 @@ pub fn drop_member(part: &mut [u16], i: usize, j: usize)
     ensures { part.new ≡ rewritten_to 15 i j part.old }
 {
     let at = common_nodes::child_at(part, i);
-    part[0] = without_member(common_nodes::wide16(part[0]), part[at]);
+    part[0] = without_member(usize::from(part[0]), part[at]);
     sheet_shifts::remove(part, at, 1);
 }
 
@@ -69,9 +62,10 @@ fn is_ended(head: usize, rule: usize) -> bool
     let asked = head % LEAST_FACTOR;
     let members = common_nodes::children_of(head);
     if rule == 16 {
-        return asked == 0 || members < asked;
+        asked == 0 || members < asked
+    } else {
+        asked == 1 || asked == members
     }
-    asked == 1 || asked == members
 }
 
 // The head that takes its place: none or too many asked for leave a constant, one is any-of, and all are all-of.
@@ -81,15 +75,12 @@ fn ended_head(head: usize, rule: usize) -> u16
     let asked = head % LEAST_FACTOR;
     let members = common_nodes::children_of(head);
     if rule == 16 {
-        if asked == 0 {
-            return TRUE;
-        }
-        return FALSE;
+        if asked == 0 { TRUE } else { FALSE }
+    } else if asked == 1 {
+        FALSE + members as u16
+    } else {
+        TRUE + members as u16
     }
-    if asked == 1 {
-        return FALSE + members as u16;
-    }
-    TRUE + members as u16
 }
 
 // Whether rule 16 or 17 applies to the first tree of the stretch, whose head is right for it.
@@ -99,13 +90,7 @@ pub fn ends(part: &[u16], rule: usize, i: usize, j: usize) -> bool
     requires headed { Headed rule part.now }
     ensures { result ≡ is_some (rewrite rule i j (forest_in part.now)) }
 {
-    if i != 0 {
-        return false;
-    }
-    if j != 0 {
-        return false;
-    }
-    is_ended(common_nodes::wide16(part[0]), rule)
+    i == 0 && j == 0 && is_ended(usize::from(part[0]), rule)
 }
 
 // The step itself, where the rule applies: 16 leaves a constant alone, and 17 writes another head before the members.
@@ -116,7 +101,7 @@ pub fn end(part: &mut [u16], rule: usize, i: usize, j: usize)
     requires part_value { is_some (rewrite rule i j (forest_in part.old)) ≡ true }
     ensures { part.new ≡ rewritten_to rule i j part.old }
 {
-    let head = common_nodes::wide16(part[0]);
+    let head = usize::from(part[0]);
     let members = common_nodes::children_of(head);
     let end = common_nodes::child_at(part, members);
     part[0] = ended_head(head, rule);

@@ -11,16 +11,16 @@ ghost use Rattle.theory_rewriting.specs.Heads.{Headed, rewritten_to};
 ghost use Rattle.rule_simplify.specs.Constants.{constant_for};
 
 use common_limits::KIND_FACTOR_16;
+use rule_table::{FALSE, TRUE};
 
-// The constant that a rule of 1 to 6 looks for: false for 1, 3 and 5, true for 2, 4 and 6. False is the number of an empty
-// disjunction (kind 4), true that of an empty conjunction (kind 3).
+// The constant that a rule of 1 to 6 looks for: false for 1, 3 and 5, true for 2, 4 and 6.
 pub fn constant_for(rule: usize) -> u16
     requires { (1 ≤ rule) × (rule ≤ 6) }
     ensures { result ≡ constant_for rule }
 {
     match rule {
-        1 | 3 | 5 => 16384,
-        _ => 12288,
+        1 | 3 | 5 => FALSE,
+        _ => TRUE,
     }
 }
 
@@ -32,13 +32,11 @@ pub fn applies(part: &[u16], rule: usize, i: usize, j: usize, at: usize) -> bool
     requires i_bound { (i < children (get_or part.now 0 0)) × (at ≡ child_at i part.now) }
     ensures { result ≡ is_some (rewrite rule i j (forest_in part.now)) }
 {
-    if j != 0 {
-        return false;
-    }
-    match rule {
-        1..=6 => part[at] == constant_for(rule),
-        _ => common_nodes::children_of(common_nodes::wide16(part[0])) == 1,
-    }
+    j == 0
+        && match rule {
+            1..=6 => part[at] == constant_for(rule),
+            _ => common_nodes::children_of(usize::from(part[0])) == 1,
+        }
 }
 
 // The step itself, where the rule applies. Rules 1 to 3 leave only the constant, and the node keeps its kind; 4 to 6 leave out
@@ -53,7 +51,7 @@ pub fn turn(part: &mut [u16], rule: usize, i: usize, j: usize)
     match rule {
         1..=3 => {
             let head = part[0];
-            let k = common_nodes::children_of(common_nodes::wide16(head));
+            let k = common_nodes::children_of(usize::from(head));
             let end = common_nodes::child_at(part, k);
             part[0] = head - head % KIND_FACTOR_16 + 1;
             part[1] = constant_for(rule);
@@ -61,7 +59,7 @@ pub fn turn(part: &mut [u16], rule: usize, i: usize, j: usize)
         }
         4..=6 => {
             let at = common_nodes::child_at(part, i);
-            part[0] = part[0] - 1;
+            part[0] -= 1;
             sheet_shifts::remove(part, at, 1);
         }
         _ => sheet_shifts::remove(part, 0, 1),

@@ -37,11 +37,8 @@ column f d xs e (suc r) h l =
     rw (before, e) (entry f d table r (omega arith))
 
 -- A number outside the table has no row.
-pub below_rules : (r : ℕ) → r < 1 → false ≡ is_rule r
-below_rules r h = sym (fails_if (is_rule r) (λ t. omega (arith, rule_within r t)))
-
-pub past_rules : (r : ℕ) → last_rule < r → false ≡ is_rule r
-past_rules r h = sym (fails_if (is_rule r) (λ t. omega (arith, rule_within r t)))
+pub outside_rules : (r : ℕ) → ((1 ≤ r) × (r ≤ last_rule) → ⊥) → false ≡ is_rule r
+outside_rules r h = sym (fails_if (is_rule r) (λ t. h (rule_within r t)))
 
 -- A row asks for fewer children than some node has, so the column tells whether there is a row.
 few_asked : all (λ w. ltb w.fewest kind_factor) table ≡ true

@@ -30,7 +30,7 @@ pub bounds-part-at : goal.bounds-part-at
 bounds-part-at c = let k = child (goal.at.bounds-part-at c).Start in omega (arith, c.child_at-at.ensures.0)
 
 pub without_member-requires : goal.without_member-requires
-without_member-requires c = omega (arith, high (goal.at.without_member-requires c).Start, c.wide16.ensures.0)
+without_member-requires c = omega (arith, high (goal.at.without_member-requires c).Start, c.from.ensures)
 
 pub remove-requires : goal.remove-requires
 remove-requires c =
@@ -39,7 +39,7 @@ remove-requires c =
 pub returns : goal.returns
 returns c =
     let l = c.args.part.now in
-    let written = c.without_member.ensures ∙ ap₂ without_member c.wide16.ensures.0 (ap (λ p. get_or l p 0) c.child_at-at.ensures.0) in
+    let written = c.without_member.ensures ∙ ap₂ without_member c.from.ensures (ap (λ p. get_or l p 0) c.child_at-at.ensures.0) in
     turns_drop c.requires.stretch c.requires.headed c.args.i c.args.j (headed_least c.requires.headed (omega arith)).1 c.requires.part_value written
     (c.remove.auto.s ∙ simp length-set)
     (rw c.child_at-at.ensures.0 at c.remove.ensures)

@@ -18,12 +18,12 @@ long c = group_long (headed_group c.requires.stretch c.requires.headed)
 
 -- The number of the members, and where the last one ends.
 counted : (c : goal.After-children_of-members) → c.children_of-members.result ≡ size c.requires.headed.children
-counted c = c.children_of-members.ensures ∙ ap children c.wide16-head.ensures.0 ∙ group_children (headed_group c.requires.stretch c.requires.headed)
+counted c = c.children_of-members.ensures ∙ ap children c.from-head.ensures ∙ group_children (headed_group c.requires.stretch c.requires.headed)
 
 ended : (c : goal.After-child_at-end) → c.child_at-end.result ≡ child_at (size c.requires.headed.children) c.args.part.now
 ended c =
     let l = c.args.part.now in c.child_at-end.ensures.0
-    ∙ ap (λ m. child_at m l) (c.children_of-members.ensures ∙ ap children c.wide16-head.ensures.0
+    ∙ ap (λ m. child_at m l) (c.children_of-members.ensures ∙ ap children c.from-head.ensures
     ∙ group_children (headed_group c.requires.stretch c.requires.headed))
 
 pub bounds-part-0 : goal.bounds-part-0
@@ -47,7 +47,7 @@ remove-requires c =
 pub returns-then-rule-eq16 : goal.returns-then-rule-eq16
 returns-then-rule-eq16 c =
     let h = c.requires.headed in
-    let written = c.ended_head.ensures ∙ ap (λ x. ended_head x c.args.rule) c.wide16-head.ensures.0 in
+    let written = c.ended_head.ensures ∙ ap (λ x. ended_head x c.args.rule) c.from-head.ensures in
     turns_end c.requires.stretch h c.args.i c.args.j
     (headed_least h (omega (arith, c.requires.le_rule.0))).1 c.if-rule-eq16.true c.requires.part_value written (c.remove.auto.s ∙ simp length-set)
     (rw (ended (goal.at.returns-then-rule-eq16 c).After-child_at-end) at c.remove.ensures)
@@ -55,6 +55,6 @@ returns-then-rule-eq16 c =
 pub returns-else-rule-eq16 : goal.returns-else-rule-eq16
 returns-else-rule-eq16 c =
     let h = c.requires.headed in
-    let written = c.ended_head.ensures ∙ ap (λ x. ended_head x c.args.rule) c.wide16-head.ensures.0 in
+    let written = c.ended_head.ensures ∙ ap (λ x. ended_head x c.args.rule) c.from-head.ensures in
     turns_rename c.requires.stretch h c.args.i c.args.j (headed_least h (omega (arith, c.requires.le_rule.0))).1
     (omega (arith, c.if-rule-eq16.false, c.requires.le_rule)) c.requires.part_value written (simp length-set) refl

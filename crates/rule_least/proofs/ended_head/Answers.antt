@@ -18,9 +18,9 @@ returns-then-asked-eq0 c =
     let a = c.args in
     rw (eq-eqb a.rule 16 c.if-rule-eq16.true, eq-eqb (a.head % least_factor) 0 c.if-asked-eq0.true)
 
-pub returns-then-rule-eq16 : goal.returns-then-rule-eq16
+pub returns-else-asked-eq0 : goal.returns-else-asked-eq0
 unfolding ended_head pick
-returns-then-rule-eq16 c =
+returns-else-asked-eq0 c =
     let a = c.args in
     rw (eq-eqb a.rule 16 c.if-rule-eq16.true, ne_eqb (a.head % least_factor) 0 c.if-asked-eq0.false)
 
@@ -36,14 +36,14 @@ returns-then-asked-eq1 c =
     let a = c.args in
     rw (ne_eqb a.rule 16 c.if-rule-eq16.false, eq-eqb (a.head % least_factor) 1 c.if-asked-eq1.true, c.children_of-members.ensures)
 
-pub overflow_cast-result-2 : goal.overflow_cast-result-2
-overflow_cast-result-2 c = let n = few (goal.at.overflow_cast-result-2 c).After-children_of-members in record { fits = omega arith }
+pub overflow_cast-result-else-asked-eq1 : goal.overflow_cast-result-else-asked-eq1
+overflow_cast-result-else-asked-eq1 c = let n = few (goal.at.overflow_cast-result-else-asked-eq1 c).After-children_of-members in record { fits = omega arith }
 
-pub overflow_add-result-2 : goal.overflow_add-result-2
-overflow_add-result-2 c = let n = few (goal.at.overflow_add-result-2 c).After-children_of-members in record { fits = omega arith }
+pub overflow_add-result-else-asked-eq1 : goal.overflow_add-result-else-asked-eq1
+overflow_add-result-else-asked-eq1 c = let n = few (goal.at.overflow_add-result-else-asked-eq1 c).After-children_of-members in record { fits = omega arith }
 
-pub returns : goal.returns
+pub returns-else-asked-eq1 : goal.returns-else-asked-eq1
 unfolding ended_head pick
-returns c =
+returns-else-asked-eq1 c =
     let a = c.args in
     rw (ne_eqb a.rule 16 c.if-rule-eq16.false, ne_eqb (a.head % least_factor) 1 c.if-asked-eq1.false, c.children_of-members.ensures)

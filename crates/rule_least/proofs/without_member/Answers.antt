@@ -15,9 +15,9 @@ returns-then-head-gt0 c =
     let a = c.args in
     rw (eq-eqb a.member 12288 c.if-member-eq-TRUE.true, lt-ltb 0 (a.head % least_factor) c.if-head-gt0.true)
 
-pub returns : goal.returns
+pub returns-else-member-eq-TRUE : goal.returns-else-member-eq-TRUE
 unfolding without_member pick
-returns c =
+returns-else-member-eq-TRUE c =
     let a = c.args in
     elim c.else-member-eq-TRUE.branch [
       | else-member-eq-TRUE-via-then-member-eq-TRUE+else-head-gt0 w ↦

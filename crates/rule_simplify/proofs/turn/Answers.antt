@@ -18,14 +18,14 @@ child c = applied_child c.requires.stretch c.requires.headed c.args.j (omega (ar
 -- The number of the children, where the last one ends, and that it ends past the place of the constant.
 counted : (c : goal.After-children_of-k) → c.children_of-k.result ≡ size c.requires.headed.children
 counted c =
-    c.children_of-k.ensures ∙ ap children c.wide16.ensures.0
+    c.children_of-k.ensures ∙ ap children c.from.ensures
     ∙ (applied_child c.requires.stretch c.requires.headed c.args.j (omega (arith, c.requires.le_rule.1)) c.requires.part_value).counted
 
 ended : (c : goal.After-child_at-end) → c.child_at-end.result ≡ child_at (size c.requires.headed.children) c.args.part.now
 ended c =
     let l = c.args.part.now in
     c.child_at-end.ensures.0 ∙ ap (λ m. child_at m l)
-    (c.children_of-k.ensures ∙ ap children c.wide16.ensures.0
+    (c.children_of-k.ensures ∙ ap children c.from.ensures
     ∙ (applied_child c.requires.stretch c.requires.headed c.args.j (omega (arith, c.requires.le_rule.1)) c.requires.part_value).counted)
 
 late : (c : goal.After-child_at-end) → 2 ≤ c.child_at-end.result

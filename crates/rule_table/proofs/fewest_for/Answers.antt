@@ -7,4 +7,4 @@ use Rattle.rule_table.proofs.fewest_for.Goals as goal
 
 pub returns : goal.returns
 unfolding fewest_for table
-returns c = let b = c in c.wide.ensures.0 ∙ column (λ w. w.fewest) _ _ refl b.args.rule b.requires.0 b.requires.1
+returns c = let b = c in c.from.ensures ∙ column (λ w. w.fewest) _ _ refl b.args.rule b.requires.0 b.requires.1

@@ -8,14 +8,13 @@ use Rattle.rule_table.proofs.is_headed.Goals as goal
 pub returns-then-kind_of-kind_for : goal.returns-then-kind_of-kind_for
 unfolding headed
 returns-then-kind_of-kind_for c =
-    let k = c.kind_of.ensures ∙ ap kind c.wide16-head.ensures.0 in
-    rw (sym k, sym c.kind_for.ensures, ne_eqb c.kind_of.result c.kind_for.result c.if-kind_of-kind_for.true)
-
-pub returns : goal.returns
-unfolding headed
-returns c =
-    let d = c in
-    let w = d.wide16-head.ensures.0 in
-    let k = d.kind_of.ensures ∙ ap kind w in
+    let w = c.from-head.ensures in
+    let k = c.kind_of.ensures ∙ ap kind w in
     let v = c.children_of.ensures ∙ ap children w in
-    rw (sym k, sym d.kind_for.ensures, sym v, sym c.fewest_for.ensures, eq-eqb d.kind_of.result d.kind_for.result c.if-kind_of-kind_for.false)
+    rw (sym k, sym c.kind_for.ensures, sym v, sym c.fewest_for.ensures, eq-eqb c.kind_of.result c.kind_for.result c.if-kind_of-kind_for.true)
+
+pub returns-else-kind_of-kind_for : goal.returns-else-kind_of-kind_for
+unfolding headed
+returns-else-kind_of-kind_for c =
+    let k = c.kind_of.ensures ∙ ap kind c.from-head.ensures in
+    rw (sym k, sym c.kind_for.ensures, ne_eqb c.kind_of.result c.kind_for.result c.if-kind_of-kind_for.false)
