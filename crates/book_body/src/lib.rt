@@ -6,8 +6,6 @@ ghost use Rattle.model.specs.Base.{all};
 ghost use Rattle.model.specs.Limits.{most_options, most_rules, most_nodes};
 ghost use Rattle.model.specs.Book.{words, entries, in_line, cut, body_ok};
 
-use common_nodes::Trees;
-
 // The entries of the contents are in line, and their counts add up to the total.
 pub fn are_in_line(s: &[u8], m: usize, total: usize) -> bool
     requires { (m ≤ most_rules) × (4 * m ≤ length s.now) }
@@ -41,11 +39,10 @@ fn is_body(s: &[u8], count: usize, n: usize) -> bool
     while 0 < i {
         i -= 1;
         let from = 2 * i;
-        let joined = common_members::join_book(&s[from..], count - i, n, trees);
-        let Trees::Count(t) = joined else {
+        let Some(joined) = common_members::join_book(&s[from..], count - i, n, trees) else {
             return false;
         };
-        trees = t;
+        trees = joined;
     }
     trees == 1
 }

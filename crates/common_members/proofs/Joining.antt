@@ -2,7 +2,7 @@
 use mathlib.Core.Bool.{Bool, true, false, ◌||◌}
 use mathlib.Core.List.{List, ◌∷◌, map}
 use mathlib.Core.Option.{Option, none, some}
-use mathlib.Core.Path.{◌≡◌, refl, sym, ap, ◌∙◌}
+use mathlib.Core.Path.{◌≡◌, sym, ap, ◌∙◌}
 use Prim.Native.Nat.{ℕ, ◌≤◌}
 use native.Mathlib.Omega.{arith}
 use borrow.Author.Tests.{ltb-true, lt-ltb}
@@ -16,9 +16,8 @@ use Rattle.theory_forms.specs.Logic.{and_split}
 use Rattle.theory_forms.specs.Lists.{all_cut, all_weaken}
 use Rattle.theory_forms.specs.Seats.{apart}
 use Rattle.theory_forms.specs.Scan.{joined_by}
-use Rattle.common_nodes.specs.declared.Trees.{Trees}
-use Rattle.common_nodes.specs.declared.Trees.TheVariants.{Count, Malformed}
-use Rattle.common_nodes.specs.Trees.{trees_of}
+use Rattle.std.specs.Bool.{then_some}
+use Rattle.common_lists.specs.Given.{given}
 use Rattle.common_members.specs.Tested.{tested, seats_least, seats_other, tested_step, tested_more, tested_stuck, tested_unseated}
 use Rattle.common_members.specs.Tested.{tested_nodes, tested_count, least_members}
 
@@ -34,11 +33,6 @@ more_options n m x l h = go (eqb (kind x) 1 || eqb (kind x) 2) h
     go true e = lt-ltb (value x) m (omega (arith, ltb-true (value x) n e))
     go false e = e
 
--- What is no count of trees.
-pub no_count : (j : Trees) → ((u : ℕ) → j ≡ Count u → ⊥) → trees_of j ≡ none
-no_count (Count u) h = absurd (h u refl)
-no_count Malformed h = refl
-
 -- All numbers, their first, and the rest, which spell t trees.
 pub record Before (n x t : ℕ) (ys xs : List ℕ) : Type 0 where
   pub first : ys ≡ x ∷ xs
@@ -50,20 +44,18 @@ module _ {n x t : ℕ} {ys xs : List ℕ} (b : Before n x t ys xs) where
   unfolding pick then
   joined_other j h = j ∙ sym (ap (tested n) b.first ∙ tested_step n x xs ∙ rw (seats_other x xs h, b.rest))
 
-  pub joined_lacking : joined_by n x t ≡ none → none ≡ tested n ys
-  joined_lacking j = sym (ap (tested n) b.first ∙ tested_stuck n x xs b.rest j)
+  pub joined_lacking : none ≡ joined_by n x t → none ≡ tested n ys
+  joined_lacking j = sym (ap (tested n) b.first ∙ tested_stuck n x xs b.rest (sym j))
 
   -- Kind 6: the numbers after it are its members, or they are not.
-  module _ (h : kind x ≡ 6) where
-    pub joined_members : {u : ℕ} → joined_by n x t ≡ some u → apart (map node_of (take (children x) xs)) ≡ true → some u ≡ tested n ys
-    joined_members j a = sym (ap (tested n) b.first ∙ tested_more n x xs b.rest j (seats_least x xs h ∙ a))
-
-    pub joined_others : apart (map node_of (take (children x) xs)) ≡ false → none ≡ tested n ys
-    joined_others a = sym (ap (tested n) b.first ∙ tested_unseated n x xs (seats_least x xs h ∙ a))
+  module _ (h : kind x ≡ 6) {u : ℕ} (j : some u ≡ joined_by n x t) where
+    pub joined_least : (r : Bool) → r ≡ apart (map node_of (take (children x) xs)) → given (then_some r u) ≡ tested n ys
+    joined_least true a = sym (ap (tested n) b.first ∙ tested_more n x xs b.rest (sym j) (seats_least x xs h ∙ sym a))
+    joined_least false a = sym (ap (tested n) b.first ∙ tested_unseated n x xs (seats_least x xs h ∙ sym a))
 
     -- There are as many numbers as it has members.
-    pub enough : {u : ℕ} → joined_by n x t ≡ some u → children x ≤ length xs
-    enough j = least_members n xs b.rest x j h
+    pub enough : children x ≤ length xs
+    enough = least_members n xs b.rest x (sym j) h
 
   -- They are nodes of a body, and at least as many as their trees.
   pub nodes : n ≤ most_options → (m : ℕ) → all (body_node most_options) (take m xs) ≡ true

@@ -10,12 +10,11 @@ ghost use Rattle.model.specs.Code.{node_of};
 ghost use Rattle.model.specs.Sheet.{body_node};
 ghost use Rattle.model.specs.Book.{words};
 ghost use Rattle.theory_forms.specs.Seats.{names, apart};
-ghost use Rattle.common_nodes.specs.Trees.{trees_of};
+ghost use Rattle.common_lists.specs.Given.{given};
 ghost use Rattle.common_members.specs.Marks.{marked, mark_words, Marks, admitted};
 ghost use Rattle.common_members.specs.Tested.{tested};
 
 use common_limits::{KIND_FACTOR, MOST_OPTIONS};
-use common_nodes::Trees;
 
 // The kind that asks for some of its members.
 const LEAST_KIND: usize = 6;
@@ -63,7 +62,7 @@ fn are_members(s: &[u16], count: usize) -> bool
     let mut i = count;
     while 0 < i {
         i -= 1;
-        if !is_member(common_nodes::wide16(s[i]), &mut marks) {
+        if !is_member(usize::from(s[i]), &mut marks) {
             return false;
         }
     }
@@ -89,41 +88,29 @@ fn are_members_in_bytes(s: &[u8], count: usize) -> bool
 
 // One node more before numbers that spell so many trees: the first of these numbers, where the trees of the rest are known. Members that
 // are none are refused like a node that lacks children.
-pub fn join_sheet(s: &[u16], n: usize, t: usize) -> Trees
+pub fn join_sheet(s: &[u16], n: usize, t: usize) -> Option<usize>
     requires in_bounds { (1 ≤ length s.now) × (length s.now ≤ sheet_room) × (n ≤ most_options) }
     requires s_value { tested n (drop 1 s.now) ≡ some t }
-    ensures { trees_of result ≡ tested n s.now }
+    ensures { given result ≡ tested n s.now }
 {
-    let x = common_nodes::wide16(s[0]);
-    let joined = common_nodes::join(x, n, t);
+    let x = usize::from(s[0]);
+    let u = common_nodes::join(x, n, t)?;
     if common_nodes::kind_of(x) != LEAST_KIND {
-        return joined;
+        return Some(u);
     }
-    let Trees::Count(u) = joined else {
-        return Trees::Malformed;
-    };
-    if !are_members(&s[1..], common_nodes::children_of(x)) {
-        return Trees::Malformed;
-    }
-    Trees::Count(u)
+    are_members(&s[1..], common_nodes::children_of(x)).then_some(u)
 }
 
 // The same of so many numbers in bytes.
-pub fn join_book(s: &[u8], count: usize, n: usize, t: usize) -> Trees
+pub fn join_book(s: &[u8], count: usize, n: usize, t: usize) -> Option<usize>
     requires le_count { (1 ≤ count) × (count ≤ most_nodes) × (2 * count ≤ length s.now) × (n ≤ most_options) }
     requires s_value { tested n (words (count - 1) (drop 2 s.now)) ≡ some t }
-    ensures { trees_of result ≡ tested n (words count s.now) }
+    ensures { given result ≡ tested n (words count s.now) }
 {
     let x = common_nodes::word_at(s, 0);
-    let joined = common_nodes::join(x, n, t);
+    let u = common_nodes::join(x, n, t)?;
     if common_nodes::kind_of(x) != LEAST_KIND {
-        return joined;
+        return Some(u);
     }
-    let Trees::Count(u) = joined else {
-        return Trees::Malformed;
-    };
-    if !are_members_in_bytes(&s[2..], common_nodes::children_of(x)) {
-        return Trees::Malformed;
-    }
-    Trees::Count(u)
+    are_members_in_bytes(&s[2..], common_nodes::children_of(x)).then_some(u)
 }

@@ -7,7 +7,7 @@ ghost use Rattle.model.specs.Book.{word};
 ghost use Rattle.model.specs.Base.{only_if};
 ghost use Rattle.model.specs.Code.{kind, value, children};
 ghost use Rattle.theory_forms.specs.Scan.{is_literal, joined_by};
-ghost use Rattle.common_nodes.specs.Trees.{trees_of};
+ghost use Rattle.common_lists.specs.Given.{given};
 ghost use Rattle.model.specs.Limits.{kind_factor, sheet_room};
 ghost use Rattle.theory_reading.specs.Spans.{arity, span, child_at};
 ghost use Rattle.theory_reading.specs.Leaves.{place_at};
@@ -29,35 +29,30 @@ pub fn wide16(x: u16) -> usize
 }
 
 // The number at a place of a slice, its low byte first.
-pub fn word_at(s: &[u8], k: usize) -> usize
-    requires { k + 1 < length s.now }
-    ensures { result ≡ word s.now k }
-{
-    wide(s[k]) + 256 * wide(s[k + 1])
-}
-
-// The same number at its own width.
+#[tactic(auto, unfolding(model::specs::Book::word))]
 pub fn number_at(s: &[u8], k: usize) -> u16
     requires { k + 1 < length s.now }
     ensures { result ≡ word s.now k }
 {
-    let x = wide(s[k]) + 256 * wide(s[k + 1]);
-    x as u16
+    u16::from_le_bytes([s[k], s[k + 1]])
 }
 
-// How many trees a list of nodes spells, read from its end; or that some number is no node, or lacks children.
-#[derive(Clone, Copy)]
-pub enum Trees {
-    Count(usize),
-    Malformed,
+// The same number at the machine's width.
+pub fn word_at(s: &[u8], k: usize) -> usize
+    requires { k + 1 < length s.now }
+    ensures { result ≡ word s.now k }
+{
+    usize::from(number_at(s, k))
 }
 
+#[tactic(auto, unfolding(model::specs::Code::kind))]
 pub fn kind_of(x: usize) -> usize
     ensures { result ≡ kind x }
 {
     x / KIND_FACTOR
 }
 
+#[tactic(auto, unfolding(model::specs::Code::value))]
 pub fn value_of(x: usize) -> usize
     ensures { result ≡ value x }
 {
@@ -65,66 +60,54 @@ pub fn value_of(x: usize) -> usize
 }
 
 // The number of children of a node that is no literal.
+#[tactic(auto, unfolding(model::specs::Code::children, model::specs::Base::pick))]
 pub fn children_of(x: usize) -> usize
     ensures { result ≡ children x }
 {
     let v = value_of(x);
-    if kind_of(x) == 6 {
-        return v / LEAST_FACTOR;
-    }
-    v
+    if kind_of(x) == 6 { v / LEAST_FACTOR } else { v }
 }
 
 // Kinds 1 and 2 are literals.
+#[tactic(auto, unfolding(theory_forms::specs::Scan::is_literal))]
 pub fn is_literal(x: usize) -> bool
     ensures { result ≡ is_literal x }
 {
-    let k = kind_of(x);
-    k == 1 || k == 2
+    matches!(kind_of(x), 1 | 2)
 }
 
-// A node takes as many of the trees after it as it has children.
-fn gather(t: usize, k: usize) -> Trees
+// A node takes as many of the trees after it as it has children: none where there are fewer.
+#[tactic(auto, unfolding(model::specs::Base::only_if))]
+fn gather(t: usize, k: usize) -> Option<usize>
     requires { t ≤ 65535 }
-    ensures { trees_of result ≡ only_if (leb k t) (t - k + 1) }
+    ensures { given result ≡ only_if (leb k t) (t - k + 1) }
 {
-    if t < k {
-        return Trees::Malformed;
-    }
-    Trees::Count(t - k + 1)
+    Some(t.checked_sub(k)? + 1)
 }
 
-// One node more, before so many trees, in a body of n options. The commonest kinds are tested first, and kind 6 after all others.
-pub fn join(x: usize, n: usize, t: usize) -> Trees
+// How many trees there are with one node more, before so many trees, in a body of n options: none where it is no node, or lacks children.
+// The commonest kinds are tested first, and kind 6 after all others.
+#[tactic(auto, unfolding(theory_forms::specs::Scan::joined_by, model::specs::Base::then, model::specs::Base::only_if, model::specs::Base::pick, model::specs::Code::joined, model::specs::Code::node_of, model::specs::Code::children, model::specs::Sheet::body_node))]
+pub fn join(x: usize, n: usize, t: usize) -> Option<usize>
     requires { t ≤ 65535 }
-    ensures { trees_of result ≡ joined_by n x t }
+    ensures { given result ≡ joined_by n x t }
 {
-    let k = kind_of(x);
-    if k == 1 || k == 2 {
-        if n <= value_of(x) {
-            return Trees::Malformed;
-        }
-        return Trees::Count(t + 1);
+    match kind_of(x) {
+        1 | 2 => (value_of(x) < n).then_some(t + 1),
+        3 | 4 => gather(t, value_of(x)),
+        6 => gather(t, value_of(x) / LEAST_FACTOR),
+        _ => None,
     }
-    if k == 3 || k == 4 {
-        return gather(t, value_of(x));
-    }
-    if k == 6 {
-        return gather(t, value_of(x) / LEAST_FACTOR);
-    }
-    Trees::Malformed
 }
 
 // The number of children that a node announces. It is read off before the test for a literal, so that the machine need not guess which
 // of the two a node is.
+#[tactic(auto, using(theory_forms::specs::Numbers::children_small), unfolding(theory_reading::specs::Spans::arity, model::specs::Base::pick))]
 pub fn arity_of(x: usize) -> usize
     ensures { (result ≡ arity x) × (result < kind_factor) }
 {
     let k = children_of(x);
-    if is_literal(x) {
-        return 0;
-    }
-    k
+    if is_literal(x) { 0 } else { k }
 }
 
 // The number of nodes of the first so many trees: each node settles one tree that was pending and announces its children.
@@ -133,15 +116,17 @@ pub fn span_of(s: &[u16], trees: usize) -> usize
     ensures { (result ≡ span trees s.now) × (result ≤ length s.now) }
 {
     let mut pending = trees;
-    let mut i = 0;
-    while 0 < pending && i < s.len() {
-        pending = pending - 1 + arity_of(wide16(s[i]));
-        i += 1;
+    for (i, x) in s.iter().enumerate() {
+        if pending == 0 {
+            return i;
+        }
+        pending = pending - 1 + arity_of(usize::from(*x));
     }
-    i
+    s.len()
 }
 
 // The place of child i of the group that a stretch begins with.
+#[tactic(auto, using(common_lists::proofs::Lent::lent_part))]
 pub fn child_at(s: &[u16], i: usize) -> usize
     requires { (1 ≤ length s.now) × (length s.now ≤ sheet_room) × (i ≤ sheet_room) }
     ensures { (result ≡ child_at i s.now) × (result ≤ length s.now) }
@@ -150,6 +135,7 @@ pub fn child_at(s: &[u16], i: usize) -> usize
 }
 
 // The place in a table of the literal that a number of kind 1 or 2 is.
+#[tactic(auto, using(theory_forms::specs::Numbers::value_small, theory_reading::specs::Leaves::literal_kind), unfolding(theory_reading::specs::Leaves::place_at))]
 pub fn place_of(x: usize) -> usize
     requires { is_literal x ≡ true }
     ensures { result ≡ place_at x }

@@ -9,7 +9,6 @@ ghost use Rattle.model.specs.Code.{decode, node_of, one_tree};
 ghost use Rattle.model.specs.Sheet.{rooted, is_sheet};
 
 use common_limits::{MOST_OPTIONS, SHEET_LENGTH, SHEET_ROOM};
-use common_nodes::Trees;
 use common_weight::MOST_WEIGHT;
 
 // The first so many numbers are one tree with the root at its head and nowhere else, for n options, its members in their seats.
@@ -22,7 +21,7 @@ fn is_rooted_tree(s: &[u16], used: usize, n: usize) -> bool
         && one_tree (map node_of (take used s.now))
         && all_seated (decode (map node_of (take used s.now)))) }
 {
-    let head = common_nodes::wide16(s[0]);
+    let head = usize::from(s[0]);
     if common_nodes::kind_of(head) != 5 {
         return false;
     }
@@ -30,11 +29,10 @@ fn is_rooted_tree(s: &[u16], used: usize, n: usize) -> bool
     let mut i = used;
     while 1 < i {
         i -= 1;
-        let joined = common_members::join_sheet(&s[i..used], n, trees);
-        let Trees::Count(t) = joined else {
+        let Some(joined) = common_members::join_sheet(&s[i..used], n, trees) else {
             return false;
         };
-        trees = t;
+        trees = joined;
     }
     trees == common_nodes::children_of(head)
 }
@@ -61,8 +59,8 @@ pub fn is_sheet(s: &[u16]) -> bool
     if s.len() != SHEET_LENGTH {
         return false;
     }
-    let n = common_nodes::wide16(s[0]);
-    let used = common_nodes::wide16(s[1]);
+    let n = usize::from(s[0]);
+    let used = usize::from(s[1]);
     if MOST_OPTIONS < n {
         return false;
     }

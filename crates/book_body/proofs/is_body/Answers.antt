@@ -11,11 +11,9 @@ use lib.ListN.{drop, length-drop}
 use lib.Seq.{drop-drop}
 use Rattle.model.specs.Code.{exactly_one}
 use Rattle.model.specs.Book.{words, body_ok}
-use Rattle.common_nodes.specs.Trees.{trees_of}
 use Rattle.common_members.specs.Tested.{tested, tested_first, tested_part, body_tested}
 use Rattle.book_body.proofs.BookNumbers.{words_from, drop_words}
 use Rattle.book_body.proofs.is_body.Goals as goal
-use Rattle.book_body.proofs.is_body.Goals.{After-join_book-joined}
 
 module _ (n count : ℕ) (s : List ℕ) where
   -- After the first of the numbers from a place on, those from the next place on.
@@ -38,20 +36,11 @@ module _ (n count : ℕ) (s : List ℕ) where
   unfolding exactly_one
   counted h = body_tested n (words count s) ∙ ap exactly_one (rw (sub-zero count) at h)
 
--- The answer for one number more.
-joined :
-    (c : goal.After-join_book-joined) →
-    let a = c.args in
-    trees_of c.join_book-joined.result ≡ tested a.n (words_from a.count (c.loop-i.i - 1) a.s.now)
-joined c =
-    let a = c.args in
-    c.join_book-joined.ensures ∙ rw (part_to_end a.s.now (2 * (c.loop-i.i - 1)))
-
 pub loop-i-init : goal.loop-i-init
 loop-i-init c = let a = c.args in (omega arith, none_left a.n a.count a.s.now)
 
-pub join_book-joined-requires : goal.join_book-joined-requires
-join_book-joined-requires c =
+pub join_book-requires : goal.join_book-requires
+join_book-requires c =
     let l = c.loop-i in
     let start = c in
     let a = start.args in
@@ -71,15 +60,13 @@ join_book-joined-requires c =
 
 pub returns-in_default : goal.returns-in_default
 returns-in_default c =
-    let k = c in
-    let a = k.args in
-    sym (stopped a.n a.count a.s.now (k.loop-i.i - 1)
-    (sym (joined (goal.at.returns-in_default c).After-join_book-joined) ∙ ap trees_of c.in_default.is))
+    let a = c.args in
+    let i = c.loop-i.i - 1 in
+    let stuck = sym (c.in_default.ensures ∙ rw (part_to_end a.s.now (2 * i))) in
+    sym (stopped a.n a.count a.s.now i stuck)
 
 pub loop-i-preserved : goal.loop-i-preserved
-loop-i-preserved c =
-    let k = c in
-    (omega (arith, k.loop-i.invariant.0), sym (joined (goal.at.loop-i-preserved c).After-join_book-joined) ∙ ap trees_of c.in-Count.is)
+loop-i-preserved c = (omega (arith, c.loop-i.invariant.0), sym (c.in-Some.ensures ∙ rw (part_to_end c.args.s.now (2 * (c.loop-i.i - 1)))))
 
 pub returns : goal.returns
 returns c =

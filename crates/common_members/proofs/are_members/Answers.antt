@@ -39,14 +39,14 @@ loop-i-init c =
 pub is_member-requires : goal.is_member-requires
 is_member-requires c =
     let k = (goal.at.is_member-requires c).In-loop-i in
-    (rw (read k c.wide16.ensures.0) (node k), k.loop-i.invariant.1.marks.long)
+    (rw (read k c.from.ensures) (node k), k.loop-i.invariant.1.marks.long)
 
 pub returns-then-not-is_member : goal.returns-then-not-is_member
 returns-then-not-is_member c =
     let k = (goal.at.returns-then-not-is_member c).In-loop-i in
     let m = c.is_member in
     let e = sym m.ensures.value ∙ c.if-not-is_member.true in
-    sym (not_seated k.loop-i-test.true (within k) k.loop-i.invariant.1 (read k c.wide16.ensures.0) e)
+    sym (not_seated k.loop-i-test.true (within k) k.loop-i.invariant.1 (read k c.from.ensures) e)
 
 pub loop-i-preserved : goal.loop-i-preserved
 loop-i-preserved c =
@@ -54,7 +54,7 @@ loop-i-preserved c =
     let m = c.is_member in
     let e = sym m.ensures.value ∙ c.if-not-is_member.false in (
       omega arith,
-      seated_more k.loop-i-test.true (within k) k.loop-i.invariant.1 (read k c.wide16.ensures.0) e m.ensures.marks,
+      seated_more k.loop-i-test.true (within k) k.loop-i.invariant.1 (read k c.from.ensures) e m.ensures.marks,
     )
 
 pub returns : goal.returns

@@ -13,11 +13,8 @@ use Rattle.model.specs.Forest.{all_seated}
 use Rattle.model.specs.Code.{kind, children, decode, node_of, one_tree}
 use Rattle.model.specs.Sheet.{rooted}
 use Rattle.theory_forms.specs.Lists.{drop_take}
-use Rattle.common_nodes.specs.Trees.{trees_of}
-use Rattle.common_members.proofs.Joining.{no_count}
 use Rattle.common_members.specs.Tested.{tested, tested_first, tested_part, rooted_tested}
 use Rattle.sheet_check.proofs.is_rooted_tree.Goals as goal
-use Rattle.sheet_check.proofs.is_rooted_tree.Goals.{After-join_sheet-joined}
 
 -- What the first so many numbers are asked for.
 abbrev tree : ℕ → List ℕ → Bool
@@ -55,25 +52,17 @@ module _ (n used : ℕ) (s : List ℕ) where
     unfolding maybe
     counted h all = head_and_rest ∙ rw (h, all)
 
--- The answer for one number more.
-joined :
-    (c : goal.After-join_sheet-joined) →
-    let a = c.args in trees_of c.join_sheet-joined.result ≡ tested a.n (slice (c.loop-i.i - 1) a.used a.s.now)
-joined c =
-    let a = c.args in
-    c.join_sheet-joined.ensures ∙ ap (tested a.n) (lent a.n a.used a.s.now (c.loop-i.i - 1))
-
 pub returns-then-kind_of-ne5 : goal.returns-then-kind_of-ne5
 returns-then-kind_of-ne5 c =
     let a = c.args in
-    let kind-is = c.kind_of.ensures ∙ ap kind c.wide16-head.ensures.0 in
+    let kind-is = c.kind_of.ensures ∙ ap kind c.from-head.ensures in
     sym (other_head a.n a.used a.s.now c.requires.0 c.requires.2 (λ e. c.if-kind_of-ne5.true (kind-is ∙ e)))
 
 pub loop-i-init : goal.loop-i-init
 loop-i-init c = let a = c.args in (omega arith, omega arith, none_left a.n a.used a.s.now)
 
-pub join_sheet-joined-requires : goal.join_sheet-joined-requires
-join_sheet-joined-requires c =
+pub join_sheet-requires : goal.join_sheet-requires
+join_sheet-requires c =
     let l = c.loop-i in
     let a = c.args in
     let s = a.s.now in
@@ -86,20 +75,20 @@ join_sheet-joined-requires c =
 pub returns-in_default : goal.returns-in_default
 returns-in_default c =
     let a = c.args in
-    let k = (goal.at.returns-in_default c).After-join_sheet-joined in
-    let stuck = sym (joined k) ∙ no_count _ c.in_default.not-Count in
+    let i = c.loop-i.i - 1 in
+    let stuck = sym (c.in_default.ensures ∙ ap (tested a.n) (lent a.n a.used a.s.now i)) in
     sym (stopped a.n a.used a.s.now c.requires.0 c.requires.2 _ c.loop-i-test.true stuck)
 
 pub loop-i-preserved : goal.loop-i-preserved
 loop-i-preserved c =
-    let k = (goal.at.loop-i-preserved c).After-join_sheet-joined in
-    (omega arith, omega arith, sym (joined k) ∙ ap trees_of c.in-Count.is)
+    let a = c.args in
+    (omega arith, omega arith, sym (c.in-Some.ensures ∙ ap (tested a.n) (lent a.n a.used a.s.now (c.loop-i.i - 1))))
 
 pub returns : goal.returns
 returns c =
     let l = c.loop-i in
     let a = c.args in
-    let read = c.wide16-head.ensures.0 in
+    let read = c.from-head.ensures in
     let five = sym (c.kind_of.ensures ∙ ap kind read) ∙ c.if-kind_of-ne5.false in
     let first : l.i ≡ 1 = omega arith in
     rw (c.children_of.ensures, read) (sym (counted a.n a.used a.s.now c.requires.0 c.requires.2 five (rw first at l.invariant.2)))

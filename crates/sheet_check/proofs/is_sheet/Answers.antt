@@ -91,7 +91,7 @@ returns-then-weigh_sheet-gt-MOST_WEIGHT c =
 pub returns-then-not-is_clear : goal.returns-then-not-is_clear
 returns-then-not-is_clear c =
     let s = c.args.s.now in
-    let clear = clear_is s c.wide16-used.ensures.0 c.is_clear.ensures in
+    let clear = clear_is s c.from-used.ensures c.is_clear.ensures in
     rw (sheet_is s, clear, c.if-not-is_clear.true, and-false)
 
 pub returns : goal.returns
@@ -100,7 +100,7 @@ returns c =
     let whole = eq-eqb (length s) sheet_length (omega arith) in
     let few_options = le-leb (get_or s 0 0) most_options (omega arith) in
     let room = le-leb (get_or s 1 0) sheet_room (omega arith) in
-    let clear = clear_is s c.wide16-used.ensures.0 c.is_clear.ensures ∙ c.if-not-is_clear.false in
+    let clear = clear_is s c.from-used.ensures c.is_clear.ensures ∙ c.if-not-is_clear.false in
     let light = le-leb (weight (nodes_in s)) most_weight (omega (arith, c.if-weigh_sheet-gt-MOST_WEIGHT.false, c.weigh_sheet.ensures.0)) in
-    let tree = tree_is s c.wide16-n.ensures.0 c.wide16-used.ensures.0 c.is_rooted_tree.ensures in
+    let tree = tree_is s c.from-n.ensures c.from-used.ensures c.is_rooted_tree.ensures in
     rw (sheet_is s, whole, few_options, room, tree, clear, and-true, light, and-true)
