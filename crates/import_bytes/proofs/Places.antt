@@ -1,25 +1,30 @@
 -- Bytes at a place of a text, and what begins there.
-use mathlib.Core.Bool.{Bool, true, false, ◌&&◌, ◌||◌, not}
+use mathlib.Core.Bool.{Bool, true, false, ◌&&◌, ◌||◌}
 use mathlib.Core.List.{List, [], ◌∷◌}
 use mathlib.Core.Path.{◌≡◌, refl, ap, ◌∙◌}
-use Prim.Native.Nat.{ℕ, suc, ◌+◌, ◌≤◌, ◌<◌}
+use Prim.Native.Nat.{ℕ, zero, suc, ◌+◌, ◌≤◌, ◌<◌}
 use native.Mathlib.Nat.{add-zero}
 use native.Mathlib.Omega.{arith}
-use borrow.Author.Tests.{eq-eqb, ne_eqb, le-leb, lt-leb}
-use lib.Dec.{eqb, leb}
-use lib.ListN.{length, get_or, drop, drop_of_length-le, get_or-eq_default}
+use borrow.Author.Tests.{ne_eqb}
+use lib.Dec.{eqb}
+use lib.ListN.{length, length-drop, get_or, drop, drop_of_length-le, get_or-eq_default}
 use lib.Seq.{drop-cons, get_or-drop}
-use Rattle.model.specs.Book.{between}
-use Rattle.texts.specs.Decimals.{is_digit}
+use Rattle.std.specs.List.{prefix_len, take_while}
+use Rattle.std.proofs.Common.{cond}
+use Rattle.std.proofs.lemmas.List.Folds.{length-prefix_len}
+use Rattle.model.specs.Base.{pick}
 use Rattle.texts.specs.ClauseFile.{is_blank}
 use Rattle.theory_texts.specs.Breaks.{before_end, breaks}
-use Rattle.theory_texts.specs.Figures.{on_digit}
-use Rattle.theory_texts.specs.Comments.{on_line}
+use Rattle.theory_texts.specs.Spans.{span, span_within}
 use Rattle.theory_texts.specs.PLines.{ends_line}
 
 and_false : (b : Bool) → (b && false) ≡ false
 and_false true = refl
 and_false false = refl
+
+or_false : (b : Bool) → (b || false) ≡ b
+or_false true = refl
+or_false false = refl
 
 or_assoc : (a b c : Bool) → (a || b || c) ≡ (a || (b || c))
 or_assoc true b c = refl
@@ -47,19 +52,14 @@ module _ (l : List ℕ) (at : ℕ) where
   unfolding ends_line before_end
   ends_here h = ap ends_line (drop-cons l at 0 h) ∙ ap (λ x. eqb (get_or l at 0) 10 || (eqb (get_or l at 0) 13 && eqb x 10)) next_here
 
-  pub ends_by_ten : at < length l → get_or l at 0 ≡ 10 → ends_line (drop at l) ≡ true
-  ends_by_ten h e = ends_here h ∙ rw (eq-eqb (get_or l at 0) 10 e)
+  pub ends_by_both : at < length l → get_or l at 0 ≡ 13 → ends_line (drop at l) ≡ eqb (get_or l (at + 1) 0) 10
+  ends_by_both h e = ends_here h ∙ rw e
 
-  pub ends_by_both : at < length l → (get_or l at 0 ≡ 10 → ⊥) → get_or l at 0 ≡ 13 → ends_line (drop at l) ≡ eqb (get_or l (at + 1) 0) 10
-  ends_by_both h n e = ends_here h ∙ rw (ne_eqb (get_or l at 0) 10 n, eq-eqb (get_or l at 0) 13 e)
+  pub ends_not_last : at < length l → get_or l at 0 ≡ 13 → length l ≤ at + 1 → ends_line (drop at l) ≡ false
+  ends_not_last h e k = let none = get_or-eq_default l 0 {n = at + 1} k in ends_by_both h e ∙ rw none
 
-  pub ends_not : at < length l → (get_or l at 0 ≡ 10 → ⊥) → (get_or l at 0 ≡ 13 → ⊥) → ends_line (drop at l) ≡ false
-  ends_not h n m = ends_here h ∙ rw (ne_eqb (get_or l at 0) 10 n, ne_eqb (get_or l at 0) 13 m)
-
-  pub ends_not_last : at < length l → (get_or l at 0 ≡ 10 → ⊥) → length l ≤ at + 1 → ends_line (drop at l) ≡ false
-  ends_not_last h n e =
-      let none = get_or-eq_default l 0 {n = at + 1} e in
-      ends_here h ∙ rw (ne_eqb (get_or l at 0) 10 n, none) (and_false (eqb (get_or l at 0) 13))
+  pub ends_by_ten : at < length l → (get_or l at 0 ≡ 13 → ⊥) → ends_line (drop at l) ≡ eqb (get_or l at 0) 10
+  ends_by_ten h n = ends_here h ∙ rw (ne_eqb (get_or l at 0) 13 n) (or_false (eqb (get_or l at 0) 10))
 
   -- A blank, or a line end.
   pub breaks_here : breaks (drop at l) ≡ (is_blank (get_or l at 0) || ends_line (drop at l))
@@ -77,25 +77,28 @@ module _ (l : List ℕ) (at : ℕ) where
   unfolding is_blank
   breaks_tab e = breaks_here ∙ rw e
 
-  pub breaks_other : (get_or l at 0 ≡ 32 → ⊥) → (get_or l at 0 ≡ 9 → ⊥) → breaks (drop at l) ≡ ends_line (drop at l)
+  pub breaks_other : eqb (get_or l at 0) 32 ≡ false → eqb (get_or l at 0) 9 ≡ false → breaks (drop at l) ≡ ends_line (drop at l)
   unfolding is_blank
-  breaks_other n m = breaks_here ∙ rw (ne_eqb (get_or l at 0) 32 n, ne_eqb (get_or l at 0) 9 m)
+  breaks_other n m = breaks_here ∙ rw (n, m)
 
-  -- No digit, a digit, the 10 of a line end and another byte.
-  pub digit_here : 48 ≤ get_or l at 0 → get_or l at 0 ≤ 57 → on_digit (drop at l) ≡ true
-  unfolding is_digit between
-  digit_here a b = ap is_digit first_here ∙ rw (le-leb 48 (get_or l at 0) a, le-leb (get_or l at 0) 57 b)
+-- How far bytes go for which a test holds, as std counts them.
+pub span_prefix : (p : ℕ → Bool) (on : List ℕ → Bool) → ((x : ℕ) (b : List ℕ) → on (x ∷ b) ≡ p x) → (b : List ℕ) → prefix_len p b ≡ span on b
+unfolding span pick
+span_prefix p on same [] = refl
+span_prefix p on same (x ∷ b) = rw (same x b) (go (p x) (span_prefix p on same b))
+  where
+    go : (t : Bool) → prefix_len p b ≡ span on b → cond t (1 + prefix_len p b) 0 ≡ pick t (suc (span on b)) zero
+    go true e = omega (arith, e)
+    go false e = refl
 
-  pub below_digits : get_or l at 0 < 48 → on_digit (drop at l) ≡ false
-  unfolding is_digit between
-  below_digits a = ap is_digit first_here ∙ rw (lt-leb 48 (get_or l at 0) a)
+-- Bytes that were counted so are passed.
+module _ (p : ℕ → Bool) (on : List ℕ → Bool) (same : (x : ℕ) (b : List ℕ) → on (x ∷ b) ≡ p x) (l : List ℕ) (at n : ℕ) (h : at ≤ length l)
+    (e : n ≡ length (take_while p (drop at l))) where
+  counted : n ≡ span on (drop at l)
+  counted = e ∙ length-prefix_len p (drop at l) ∙ span_prefix p on same (drop at l)
 
-  pub above_digits : 57 < get_or l at 0 → on_digit (drop at l) ≡ false
-  unfolding is_digit between
-  above_digits a = ap is_digit first_here ∙ rw (lt-leb (get_or l at 0) 57 a) (and_false (leb 48 (get_or l at 0)))
-
-  pub line_stops : get_or l at 0 ≡ 10 → on_line (drop at l) ≡ false
-  line_stops e = ap (λ x. not (eqb x 10)) (first_here ∙ e)
-
-  pub line_goes_on : (get_or l at 0 ≡ 10 → ⊥) → on_line (drop at l) ≡ true
-  line_goes_on n = ap (λ x. not (eqb x 10)) first_here ∙ ap not (ne_eqb (get_or l at 0) 10 n)
+  pub far_counted : (at + n ≡ at + span on (drop at l)) × (at + n ≤ length l)
+  far_counted =
+      let w = span_within on (drop at l) in
+      let g = counted in
+      (omega (arith, g), omega (arith, g, w, length-drop at l))

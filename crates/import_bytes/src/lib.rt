@@ -19,19 +19,12 @@ pub fn ends_line_at(text: &[u8], at: usize) -> bool
     ensures { result ≡ ends_line (drop at text.now) }
 {
     if text.len() <= at {
-        return true;
+        true
+    } else if text[at] == b'\r' {
+        at + 1 < text.len() && text[at + 1] == b'\n'
+    } else {
+        text[at] == b'\n'
     }
-    if text[at] == 10 {
-        return true;
-    }
-    let next = at + 1;
-    if text.len() <= next {
-        return false;
-    }
-    if text[at] == 13 {
-        return text[next] == 10;
-    }
-    false
 }
 
 // Whether a blank stands here, or a line ends.
@@ -39,16 +32,7 @@ pub fn breaks_at(text: &[u8], at: usize) -> bool
     requires { at ≤ length text.now }
     ensures { result ≡ breaks (drop at text.now) }
 {
-    if text.len() <= at {
-        return true;
-    }
-    if text[at] == 32 {
-        return true;
-    }
-    if text[at] == 9 {
-        return true;
-    }
-    ends_line_at(text, at)
+    text.len() <= at || text[at] == b' ' || text[at] == b'\t' || ends_line_at(text, at)
 }
 
 // The place after the blanks and line ends that stand here.
@@ -56,14 +40,12 @@ pub fn past_blanks(text: &[u8], at: usize) -> usize
     requires { at ≤ length text.now }
     ensures { (result ≡ at + span breaks (drop at text.now)) × (result ≤ length text.now) }
 {
-    let mut i = at;
-    while i < text.len() {
+    for i in at..text.len() {
         if !breaks_at(text, i) {
             return i;
         }
-        i += 1;
     }
-    i
+    text.len()
 }
 
 // The place after the digits that stand here.
@@ -71,17 +53,7 @@ pub fn past_digits(text: &[u8], at: usize) -> usize
     requires { at ≤ length text.now }
     ensures { (result ≡ at + run (drop at text.now)) × (result ≤ length text.now) }
 {
-    let mut i = at;
-    while i < text.len() {
-        if text[i] < 48 {
-            return i;
-        }
-        if 57 < text[i] {
-            return i;
-        }
-        i += 1;
-    }
-    i
+    at + text[at..].iter().take_while(|b| b.is_ascii_digit()).count()
 }
 
 // No 10 stands in a stretch. All of it is read, with no way out before its last byte, so that the machine can take many at a time.
@@ -89,12 +61,8 @@ fn goes_on(s: &[u8]) -> bool
     ensures { result ≡ all no_end s.now }
 {
     let mut on = true;
-    let mut i = 0;
-    while i < s.len() {
-        if s[i] == 10 {
-            on = false;
-        }
-        i += 1;
+    for b in s {
+        on &= *b != b'\n';
     }
     on
 }
@@ -106,12 +74,9 @@ fn past_blocks(text: &[u8], at: usize) -> usize
         (result ≤ length l) × (result + line_length (drop result l) ≡ at + line_length (drop at l)) }
 {
     let mut i = at;
-    while BLOCK <= text.len() - i {
-        let end = i + BLOCK;
-        if !goes_on(&text[i..end]) {
-            return i;
-        }
-        i = end;
+    // Each turn hops by a block.
+    while BLOCK <= text.len() - i && goes_on(&text[i..i + BLOCK]) {
+        i += BLOCK;
     }
     i
 }
@@ -121,14 +86,8 @@ fn line_end(text: &[u8], at: usize) -> usize
     requires { at ≤ length text.now }
     ensures { (result ≡ at + line_length (drop at text.now)) × (result ≤ length text.now) }
 {
-    let mut i = past_blocks(text, at);
-    while i < text.len() {
-        if text[i] == 10 {
-            return i;
-        }
-        i += 1;
-    }
-    i
+    let from = past_blocks(text, at);
+    from + text[from..].iter().take_while(|b| **b != b'\n').count()
 }
 
 // The place after all comment lines: no other begins there.
@@ -138,10 +97,8 @@ pub fn past_comments(text: &[u8]) -> usize
         × (eqb (get_or (drop result text.now) 0 0) 99 ≡ false) }
 {
     let mut at = 0;
-    while at < text.len() {
-        if text[at] != 99 {
-            return at;
-        }
+    // Each turn hops over a line, whose end is looked for.
+    while at < text.len() && text[at] == b'c' {
         let end = line_end(text, at);
         if text.len() <= end {
             return end;

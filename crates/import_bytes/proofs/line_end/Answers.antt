@@ -1,33 +1,25 @@
-use native.Mathlib.Omega.{arith}
-use Rattle.theory_texts.specs.Spans.{passed_more, passed_stop, passed_end}
-use Rattle.theory_texts.specs.Comments.{on_line}
-use Rattle.import_bytes.proofs.Places.{line_stops, line_goes_on}
+-- `import_bytes::line_end` meets its contract: the blocks without an end are passed, and then the bytes before the first one.
+use mathlib.Core.Path.{◌≡◌, refl, ap, ◌∙◌}
+use Rattle.std.proofs.Common.{rules, tests}
+use lib.ListN.{length, drop}
+use borrow.Author.Rules.{part_to_end}
+use Rattle.std.specs.Slice.Iter.{iter_rest}
+use Rattle.std.specs.List.{take_while}
+use Rattle.std.proofs.lemmas.Iterator.{YieldsList-from_slice}
+use Rattle.std.proofs.lemmas.Iterator.Consumers.{count_from_yields_List}
+use Rattle.std.proofs.lemmas.Iterator.Search.{YieldsList-from_take_while}
+use Rattle.theory_texts.specs.Comments.{on_line, no_end}
+use Rattle.import_bytes.proofs.Places.{far_counted}
 use Rattle.import_bytes.proofs.line_end.Goals as goal
-
-pub loop-i-init : goal.loop-i-init
-loop-i-init c = c.past_blocks-i.ensures
-
-pub returns-then-text-i-eq10 : goal.returns-then-text-i-eq10
-returns-then-text-i-eq10 c =
-    let n = c in
-    let a = n.args in
-    passed_stop on_line a.text.now a.at n.loop-i.i n.loop-i.invariant c.loop-i-test.true
-    (line_stops a.text.now n.loop-i.i c.if-text-i-eq10.true)
-
-pub loop-i-preserved : goal.loop-i-preserved
-loop-i-preserved c =
-    let n = c in
-    let a = n.args in
-    passed_more on_line a.text.now a.at n.loop-i.i n.loop-i.invariant c.loop-i-test.true
-    (line_goes_on a.text.now n.loop-i.i c.if-text-i-eq10.false)
 
 pub returns : goal.returns
 returns c =
-    let a = c.args in
-    passed_end on_line a.text.now a.at c.loop-i.i c.loop-i.invariant c.loop-i-test.false
-
-pub overflow_add-i : goal.overflow_add-i
-overflow_add-i c = omega (arith, c.loop-i-test.true)
-
-pub loop-i-smaller : goal.loop-i-smaller
-loop-i-smaller c = omega (arith, c.loop-i-test.true)
+    let text = c.args.text.now in
+    let from = c.past_blocks-from in
+    let counted : c.count.result ≡ length (take_while no_end (drop from.result text)) =
+    count_from_yields_List c.take_while.result _ c.count.ensures.ran
+    (YieldsList-from_take_while _ no_end (YieldsList-from_slice (drop from.result text) (ap iter_rest c.take_while.ensures.source ∙ c.iter.ensures.rest ∙ part_to_end text from.result)) c.take_while.ensures.closure c.take_while.ensures.done
+    (λ x b q k. search (rules, tests)))
+    in
+    let far = far_counted no_end on_line (λ x b. refl) text from.result c.count.result from.ensures.0 counted in
+    (far.0 ∙ from.ensures.1, far.1)

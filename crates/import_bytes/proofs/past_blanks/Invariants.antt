@@ -1,12 +1,7 @@
 -- `import_bytes::past_blanks` meets its contract: each blank that is passed leaves how far they go.
-use Prim.Native.Nat.{◌-◌}
-use lib.ListN.{length}
 use Rattle.theory_texts.specs.Spans.{Passed}
 use Rattle.theory_texts.specs.Breaks.{breaks}
 use Rattle.import_bytes.proofs.past_blanks.Given as goal
 
 abbrev pub invariant-loop-i : goal.invariant-loop-i
 invariant-loop-i l = Passed breaks l.text l.at l.i
-
-abbrev pub decreases-loop-i : goal.decreases-loop-i
-decreases-loop-i l = length l.text - l.i

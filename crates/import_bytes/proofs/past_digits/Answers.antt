@@ -1,41 +1,27 @@
-use mathlib.Core.Path.{refl}
-use native.Mathlib.Omega.{arith}
-use Rattle.theory_texts.specs.Spans.{passed_more, passed_stop, passed_end}
+-- `import_bytes::past_digits` meets its contract: the digits are counted.
+use mathlib.Core.Path.{◌≡◌, refl, ap, ◌∙◌}
+use Rattle.std.proofs.Common.{rules, tests}
+use lib.ListN.{length, drop}
+use Rattle.std.specs.Char.{is_ascii_digit}
+use borrow.Author.Rules.{part_to_end}
+use Rattle.std.specs.Slice.Iter.{iter_rest}
+use Rattle.std.specs.List.{take_while}
+use Rattle.std.proofs.lemmas.Iterator.{YieldsList-from_slice}
+use Rattle.std.proofs.lemmas.Iterator.Consumers.{count_from_yields_List}
+use Rattle.std.proofs.lemmas.Iterator.Search.{YieldsList-from_take_while}
+use Rattle.texts.specs.Decimals.{is_digit}
+use Rattle.model.specs.Book.{between}
 use Rattle.theory_texts.specs.Figures.{on_digit}
-use Rattle.import_bytes.proofs.Places.{digit_here, below_digits, above_digits}
+use Rattle.import_bytes.proofs.Places.{far_counted}
 use Rattle.import_bytes.proofs.past_digits.Goals as goal
 
-pub loop-i-init : goal.loop-i-init
-loop-i-init c = (c.requires, refl)
-
-pub returns-then-text-i-lt48 : goal.returns-then-text-i-lt48
-returns-then-text-i-lt48 c =
-    let n = c in
-    let a = n.args in
-    passed_stop on_digit a.text.now a.at n.loop-i.i n.loop-i.invariant c.loop-i-test.true
-    (below_digits a.text.now n.loop-i.i c.if-text-i-lt48.true)
-
-pub returns-then-text-i-gt57 : goal.returns-then-text-i-gt57
-returns-then-text-i-gt57 c =
-    let n = c in
-    let a = n.args in
-    passed_stop on_digit a.text.now a.at n.loop-i.i n.loop-i.invariant c.loop-i-test.true
-    (above_digits a.text.now n.loop-i.i c.if-text-i-gt57.true)
-
-pub loop-i-preserved : goal.loop-i-preserved
-loop-i-preserved c =
-    let n = c in
-    let a = n.args in
-    passed_more on_digit a.text.now a.at n.loop-i.i n.loop-i.invariant c.loop-i-test.true
-    (digit_here a.text.now n.loop-i.i c.if-text-i-lt48.false c.if-text-i-gt57.false)
-
 pub returns : goal.returns
+unfolding is_digit between
 returns c =
-    let a = c.args in
-    passed_end on_digit a.text.now a.at c.loop-i.i c.loop-i.invariant c.loop-i-test.false
-
-pub overflow_add-i : goal.overflow_add-i
-overflow_add-i c = omega (arith, c.loop-i-test.true)
-
-pub loop-i-smaller : goal.loop-i-smaller
-loop-i-smaller c = omega (arith, c.loop-i-test.true)
+    let text = c.args.text.now in
+    let counted : c.count.result ≡ length (take_while is_ascii_digit (drop c.args.at text)) =
+    count_from_yields_List c.take_while.result _ c.count.ensures.ran
+    (YieldsList-from_take_while _ is_ascii_digit (YieldsList-from_slice (drop c.args.at text) (ap iter_rest c.take_while.ensures.source ∙ c.iter.ensures.rest ∙ part_to_end text c.args.at)) c.take_while.ensures.closure c.take_while.ensures.done
+    (λ x b q k. search (rules, tests)))
+    in
+    far_counted is_ascii_digit on_digit (λ x b. refl) text c.args.at c.count.result c.requires counted
