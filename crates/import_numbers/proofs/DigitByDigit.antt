@@ -1,20 +1,26 @@
 -- Digits passed one after another: what is known of two numbers, and of one, by then.
-use mathlib.Core.Bool.{Bool, true, false, ◌||◌, not}
+use mathlib.Core.Bool.{Bool, true, false, ◌||◌, not, cond}
 use mathlib.Core.List.{List, [], ◌∷◌}
+use mathlib.Core.Logic.{⊎_elim}
 use mathlib.Core.Path.{◌≡◌, refl, sym, ap, ◌∙◌}
 use Prim.Native.Nat.{ℕ, suc, ◌+◌, ◌-◌, ◌*◌, ◌/◌, ◌%◌, ◌≤◌, ◌<◌}
 use native.Mathlib.Numerals.{add-one}
 use native.Mathlib.Omega.{arith}
-use borrow.Author.Tests.{eq-eqb, ne_eqb, le-leb, lt-leb}
-use lib.Dec.{eqb, leb}
+use borrow.Author.Tests.{eq-eqb, ne_eqb, le-leb, lt-leb, eqb-true, eqb-false, ltb-true, ltb-false}
+use lib.Dec.{eqb, leb, ltb}
 use lib.ListN.{length, get_or, take}
-use lib.Seq.{take-suc, take_all, take-length}
+use lib.Seq.{take_all, take-length}
+use Rattle.std.specs.Prelude.{Some}
+use Rattle.std.specs.Ordering.{is_le, is_some_and, nat_cmp}
+use Rattle.std.specs.Cmp.Lexicographic.{slice_partial_cmp}
+use Rattle.std.proofs.lemmas.Cmp.{same_from_slice_cmp_tested}
+use Rattle.std.proofs.lemmas.Bool.Decides.{nat_tests}
 use Rattle.model.specs.Base.{pick, all}
 use Rattle.texts.specs.Decimals.{is_digit, is_decimal, number_from, number_in}
 use Rattle.theory_forms.specs.Lists.{all_index}
-use Rattle.theory_forms.specs.Logic.{and_join, pick_true, pick_false}
+use Rattle.theory_forms.specs.Logic.{either, and_join, and_split, pick_true, pick_false}
 use Rattle.theory_texts.specs.Figures.{digit_range}
-use Rattle.theory_texts.specs.Numbers.{decimal_digits, fewer_digits, first_difference, digit_more, part_smaller, last_digit}
+use Rattle.theory_texts.specs.Numbers.{decimal_digits, fewer_digits, stays_ahead, digit_more, part_smaller, last_digit}
 
 digit_at : (a : List ℕ) (i : ℕ) → all is_digit a ≡ true → i < length a → (48 ≤ get_or a i 0) × (get_or a i 0 ≤ 57)
 digit_at a i h n = digit_range (get_or a i 0) (all_index is_digit a i 0 h n)
@@ -53,27 +59,55 @@ module _ (a b : List ℕ) (da : is_decimal a ≡ true) (db : is_decimal b ≡ tr
   pub longer : length b < length a → false ≡ leb (number_in a) (number_in b)
   longer h = sym (lt-leb (number_in a) (number_in b) (fewer_digits b a db da h))
 
-  module _ (i : ℕ) (long : length a ≡ length b) (h : i < length a) (same : take i a ≡ take i b) where
-    pub less_here : get_or a i 0 < get_or b i 0 → true ≡ leb (number_in a) (number_in b)
-    less_here l =
-        let n = first_difference a b i long (decimal_digits a da) h same l (digit_at a i (decimal_digits a da) h).0 in
-        sym (le-leb (number_in a) (number_in b) (omega arith))
+-- Two lists in the order of slices: by the first number that differs. Of as many digits, that is the order of the numbers that they spell.
+upto : List ℕ → List ℕ → Bool
+upto [] ys = true
+upto (x ∷ xs) [] = false
+upto (x ∷ xs) (y ∷ ys) = cond (eqb x y) (upto xs ys) (ltb x y)
 
-    pub more_here : get_or b i 0 < get_or a i 0 → false ≡ leb (number_in a) (number_in b)
-    more_here l =
-        let n = first_difference b a i (sym long) (decimal_digits b db) (omega arith) (sym same) l
-        (digit_at b i (decimal_digits b db) (omega arith)).0 in
-        sym (lt-leb (number_in a) (number_in b) n)
+is_upto : (xs ys : List ℕ) (r : Bool) → r ≡ is_some_and is_le (slice_partial_cmp (λ x y. Some (nat_cmp x y)) xs ys) → r ≡ upto xs ys
+unfolding upto
+is_upto = same_from_slice_cmp_tested nat_cmp is_le upto refl (λ _ _. refl) (λ _ _. refl) (λ x y xs ys o h. grind (arith, nat_tests))
 
-    pub same_here : get_or b i 0 ≤ get_or a i 0 → get_or a i 0 ≤ get_or b i 0 → take (i + 1) a ≡ take (i + 1) b
-    same_here l m =
-        let e : get_or a i 0 ≡ get_or b i 0 = omega arith in
-        rw (add-one i, take-suc a i 0 h, take-suc b i 0 (omega (arith, long, h)), same, e)
+upto_spelled :
+    (p : ℕ) (a b : List ℕ) →
+    all is_digit a ≡ true →
+    all is_digit b ≡ true →
+    length a ≡ length b →
+    upto a b ≡ leb (number_from p a) (number_from p b)
+unfolding upto number_from all
+upto_spelled p [] [] da db long = sym (le-leb p p (omega arith))
+upto_spelled p [] (y ∷ ys) da db long = absurd (omega (arith, long))
+upto_spelled p (x ∷ xs) [] da db long = absurd (omega (arith, long))
+upto_spelled p (x ∷ xs) (y ∷ ys) da db long =
+    let s = and_split (is_digit x) (all is_digit xs) da in
+    let t = and_split (is_digit y) (all is_digit ys) db in
+    let r = digit_range x s.0 in
+    let q = digit_range y t.0 in
+    let rest : length xs ≡ length ys = omega (arith, long) in
+    ⊎_elim
+    (λ e. let same : x ≡ y = eqb-true x y e in rw (e, same) (upto_spelled (10 * p + (y - 48)) xs ys s.1 t.1 rest))
+    (λ e. ⊎_elim
+    (λ l. let less : x < y = ltb-true x y l in
+    let ahead = stays_ahead (10 * p + (x - 48)) (10 * p + (y - 48)) xs ys (omega arith) (omega (arith, rest)) s.1 in
+    ap (λ b. cond b (upto xs ys) (ltb x y)) e ∙ l ∙ sym (le-leb (number_from (10 * p + (x - 48)) xs) (number_from (10 * p + (y - 48)) ys) (omega (arith, ahead))))
+    (λ l. let apart = eqb-false x y e in
+    let more : y ≤ x = ltb-false x y l in
+    let ahead = stays_ahead (10 * p + (y - 48)) (10 * p + (x - 48)) ys xs (omega (arith, apart, more)) (omega (arith, rest)) t.1 in
+    ap (λ b. cond b (upto xs ys) (ltb x y)) e ∙ l ∙ sym (lt-leb (number_from (10 * p + (x - 48)) xs) (number_from (10 * p + (y - 48)) ys) ahead))
+    (either (ltb x y)))
+    (either (eqb x y))
 
-  pub same_all : (i : ℕ) → length a ≡ length b → length a ≤ i → take i a ≡ take i b → true ≡ leb (number_in a) (number_in b)
-  same_all i long h same =
-      let e : a ≡ b = sym (take_all i a h) ∙ same ∙ take_all i b (omega arith) in
-      sym (le-leb (number_in a) (number_in b) (omega (arith, ap number_in e)))
+pub compared :
+    (a b : List ℕ) →
+    is_decimal a ≡ true →
+    is_decimal b ≡ true →
+    length a ≡ length b →
+    (r : Bool) →
+    r ≡ is_some_and is_le (slice_partial_cmp (λ x y. Some (nat_cmp x y)) a b) →
+    r ≡ leb (number_in a) (number_in b)
+unfolding number_in
+compared a b da db long r e = is_upto a b r e ∙ upto_spelled 0 a b (decimal_digits a da) (decimal_digits b db) long
 
 -- A number divided by ten for each digit from the last one on.
 module _ (a : List ℕ) (n left i last : ℕ) (digits : all is_digit a ≡ true) (more : i ≡ suc last) (within : i ≤ length a)

@@ -10,13 +10,11 @@ pub fn is_decimal(a: &[u8]) -> bool
     requires { all is_digit a.now ≡ true }
     ensures { result ≡ is_decimal a.now }
 {
-    if a.len() == 0 {
-        return false;
+    match a {
+        [] => false,
+        [_] => true,
+        [first, ..] => *first != b'0',
     }
-    if a.len() == 1 {
-        return true;
-    }
-    a[0] != 48
 }
 
 // Whether a decimal is at most another: by the number of digits, then by the first digit that differs.
@@ -24,25 +22,7 @@ pub fn is_at_most(a: &[u8], b: &[u8]) -> bool
     requires { (is_decimal a.now ≡ true) × (is_decimal b.now ≡ true) }
     ensures { result ≡ leb (number_in a.now) (number_in b.now) }
 {
-    if a.len() < b.len() {
-        return true;
-    }
-    if b.len() < a.len() {
-        return false;
-    }
-    let mut i = 0;
-    while i < a.len() {
-        let x = a[i];
-        let y = b[i];
-        if x < y {
-            return true;
-        }
-        if y < x {
-            return false;
-        }
-        i += 1;
-    }
-    true
+    a.len() < b.len() || (a.len() == b.len() && a <= b)
 }
 
 // Whether digits spell a number: compared from the last one on, so that they may be as many as they like.
@@ -51,14 +31,11 @@ pub fn is_number(a: &[u8], n: usize) -> bool
     ensures { result ≡ eqb n (number_in a.now) }
 {
     let mut left = n;
-    let mut i = a.len();
-    while 0 < i {
-        let last = i - 1;
-        if 48 + left % 10 != a[last] as usize {
+    for i in (0..a.len()).rev() {
+        if a[i] != b'0' + (left % 10) as u8 {
             return false;
         }
-        left = left / 10;
-        i = last;
+        left /= 10;
     }
     left == 0
 }
@@ -69,10 +46,8 @@ pub fn small_number(a: &[u8]) -> usize
     ensures { result ≡ number_in a.now }
 {
     let mut n = 0;
-    let mut i = 0;
-    while i < a.len() {
-        n = 10 * n + (a[i] as usize - 48);
-        i += 1;
+    for digit in a {
+        n = 10 * n + usize::from(*digit - b'0');
     }
     n
 }

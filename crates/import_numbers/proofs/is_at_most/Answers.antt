@@ -1,45 +1,22 @@
-use mathlib.Core.Path.{refl}
+-- `import_numbers::is_at_most` meets its contract: fewer digits, or as many and no later in the order of slices.
+use mathlib.Core.Path.{◌∙◌}
 use native.Mathlib.Omega.{arith}
-use Rattle.import_numbers.proofs.DigitByDigit.{shorter, longer, less_here, more_here, same_here, same_all}
+use borrow.Author.Tests.{lt-ltb, ne_eqb}
+use lib.ListN.{length}
+use Rattle.import_numbers.proofs.DigitByDigit.{shorter, longer, compared}
 use Rattle.import_numbers.proofs.is_at_most.Goals as goal
 
 pub returns-then-a-b : goal.returns-then-a-b
-returns-then-a-b c = let s = c in shorter s.args.a.now s.args.b.now s.requires.0 s.requires.1 c.if-a-b.true
+returns-then-a-b c =
+    let a = c.args.a.now in
+    let b = c.args.b.now in
+    lt-ltb (length a) (length b) c.if-a-b.true ∙ shorter a b c.requires.0 c.requires.1 c.if-a-b.true
 
-pub returns-then-b-a : goal.returns-then-b-a
-returns-then-b-a c = let s = c in longer s.args.a.now s.args.b.now s.requires.0 s.requires.1 c.if-b-a.true
+pub returns-then-a-b-2 : goal.returns-then-a-b-2
+returns-then-a-b-2 c = compared c.args.a.now c.args.b.now c.requires.0 c.requires.1 c.if-a-b-2.true c.le.result c.le.ensures
 
-pub loop-i-init : goal.loop-i-init
-loop-i-init c = (omega arith, refl)
-
-pub returns-then-x-y : goal.returns-then-x-y
-returns-then-x-y c =
-    let n = c in
-    let s = n in
-    less_here s.args.a.now s.args.b.now s.requires.0 s.requires.1 n.loop-i.i
-    (omega (arith, n.if-b-a.false, n.if-a-b.false)) c.loop-i-test.true n.loop-i.invariant.1 c.if-x-y.true
-
-pub returns-then-y-x : goal.returns-then-y-x
-returns-then-y-x c =
-    let n = c in
-    let s = n in
-    more_here s.args.a.now s.args.b.now s.requires.0 s.requires.1 n.loop-i.i
-    (omega (arith, n.if-b-a.false, n.if-a-b.false)) c.loop-i-test.true n.loop-i.invariant.1
-    c.if-y-x.true
-
-pub loop-i-preserved : goal.loop-i-preserved
-loop-i-preserved c =
-    let n = c in
-    let s = n in
-    let test = c.loop-i-test.true in (
-      omega (arith, test),
-      same_here s.args.a.now s.args.b.now s.requires.0 s.requires.1 n.loop-i.i
-          (omega (arith, n.if-b-a.false, n.if-a-b.false)) test n.loop-i.invariant.1 c.if-x-y.false c.if-y-x.false,
-    )
-
-pub returns : goal.returns
-returns c =
-    let s = c in
-    let l = c.loop-i in
-    same_all s.args.a.now s.args.b.now s.requires.0 s.requires.1 l.i
-    (omega (arith, c.if-b-a.false, c.if-a-b.false)) c.loop-i-test.false l.invariant.1
+pub returns-else-a-b-2 : goal.returns-else-a-b-2
+returns-else-a-b-2 c =
+    let a = c.args.a.now in
+    let b = c.args.b.now in
+    ne_eqb (length a) (length b) c.if-a-b-2.false ∙ longer a b c.requires.0 c.requires.1 (omega (arith, c.if-a-b.false, c.if-a-b-2.false))

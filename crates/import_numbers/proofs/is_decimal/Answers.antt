@@ -1,13 +1,14 @@
 -- `import_numbers::is_decimal` meets its contract: by the number of digits, and the first.
+use native.Mathlib.Omega.{arith}
 use Rattle.import_numbers.proofs.DigitByDigit.{no_digit, one_digit, more_digits}
 use Rattle.import_numbers.proofs.is_decimal.Goals as goal
 
-pub returns-then-a-eq0 : goal.returns-then-a-eq0
-returns-then-a-eq0 c = no_digit c.args.a.now c.if-a-eq0.true
+pub returns-in-empty : goal.returns-in-empty
+returns-in-empty c = no_digit c.args.a.now (omega (arith, c.in-empty.len_below))
 
-pub returns-then-a-eq1 : goal.returns-then-a-eq1
-returns-then-a-eq1 c = one_digit c.args.a.now c.requires c.if-a-eq1.true
+pub returns-in-len1 : goal.returns-in-len1
+returns-in-len1 c = one_digit c.args.a.now c.requires (omega (arith, c.in-len1.len_at_least, c.in-len1.len_below))
 
-pub returns : goal.returns
-returns c =
-    let s = c in more_digits s.args.a.now s.requires c.if-a-eq0.false c.if-a-eq1.false
+pub returns-in-len1-up : goal.returns-in-len1-up
+returns-in-len1-up c =
+    more_digits c.args.a.now c.requires (λ e. omega (arith, e)) (λ e. omega (arith, e))

@@ -9,6 +9,3 @@ use Rattle.import_numbers.proofs.is_number.Given as goal
 
 abbrev pub invariant-loop-i : goal.invariant-loop-i
 invariant-loop-i l = (l.i ≤ length l.a) × (eqb l.n (number_in l.a) ≡ eqb l.left (number_in (take l.i l.a)))
-
-abbrev pub decreases-loop-i : goal.decreases-loop-i
-decreases-loop-i l = l.i
