@@ -3,7 +3,7 @@
 #![tactic(auto)]
 
 ghost use Rattle.std.specs.Prelude.{true, [], ◌≡◌, ◌+◌, ◌*◌, ◌<◌, ◌≤◌, length, get_or, take};
-ghost use Rattle.model.specs.Base.{placed, same_list};
+ghost use Rattle.model.specs.Base.{placed};
 ghost use Rattle.model.specs.Sheet.{used_in, is_sheet};
 ghost use Rattle.calls.specs.Index.{no_place, entries, fresh_count};
 ghost use Rattle.calls.specs.Conditions.{index_length, has_short_index, has_stale_index};
@@ -26,7 +26,7 @@ const MOST_NUMBERS: usize = 2 * MOST_OPTIONS;
 fn is_mark(x: usize) -> bool
     ensures { result ≡ is_literal x }
 {
-    KIND_FACTOR <= x && x < MARKS_END
+    (KIND_FACTOR..MARKS_END).contains(&x)
 }
 
 // No mark of so many options.
@@ -34,22 +34,21 @@ fn clear(index: &mut [u16], options: usize)
     requires { 2 * options ≤ length index.old }
     ensures { index.new ≡ placed (entries 0 options []) index.old }
 {
-    let mut v = 0;
-    while v < options {
+    for v in 0..options {
         let at = 2 * v;
         index[at] = 0;
         index[at + 1] = NO_PLACE;
-        v += 1;
     }
 }
 
 // So many marks more of one option, before all others: its count rises by as many, and the place of the first of them is the first.
+#[tactic(auto, unfolding(theory_index::specs::Entries::mentioned_first, theory_index::specs::Entries::entry_set))]
 fn mention_first(index: &mut [u16], option: usize, marks: u16, place: u16)
     requires { (2 * option + 1 < length index.old) × (get_or index.old (2 * option) 0 + marks ≤ no_place) }
     ensures { index.new ≡ mentioned_first option marks place index.old }
 {
     let at = 2 * option;
-    index[at] = index[at] + marks;
+    index[at] += marks;
     index[at + 1] = place;
 }
 
@@ -59,8 +58,7 @@ pub fn mention_last(index: &mut [u16], option: usize, place: u16)
     ensures { index.new ≡ mentioned_last option place index.old }
 {
     let at = 2 * option;
-    let count = index[at];
-    index[at] = count + 1;
+    index[at] += 1;
     if index[at + 1] == NO_PLACE {
         index[at + 1] = place;
     }
@@ -72,7 +70,7 @@ fn count_node(sheet: &[u16], index: &mut [u16], place: usize)
         (take (index_length sheet.now) index.old ≡ fresh_from sheet.now (place + 1)) }
     ensures { index.new ≡ placed (fresh_from sheet.now place) index.old }
 {
-    let x = common_nodes::wide16(sheet[2 + place]);
+    let x = usize::from(sheet[2 + place]);
     if is_mark(x) {
         mention_first(index, common_nodes::value_of(x), 1, place as u16);
     }
@@ -91,20 +89,22 @@ fn count_four(sheet: &[u16], index: &mut [u16], place: usize)
 }
 
 // Whether the number at a place and the three after it are the same.
+#[tactic(auto, unfolding(crate::specs::Walk::four_alike))]
 fn four_alike(sheet: &[u16], at: usize) -> bool
     requires { at + 3 < length sheet.now }
     ensures { result ≡ four_alike sheet.now at }
 {
     let x = sheet[at];
-    x == sheet[at + 1] && (x == sheet[at + 2] && x == sheet[at + 3])
+    x == sheet[at + 1] && x == sheet[at + 2] && x == sheet[at + 3]
 }
 
 // The same of the seven after it.
+#[tactic(auto, unfolding(crate::specs::Walk::eight_alike))]
 fn eight_alike(sheet: &[u16], at: usize) -> bool
     requires { at + 7 < length sheet.now }
     ensures { result ≡ eight_alike sheet.now at }
 {
-    four_alike(sheet, at) && (four_alike(sheet, at + 4) && sheet[at] == sheet[at + 4])
+    four_alike(sheet, at) && four_alike(sheet, at + 4) && sheet[at] == sheet[at + 4]
 }
 
 // Eight nodes. Where they are one and the same mark, it is counted eight times at once: one by one, each count would wait until the one
@@ -114,14 +114,14 @@ fn count_eight(sheet: &[u16], index: &mut [u16], place: usize)
         (take (index_length sheet.now) index.old ≡ fresh_from sheet.now (place + 8)) }
     ensures { index.new ≡ placed (fresh_from sheet.now place) index.old }
 {
-    if !eight_alike(sheet, 2 + place) {
+    if eight_alike(sheet, 2 + place) {
+        let each = usize::from(sheet[2 + place]);
+        if is_mark(each) {
+            mention_first(index, common_nodes::value_of(each), 8, place as u16);
+        }
+    } else {
         count_four(sheet, index, place + 4);
         count_four(sheet, index, place);
-        return;
-    }
-    let each = common_nodes::wide16(sheet[2 + place]);
-    if is_mark(each) {
-        mention_first(index, common_nodes::value_of(each), 8, place as u16);
     }
 }
 
@@ -131,9 +131,7 @@ fn count_few(sheet: &[u16], index: &mut [u16], few: usize)
         (take (index_length sheet.now) index.old ≡ fresh_from sheet.now few) }
     ensures { index.new ≡ placed (fresh_from sheet.now 0) index.old }
 {
-    let mut place = few;
-    while 0 < place {
-        place -= 1;
+    for place in (0..few).rev() {
         count_node(sheet, index, place);
     }
 }
@@ -144,29 +142,13 @@ pub fn fill(sheet: &[u16], index: &mut [u16])
     requires { (is_sheet sheet.now ≡ true) × (index_length sheet.now ≤ length index.old) }
     ensures { index.new ≡ placed (fresh_count sheet.now) index.old }
 {
-    clear(index, common_nodes::wide16(sheet[0]));
-    let mut place = common_nodes::wide16(sheet[1]);
-    while 8 <= place {
-        place -= 8;
-        count_eight(sheet, index, place);
+    clear(index, usize::from(sheet[0]));
+    let used = usize::from(sheet[1]);
+    let few = used % 8;
+    for eight in (0..used / 8).rev() {
+        count_eight(sheet, index, few + 8 * eight);
     }
-    count_few(sheet, index, place);
-}
-
-// Whether the first so many numbers of two lists are the same. All are compared, so that the machine takes several at a time.
-fn begin_alike(one: &[u16], other: &[u16], count: usize) -> bool
-    requires { (count ≤ length one.now) × (count ≤ length other.now) }
-    ensures { result ≡ same_list (take count one.now) (take count other.now) }
-{
-    let mut alike = true;
-    let mut i = 0;
-    while i < count {
-        if one[i] != other[i] {
-            alike = false;
-        }
-        i += 1;
-    }
-    alike
+    count_few(sheet, index, few);
 }
 
 // Whether an index is shorter than two numbers an option.
@@ -174,7 +156,7 @@ pub fn is_short(sheet: &[u16], index: &[u16]) -> bool
     requires { is_sheet sheet.now ≡ true }
     ensures { result ≡ has_short_index sheet.now index.now }
 {
-    index.len() < 2 * common_nodes::wide16(sheet[0])
+    index.len() < 2 * usize::from(sheet[0])
 }
 
 // Whether an index is long enough, and not that of the sheet.
@@ -187,5 +169,6 @@ pub fn is_stale(sheet: &[u16], index: &[u16]) -> bool
     }
     let mut fresh = [0u16; MOST_NUMBERS];
     fill(sheet, &mut fresh);
-    !begin_alike(index, &fresh, 2 * common_nodes::wide16(sheet[0]))
+    let end = 2 * usize::from(sheet[0]);
+    index[..end] != fresh[..end]
 }

@@ -19,8 +19,11 @@ eight_alike-requires c =
     let form = sheet_formed c.args.sheet.now c.requires.0 in
     omega (arith, c.requires.1, form.whole, form.used)
 
-pub overflow_add-place-then-not-eight_alike : goal.overflow_add-place-then-not-eight_alike
-overflow_add-place-then-not-eight_alike c = search (rules, (sheet_formed c.args.sheet.now c.requires.0).used)
+pub overflow_add-place-then-eight_alike : goal.overflow_add-place-then-eight_alike
+overflow_add-place-then-eight_alike c = search (rules, (sheet_formed c.args.sheet.now c.requires.0).used)
+
+pub overflow_add-place-else-eight_alike : goal.overflow_add-place-else-eight_alike
+overflow_add-place-else-eight_alike c = search (rules, (sheet_formed c.args.sheet.now c.requires.0).used)
 
 -- The later four, then the earlier.
 pub count_four-requires : goal.count_four-requires
@@ -29,18 +32,15 @@ count_four-requires c =
     let after : a.place + 8 ≡ a.place + 4 + 4 = omega arith in
     (c.requires.0, omega (arith, c.requires.1), c.requires.2 ∙ ap (fresh_from a.sheet.now) after)
 
-pub count_four-requires-then-not-eight_alike : goal.count_four-requires-then-not-eight_alike
-count_four-requires-then-not-eight_alike c =
+pub count_four-requires-else-eight_alike : goal.count_four-requires-else-eight_alike
+count_four-requires-else-eight_alike c =
     let a = c.args in
     (c.requires.0, omega (arith, c.requires.1), filled_start a.sheet.now (a.place + 4) a.index.now c.count_four.ensures)
 
-pub returns-then-not-eight_alike : goal.returns-then-not-eight_alike
-returns-then-not-eight_alike c =
+pub returns-else-eight_alike : goal.returns-else-eight_alike
+returns-else-eight_alike c =
     let a = c.args in
-    filled_further a.sheet.now a.place (a.place + 4) a.index.now c.count_four.ensures c.count_four-then-not-eight_alike.ensures
-
-pub overflow_add-place-2 : goal.overflow_add-place-2
-overflow_add-place-2 c = search (rules, (sheet_formed c.args.sheet.now c.requires.0).used)
+    filled_further a.sheet.now a.place (a.place + 4) a.index.now c.count_four.ensures c.count_four-else-eight_alike.ensures
 
 pub offset_bounds-sheet-place : goal.offset_bounds-sheet-place
 offset_bounds-sheet-place c = search (rules, (sheet_formed c.args.sheet.now c.requires.0).used)
@@ -57,18 +57,18 @@ pub mention_first-requires : goal.mention_first-requires
 mention_first-requires c =
     let a = c.args in
     let r = c.requires in
-    let each = c.wide16-each.ensures.0 in
+    let each = c.from-each.ensures in
     let kind_here : is_literal (get_or a.sheet.now (2 + a.place) 0) ≡ c.is_mark.result = ap is_literal (sym each) ∙ sym c.is_mark.ensures in
-    let run = eight_marks a.sheet.now r.0 a.place r.1 (sym c.eight_alike.ensures ∙ c.if-not-eight_alike.false) (kind_here ∙ c.if-is_mark.true) in
+    let run = eight_marks a.sheet.now r.0 a.place r.1 (sym c.eight_alike.ensures ∙ c.if-eight_alike.true) (kind_here ∙ c.if-is_mark.true) in
     may_rise a.sheet.now r.0 a.place 8 run (c.value_of.ensures ∙ ap value each) a.index.now r.2
 
 pub returns-then-is_mark : goal.returns-then-is_mark
 returns-then-is_mark c =
     let a = c.args in
     let r = c.requires in
-    let each = c.wide16-each.ensures.0 in
+    let each = c.from-each.ensures in
     let kind_here : is_literal (get_or a.sheet.now (2 + a.place) 0) ≡ c.is_mark.result = ap is_literal (sym each) ∙ sym c.is_mark.ensures in
-    let run = eight_marks a.sheet.now r.0 a.place r.1 (sym c.eight_alike.ensures ∙ c.if-not-eight_alike.false) (kind_here ∙ c.if-is_mark.true) in
+    let run = eight_marks a.sheet.now r.0 a.place r.1 (sym c.eight_alike.ensures ∙ c.if-eight_alike.true) (kind_here ∙ c.if-is_mark.true) in
     run_met a.sheet.now r.0 a.place 8 run (c.value_of.ensures ∙ ap value each) a.index.now r.2 c.mention_first.ensures
 
 pub returns-else-is_mark : goal.returns-else-is_mark
@@ -76,7 +76,7 @@ returns-else-is_mark c =
     let a = c.args in
     let r = c.requires in
     let kind_here : is_literal (get_or a.sheet.now (2 + a.place) 0) ≡ c.is_mark.result =
-    ap is_literal (sym c.wide16-each.ensures.0) ∙ sym c.is_mark.ensures in
-    let alike = sym c.eight_alike.ensures ∙ c.if-not-eight_alike.false in
+    ap is_literal (sym c.from-each.ensures) ∙ sym c.is_mark.ensures in
+    let alike = sym c.eight_alike.ensures ∙ c.if-eight_alike.true in
     unchanged a.sheet.now (a.place + 8) a.index.now r.2 a.place
     (eight_others a.sheet.now r.0 a.place r.1 alike (kind_here ∙ c.if-is_mark.false))

@@ -28,7 +28,7 @@ pub mention_first-requires : goal.mention_first-requires
 mention_first-requires c =
     let a = c.args in
     let r = c.requires in
-    let x = c.wide16-x.ensures.0 in
+    let x = c.from-x.ensures in
     let kind_here : is_literal (get_or a.sheet.now (2 + a.place) 0) ≡ c.is_mark.result = ap is_literal (sym x) ∙ sym c.is_mark.ensures in
     let run = one_mark a.sheet.now r.0 a.place r.1 refl (kind_here ∙ c.if-is_mark.true) in
     may_rise a.sheet.now r.0 a.place 1 run (c.value_of.ensures ∙ ap value x) a.index.now r.2
@@ -37,7 +37,7 @@ pub returns-then-is_mark : goal.returns-then-is_mark
 returns-then-is_mark c =
     let a = c.args in
     let r = c.requires in
-    let x = c.wide16-x.ensures.0 in
+    let x = c.from-x.ensures in
     let kind_here : is_literal (get_or a.sheet.now (2 + a.place) 0) ≡ c.is_mark.result = ap is_literal (sym x) ∙ sym c.is_mark.ensures in
     let run = one_mark a.sheet.now r.0 a.place r.1 refl (kind_here ∙ c.if-is_mark.true) in
     run_met a.sheet.now r.0 a.place 1 run (c.value_of.ensures ∙ ap value x) a.index.now r.2 c.mention_first.ensures
@@ -47,5 +47,5 @@ returns-else-is_mark c =
     let a = c.args in
     let r = c.requires in
     let kind_here : is_literal (get_or a.sheet.now (2 + a.place) 0) ≡ c.is_mark.result =
-    ap is_literal (sym c.wide16-x.ensures.0) ∙ sym c.is_mark.ensures in
+    ap is_literal (sym c.from-x.ensures) ∙ sym c.is_mark.ensures in
     unchanged a.sheet.now (a.place + 1) a.index.now r.2 a.place (one_other a.sheet.now r.0 a.place r.1 refl (kind_here ∙ c.if-is_mark.false))

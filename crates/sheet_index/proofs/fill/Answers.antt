@@ -1,7 +1,7 @@
 use mathlib.Core.Bool.{true}
 use mathlib.Core.List.{List, []}
-use mathlib.Core.Path.{◌≡◌, refl, ap, ◌∙◌}
-use Prim.Native.Nat.{ℕ, ◌+◌, ◌-◌}
+use mathlib.Core.Path.{◌≡◌, ap, ◌∙◌}
+use Prim.Native.Nat.{ℕ, ◌+◌, ◌-◌, ◌*◌, ◌/◌, ◌%◌}
 use native.Mathlib.Omega.{arith}
 use Rattle.model.specs.Base.{placed}
 use Rattle.model.specs.Sheet.{options_in, used_in, is_sheet}
@@ -24,50 +24,58 @@ bounds-sheet-0 c = omega (arith, (sheet_formed c.args.sheet.now c.requires.0).wh
 
 pub clear-requires : goal.clear-requires
 unfolding options_in
-clear-requires c = omega (arith, c.wide16.ensures.0, c.requires.1)
+clear-requires c = omega (arith, c.from.ensures, c.requires.1)
 
 pub bounds-sheet-1 : goal.bounds-sheet-1
 bounds-sheet-1 c = omega (arith, (sheet_formed c.args.sheet.now c.requires.0).whole)
 
-pub loop-place-init : goal.loop-place-init
+pub loop-eight-init : goal.loop-eight-init
 unfolding used_in options_in
-loop-place-init c =
+loop-eight-init c =
     let s = c.args.sheet.now in
     let old = c.args.index.now in
-    let begin = cleared s c.requires.0 old c.wide16.ensures.0 c.clear.ensures in
+    let begin = cleared s c.requires.0 old c.from.ensures c.clear.ensures in
     let filled = start_filled s (used_in s) c.clear.new.index (filled_start s (used_in s) old begin) in
-    let last = c.wide16-place.ensures.0 in
-    (omega (arith, last), refl, rw last filled)
+    let used = c.from-used.result in
+    let last : used % 8 + 8 * (used / 8) ≡ used_in s = omega (arith, c.from-used.ensures) in
+    rw last filled
 
 pub count_eight-requires : goal.count_eight-requires
+unfolding used_in
 count_eight-requires c =
-    let l = c.loop-place in
+    let k = c.loop-eight.eight in
     let s = c.args.sheet.now in
-    let next : l.place ≡ l.place - 8 + 8 = omega (arith, c.loop-place-test.true) in (
+    let few = c.from-used.result % 8 in
+    let next : few + 8 * k ≡ few + 8 * (k - 1) + 8 = omega arith in (
       c.requires.0,
-      omega (arith, c.loop-place-test.true, l.invariant.0),
-      filled_start s l.place c.clear.new.index l.invariant.2 ∙ ap (fresh_from s) next,
+      omega (arith, c.from-used.ensures),
+      filled_start s (few + 8 * k) c.clear.new.index c.loop-eight.invariant ∙ ap (fresh_from s) next,
     )
 
-pub loop-place-preserved : goal.loop-place-preserved
-loop-place-preserved c =
-    let l = c.loop-place in (
-      omega (arith, l.invariant.0),
-      c.count_eight.auto.index ∙ l.invariant.1,
-      filled_further c.args.sheet.now (l.place - 8) l.place c.clear.new.index l.invariant.2 c.count_eight.ensures,
-    )
+pub loop-eight-preserved : goal.loop-eight-preserved
+loop-eight-preserved c =
+    let k = c.loop-eight.eight in
+    let few = c.from-used.result % 8 in
+    filled_further c.args.sheet.now (few + 8 * (k - 1)) (few + 8 * k) c.clear.new.index c.loop-eight.invariant c.count_eight.ensures
 
 pub count_few-requires : goal.count_few-requires
+unfolding used_in
 count_few-requires c =
-    let l = c.loop-place in
-    (c.requires.0, l.invariant.0, filled_start c.args.sheet.now l.place c.clear.new.index l.invariant.2)
+    let l = c.loop-eight in
+    let s = c.args.sheet.now in
+    let few = c.from-used.result % 8 in
+    let end : few + 8 * l.eight ≡ few = omega arith in (
+      c.requires.0,
+      omega (arith, c.from-used.ensures),
+      filled_start s (few + 8 * l.eight) c.clear.new.index l.invariant ∙ ap (fresh_from s) end,
+    )
 
 pub returns : goal.returns
 unfolding options_in
 returns c =
-    let l = c.loop-place in
+    let l = c.loop-eight in
     let s = c.args.sheet.now in
     let old = c.args.index.now in
-    let walked = filled_further s 0 l.place c.clear.new.index l.invariant.2 c.count_few.ensures in
-    let begin = cleared s c.requires.0 old c.wide16.ensures.0 c.clear.ensures in
+    let walked = filled_further s 0 (c.from-used.result % 8 + 8 * l.eight) c.clear.new.index l.invariant c.count_few.ensures in
+    let begin = cleared s c.requires.0 old c.from.ensures c.clear.ensures in
     ended s old (filled_further s 0 (used_in s) old begin walked)

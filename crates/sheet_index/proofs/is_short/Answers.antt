@@ -16,4 +16,4 @@ pub returns : goal.returns
 unfolding options_in
 returns c =
     let a = c.args in
-    ap (λ n. ltb (length a.index.now) (2 * n)) c.wide16.ensures.0
+    ap (λ n. ltb (length a.index.now) (2 * n)) c.from.ensures
