@@ -22,11 +22,11 @@ use report_marks::NAMED_LENGTH;
 fn place_named(x: usize) -> usize
     ensures { result ≡ place_named x }
 {
-    let v = common_nodes::value_of(x);
     if common_nodes::is_literal(x) {
-        return v;
+        common_nodes::value_of(x)
+    } else {
+        MOST_OPTIONS
     }
-    MOST_OPTIONS
 }
 
 // The options of so many nodes, each of which has its place in the table.
@@ -35,11 +35,9 @@ fn note_nodes(s: &[u8], count: usize, named: &mut [u8; NAMED_LENGTH])
     requires s_value { all (λ x. leb (place_named x) most_options) (words count s.now) ≡ true }
     ensures { Adds (λ v. any (names v) (map node_of (words count s.now))) named.old named.new }
 {
-    let mut i = 0;
-    while i < count {
+    for i in 0..count {
         let place = place_named(common_nodes::word_at(s, 2 * i));
         named[place] = 1;
-        i += 1;
     }
 }
 
@@ -59,11 +57,7 @@ pub fn note_lines(lines: [Line; SLOTS], count: u16, named: &mut [u8; NAMED_LENGT
     requires lines_value { all (λ l. ltb (option l) most_options) (take count (lines_of lines)) ≡ true }
     ensures { Adds (λ v. any (λ l. eqb v (option l)) (take count (lines_of lines))) named.old named.new }
 {
-    let many = common_nodes::wide16(count);
-    let mut i = 0;
-    while i < many {
-        let option = common_nodes::wide16(lines[i].option);
-        named[option] = 1;
-        i += 1;
+    for line in &lines[..usize::from(count)] {
+        named[usize::from(line.option)] = 1;
     }
 }

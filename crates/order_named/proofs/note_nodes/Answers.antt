@@ -38,7 +38,7 @@ module _ (c : goal.After-place_named-place) where
       omega (arith, place, leb-true (place_named (get_or numbers i 0)) most_options l)
 
 pub loop-i-init : goal.loop-i-init
-loop-i-init c = let a = c.args in (omega arith, begun place_named (words a.count a.s.now) a.named.now)
+loop-i-init c = let a = c.args in begun place_named (words a.count a.s.now) a.named.now
 
 pub bounds-named-place : goal.bounds-named-place
 bounds-named-place c = in_table (goal.at.bounds-named-place c).After-place_named-place
@@ -47,14 +47,12 @@ pub loop-i-preserved : goal.loop-i-preserved
 loop-i-preserved c =
     let k = (goal.at.loop-i-preserved c).After-place_named-place in
     let l = c.loop-i in
-    let long = l.invariant.1.long ∙ c.requires.count_le_most_nodes.2 in (
-      omega (arith, c.loop-i-test.true),
-      one_more place_named (numbers k) _ l.named l.i 0 (within k) (place k) (omega (arith, in_table k, long)) l.invariant.1,
-    )
+    let long = l.invariant.long ∙ c.requires.count_le_most_nodes.2 in
+    one_more place_named (numbers k) _ l.named l.i 0 (within k) (place k) (omega (arith, in_table k, long)) l.invariant
 
 pub returns : goal.returns
 returns c =
     let a = c.args in
     let l = c.loop-i in
     let all : length (words a.count a.s.now) ≤ l.i = omega (arith, length_words a.count a.s.now, c.loop-i-test.false) in
-    named_so _ _ _ (ended place_named (words a.count a.s.now) _ _ l.i all l.invariant.1)
+    named_so _ _ _ (ended place_named (words a.count a.s.now) _ _ l.i all l.invariant)

@@ -1,12 +1,8 @@
 -- `order_named::note_nodes` meets its contract. Invariant: the first i nodes are noted.
-use Prim.Native.Nat.{◌-◌, ◌≤◌}
 use Rattle.model.specs.Book.{words}
 use Rattle.order_named.specs.Noting.{Adds, place_named}
 use Rattle.order_named.proofs.Passes.{among}
 use Rattle.order_named.proofs.note_nodes.Given as goal
 
 abbrev pub invariant-loop-i : goal.invariant-loop-i
-invariant-loop-i l = (l.i ≤ l.count) × Adds (among place_named (words l.count l.s) l.i) l.initial.named l.named
-
-abbrev pub decreases-loop-i : goal.decreases-loop-i
-decreases-loop-i l = l.count - l.i
+invariant-loop-i l = Adds (among place_named (words l.count l.s) l.i) l.initial.named l.named

@@ -6,8 +6,8 @@ use Rattle.order_named.proofs.place_named.Goals as goal
 
 pub returns-then-is_literal : goal.returns-then-is_literal
 unfolding place_named pick
-returns-then-is_literal c = rw (sym c.is_literal.ensures ∙ c.if-is_literal.true) c.value_of-v.ensures
+returns-then-is_literal c = rw (sym c.is_literal.ensures ∙ c.if-is_literal.true) c.value_of.ensures
 
-pub returns : goal.returns
+pub returns-else-is_literal : goal.returns-else-is_literal
 unfolding place_named pick
-returns c = rw (sym c.is_literal.ensures ∙ c.if-is_literal.false)
+returns-else-is_literal c = rw (sym c.is_literal.ensures ∙ c.if-is_literal.false)
