@@ -1,14 +1,18 @@
 -- Laws of the entries of a stack: how many trees stand, where literals begin, and the first entries and the rest.
 use mathlib.Core.Bool.{true, false, ◌||◌}
 use mathlib.Core.List.{List, [], ◌∷◌}
+use mathlib.Core.Logic.{⊎_elim}
 use mathlib.Core.Path.{◌≡◌, refl, sym, ap, ◌∙◌}
 use Prim.Native.Nat.{ℕ, zero, suc, ◌+◌, ◌*◌, ◌%◌, ◌≤◌, ◌<◌}
 use native.Mathlib.Omega.{arith}
-use borrow.Author.Tests.{eq-eqb, ne_eqb}
+use borrow.Author.Tests.{eqb-true, eqb-false, eq-eqb, ne_eqb}
+use lib.Dec.{eqb}
 use lib.ListN.{length, get_or, take, drop}
+use Rattle.std.proofs.Common.{count_by, cond}
+use Rattle.std.proofs.lemmas.List.Recursion.{is_count_by}
 use lib.Seq.{length-take-le, take_all, take-take}
 use Rattle.model.specs.Base.{pick}
-use Rattle.theory_forms.specs.Logic.{pick_keeps}
+use Rattle.theory_forms.specs.Logic.{either, pick_keeps}
 use Rattle.report_breaking.specs.Stacks.{among, begin, failing, broken, Stacked, bottom, standing}
 
 pub failing_odd : (f : ℕ) → (f % 2 ≡ 0 → ⊥) → failing f ≡ true
@@ -42,6 +46,17 @@ standing_most [] = omega arith
 standing_most (f ∷ fs) =
     let h = standing_most fs in
     pick_keeps (λ n. n ≤ suc (length fs)) (failing f) (omega arith) (omega arith)
+
+-- They are the entries that are even.
+even_more : (f : ℕ) (fs : List ℕ) → standing (f ∷ fs) ≡ cond (eqb (f % 2) 0) (1 + standing fs) (standing fs)
+even_more f fs = ⊎_elim
+    (λ e. rw e (omega (arith, standing_more f fs (failing_even f (eqb-true (f % 2) 0 e)))))
+    (λ e. rw e (standing_same f fs (failing_odd f (eqb-false (f % 2) 0 e))))
+    (either (eqb (f % 2) 0))
+
+pub standing_count : (fs : List ℕ) → standing fs ≡ count_by (λ f. eqb (f % 2) 0) fs
+unfolding standing
+standing_count fs = is_count_by standing (λ f. eqb (f % 2) 0) refl even_more fs
 
 -- Where literals begin.
 

@@ -3,8 +3,6 @@ use Rattle.std.specs.Prelude.{true, false, List, ◌≡◌, ℕ, ◌+◌, ◌-�
 use Rattle.model.specs.Limits.{sheet_room, most_literals}
 use Rattle.model.specs.Base.{pick}
 use Rattle.theory_meaning.specs.NumberTrees.{tree_fails}
-use Rattle.report_breaking.specs.declared.Verdict.{Verdict}
-use Rattle.report_breaking.specs.declared.Verdict.TheVariants.{BrokenBy, Fails}
 
 -- The place of the complement of the literal at a place.
 unfoldable pub opposite : ℕ → ℕ
@@ -18,8 +16,3 @@ pub record IsBrokenBy (t tree places : List ℕ) (n : ℕ) : Type 0 where
   pub each : (k : ℕ) → k < n → (get_or places k 0 < most_literals) × (tree_fails (set t (get_or places k 0) 1) tree ≡ true)
   pub all : (q : ℕ) → q < most_literals → (get_or t (opposite q) 0 ≡ 1 → ⊥) → tree_fails (set t q 1) tree ≡ true →
       (k : ℕ) × (k < n) × (get_or places k 0 ≡ q)
-
--- What a pass over a tree tells: which literals break it, or that it fails as it is.
-abbrev pub Breaking : List ℕ → List ℕ → List ℕ → Verdict → Type 0
-Breaking t tree places (BrokenBy n) = IsBrokenBy t tree places n
-Breaking t tree places Fails = tree_fails t tree ≡ true

@@ -1,7 +1,7 @@
 // Breaking: in one pass over a tree, all literals that make it fail once one of them fails.
 #![tactic(auto)]
 
-ghost use Rattle.std.specs.Prelude.{◌≡◌, true, false, ◌&&◌, [], ℕ, ◌+◌, ◌≤◌, ◌<◌, eqb, length, get_or, take, drop};
+ghost use Rattle.std.specs.Prelude.{◌≡◌, true, false, ◌&&◌, [], ℕ, ◌+◌, ◌*◌, ◌≤◌, ◌<◌, eqb, length, get_or, take, drop, MatchOption};
 ghost use Rattle.model.specs.Limits.{sheet_room, most_literals};
 ghost use Rattle.model.specs.Forest.{or};
 ghost use Rattle.model.specs.Code.{children};
@@ -9,8 +9,8 @@ ghost use Rattle.model.specs.Clauses.{need};
 ghost use Rattle.theory_meaning.specs.Evaluation.{fails_all};
 ghost use Rattle.theory_forms.specs.Scan.{is_literal};
 ghost use Rattle.theory_reading.specs.Leaves.{place_at};
-ghost use Rattle.theory_meaning.specs.NumberTrees.{conn_at, with_node, SpellsTree};
-ghost use Rattle.report_breaking.specs.Breaking.{opposite, Breaking};
+ghost use Rattle.theory_meaning.specs.NumberTrees.{conn_at, with_node, tree_fails, SpellsTree};
+ghost use Rattle.report_breaking.specs.Breaking.{opposite, IsBrokenBy};
 ghost use Rattle.report_breaking.specs.Stacks.{among, InTable, broken, Stacked, bottom, standing, tried, raised};
 ghost use Rattle.report_breaking.specs.Stacks.{Blank, BlankBut, Children, Apart, Counted, Made, Stack};
 
@@ -23,11 +23,28 @@ pub struct Tree {
     pub end: usize,
 }
 
-// What a pass over a tree tells: so many literals break it, or it fails as it is.
-#[derive(Clone, Copy)]
-pub enum Verdict {
-    BrokenBy(usize),
-    Fails,
+impl Tree {
+    // It fails as it is, and has no literals.
+    fn failing(base: usize) -> Tree
+        requires { base ≤ sheet_room }
+        ensures { (result.first ≡ 2 * base + 1) × (result.end ≡ base) }
+    {
+        Tree {
+            first: (2 * base + 1) as u16,
+            end: base,
+        }
+    }
+
+    // It does not, and its literals stand from one place to another.
+    fn standing(base: usize, end: usize) -> Tree
+        requires { base ≤ sheet_room }
+        ensures { (result.first ≡ 2 * base) × (result.end ≡ end) }
+    {
+        Tree {
+            first: (2 * base) as u16,
+            end,
+        }
+    }
 }
 
 // Where the stack begins, and where its literals end.
@@ -42,10 +59,7 @@ pub fn opposite_of(place: usize) -> usize
     requires { place < most_literals }
     ensures { result ≡ opposite place }
 {
-    if place % 2 == 0 {
-        return place + 1;
-    }
-    place - 1
+    if place % 2 == 0 { place + 1 } else { place - 1 }
 }
 
 // Raises the count of each literal of a list that is at a number.
@@ -53,13 +67,11 @@ fn hold(list: &[u16], held: &mut [u16], count: u16)
     requires { InTable list.now × (length held.old ≡ most_literals) × (count < 65535) }
     ensures { (x : ℕ) → get_or held.new x 0 ≡ raised count list.now held.old x }
 {
-    let mut i = 0;
-    while i < list.len() {
-        let place = common_nodes::wide16(list[i]);
+    for x in list {
+        let place = usize::from(*x);
         if held[place] == count {
             held[place] = count + 1;
         }
-        i += 1;
     }
 }
 
@@ -71,16 +83,14 @@ fn hold_all(children: &[u16], places: &[u16], end: usize, held: &mut [u16]) -> u
 {
     let mut count = 0;
     let mut to = end;
-    let mut i = 0;
-    while i < children.len() {
-        let first = common_nodes::wide16(children[i]);
+    for child in children {
+        let first = usize::from(*child);
         let from = first / 2;
         if first % 2 == 0 {
             hold(&places[from..to], held, count);
             count += 1;
         }
         to = from;
-        i += 1;
     }
     count
 }
@@ -95,16 +105,14 @@ fn keep(list: &mut [u16], count: u16, held: &mut [u16]) -> usize
     ensures by_index { (x : ℕ) → get_or held.new x 0 ≡ 0 }
 {
     let mut kept = 0;
-    let mut i = 0;
-    while i < list.len() {
+    for i in 0..list.len() {
         let x = list[i];
-        let place = common_nodes::wide16(x);
+        let place = usize::from(x);
         if held[place] == count {
             list[kept] = x;
             kept += 1;
         }
         held[place] = 0;
-        i += 1;
     }
     kept
 }
@@ -113,15 +121,7 @@ fn keep(list: &mut [u16], count: u16, held: &mut [u16]) -> usize
 fn count_standing(children: &[u16]) -> usize
     ensures { (result ≡ standing children.now) × (result ≤ length children.now) }
 {
-    let mut count = 0;
-    let mut i = children.len();
-    while 0 < i {
-        i -= 1;
-        if children[i] % 2 == 0 {
-            count += 1;
-        }
-    }
-    count
+    children.iter().filter(|x| **x % 2 == 0).count()
 }
 
 // The literals that all trees have which do not fail as they are take the place of theirs, from the base on. Where they end.
@@ -147,18 +147,11 @@ fn need_of(x: usize, children: usize) -> usize
     requires { children ≤ sheet_room }
     ensures { result ≡ need (conn_at x) children }
 {
-    let kind = common_nodes::kind_of(x);
-    if kind == 4 {
-        return children;
+    match common_nodes::kind_of(x) {
+        4 => children,
+        6 => (children + 1).saturating_sub(common_nodes::value_of(x) % LEAST_FACTOR),
+        _ => 1,
     }
-    if kind != 6 {
-        return 1;
-    }
-    let asked = common_nodes::value_of(x) % LEAST_FACTOR;
-    if children < asked {
-        return 0;
-    }
-    children + 1 - asked
 }
 
 // Joins the trees last read, whose literals begin at the base, under a node. It fails where enough of them do. Where one more must
@@ -185,27 +178,13 @@ fn join(
     let need = need_of(x, children.len());
     let failing = children.len() - count_standing(children);
     if need <= failing {
-        return Tree {
-            first: (2 * base + 1) as u16,
-            end: base,
-        };
-    }
-    let first = (2 * base) as u16;
-    if need == failing + 1 {
-        return Tree {
-            first: first,
-            end: end,
-        };
-    }
-    if common_nodes::kind_of(x) != 4 {
-        return Tree {
-            first: first,
-            end: base,
-        };
-    }
-    Tree {
-        first: first,
-        end: intersect(children, base, end, places, held),
+        Tree::failing(base)
+    } else if need == failing + 1 {
+        Tree::standing(base, end)
+    } else if common_nodes::kind_of(x) != 4 {
+        Tree::standing(base, base)
+    } else {
+        Tree::standing(base, intersect(children, base, end, places, held))
     }
 }
 
@@ -213,10 +192,10 @@ fn join(
 fn base_of(children: &[u16], end: usize) -> usize
     ensures { result ≡ bottom end children.now }
 {
-    if children.len() == 0 {
-        return end;
+    match children.last() {
+        Some(last) => usize::from(*last) / 2,
+        None => end,
     }
-    common_nodes::wide16(children[children.len() - 1]) / 2
 }
 
 // A literal fails as it is, or is broken by itself; not where its complement fails, since then nobody asks.
@@ -232,22 +211,12 @@ fn read_literal(place: usize, failed: &[u8], end: usize, places: &mut [u16]) -> 
     ensures end_bound { result.end ≤ end + 1 }
 {
     if failed[place] == 1 {
-        return Tree {
-            first: (2 * end + 1) as u16,
-            end: end,
-        };
-    }
-    let first = (2 * end) as u16;
-    if failed[opposite_of(place)] == 1 {
-        return Tree {
-            first: first,
-            end: end,
-        };
-    }
-    places[end] = place as u16;
-    Tree {
-        first: first,
-        end: end + 1,
+        Tree::failing(end)
+    } else if failed[opposite_of(place)] == 1 {
+        Tree::standing(end, end)
+    } else {
+        places[end] = place as u16;
+        Tree::standing(end, end + 1)
     }
 }
 
@@ -308,38 +277,37 @@ fn read_node(
         let new = top - 1;
         let tree = read_literal(common_nodes::place_of(x), failed, end, places);
         stack[new] = tree.first;
-        return Top {
+        Top {
             top: new,
             end: tree.end,
-        };
-    }
-    let new = top + common_nodes::children_of(x) - 1;
-    let tree = read_group(x, top, end, places, stack, held);
-    stack[new] = tree.first;
-    Top {
-        top: new,
-        end: tree.end,
+        }
+    } else {
+        let new = top + common_nodes::children_of(x) - 1;
+        let tree = read_group(x, top, end, places, stack, held);
+        stack[new] = tree.first;
+        Top {
+            top: new,
+            end: tree.end,
+        }
     }
 }
 
 // The literals that break a tree, unless it fails as it is: their places, at the start of a list, and how many. The stack is lent;
 // what the list and the stack hold before does not matter.
-pub fn breaking(tree: &[u16], failed: &[u8], places: &mut [u16], stack: &mut [u16]) -> Verdict
+pub fn breaking(tree: &[u16], failed: &[u8], places: &mut [u16], stack: &mut [u16]) -> Option<usize>
     requires { SpellsTree tree.now
         × (length tree.now ≤ sheet_room)
         × (length failed.now ≡ most_literals)
         × (length places.old ≡ sheet_room)
         × (length stack.old ≡ sheet_room) }
-    ensures { Breaking failed.now tree.now places.new result }
+    ensures { MatchOption result (tree_fails failed.now tree.now ≡ true) (IsBrokenBy failed.now tree.now places.new) }
 {
     let mut held = [0u16; MOST_LITERALS];
     let mut top = stack.len();
     let mut end = 0;
-    let mut i = tree.len();
-    while 0 < i {
-        i -= 1;
+    for i in (0..tree.len()).rev() {
         let next = read_node(
-            common_nodes::wide16(tree[i]),
+            usize::from(tree[i]),
             failed,
             top,
             end,
@@ -350,8 +318,5 @@ pub fn breaking(tree: &[u16], failed: &[u8], places: &mut [u16], stack: &mut [u1
         top = next.top;
         end = next.end;
     }
-    if stack[top] % 2 == 1 {
-        return Verdict::Fails;
-    }
-    Verdict::BrokenBy(end)
+    if stack[top] % 2 == 1 { None } else { Some(end) }
 }

@@ -203,10 +203,10 @@ read_node-next-requires c =
     let r = c.loop-i.invariant in
     let l = c.loop-i-test.true in
     record {
-      le_top = asked p.0 p.1 p.2 r l c.wide16.ensures.0;
+      le_top = asked p.0 p.1 p.2 r l c.from.ensures;
       end_lt_sheet_room = (omega (arith, r.left, p.1), r.wide, r.deep, r.sound);
       failed_len = (p.2, r.blank);
-      apart = apart p.0 p.1 p.2 r l c.wide16.ensures.0;
+      apart = apart p.0 p.1 p.2 r l c.from.ensures;
     }
 
 pub loop-i-preserved : goal.loop-i-preserved
@@ -214,7 +214,7 @@ loop-i-preserved c =
     let call = c.read_node-next in
     let p = c.requires in
     let e = call.ensures.end_bound in
-    more p.0 p.1 p.2 c.loop-i.invariant c.loop-i-test.true c.wide16.ensures.0 call.auto.places call.auto.stack e.0 e.1 e.2 call.ensures.by_index
+    more p.0 p.1 p.2 c.loop-i.invariant c.loop-i-test.true c.from.ensures call.auto.places call.auto.stack e.0 e.1 e.2 call.ensures.by_index
 
 pub bounds-stack-top : goal.bounds-stack-top
 bounds-stack-top c =
@@ -225,7 +225,7 @@ returns-then-stack-top-eq1 c =
     let p = c.requires in
     falls p.0 c.loop-i.invariant (omega arith) p.2 c.if-stack-top-eq1.true
 
-pub returns : goal.returns
-returns c =
+pub returns-else-stack-top-eq1 : goal.returns-else-stack-top-eq1
+returns-else-stack-top-eq1 c =
     let p = c.requires in
     stands p.0 c.loop-i.invariant (omega arith) p.2 c.if-stack-top-eq1.false

@@ -20,6 +20,3 @@ pub record Read (tree t places stack held : List ℕ) (top end i : ℕ) : Type 0
 
 abbrev pub invariant-loop-i : goal.invariant-loop-i
 invariant-loop-i l = Read l.tree l.failed l.places l.stack l.held l.top l.end l.i
-
-abbrev pub decreases-loop-i : goal.decreases-loop-i
-decreases-loop-i l = l.i

@@ -10,7 +10,7 @@ use Rattle.report_breaking.specs.Stacks.{InTable, raised}
 use Rattle.report_breaking.proofs.Among.{among_at}
 use Rattle.report_breaking.proofs.Holding.{raised_here, raised_none, raised_end}
 use Rattle.report_breaking.proofs.hold.Goals as goal
-use Rattle.report_breaking.proofs.hold.Goals.{After-wide16-place, then-held-place, else-held-place}
+use Rattle.report_breaking.proofs.hold.Goals.{After-from-place, then-held-place, else-held-place}
 use Rattle.report_breaking.proofs.hold.Invariants.{Raising}
 
 module _ {list first : List ℕ} {n : ℕ} {held : List ℕ} {i : ℕ} (r : Raising list first n held i) (l : i < length list) where
@@ -43,27 +43,27 @@ done {list} {first} {n} {held} {i} r h x =
     sym (r.same x ∙ rw (e, drop-length list) (raised_end n held x))
 
 -- The literal's place is one of the table's.
-in_table : (c : goal.After-wide16-place) → c.wide16-place.result < length c.loop-i.held
+in_table : (c : goal.After-from-place) → c.from-place.result < length c.loop-x.held
 in_table c =
     let p = c.requires in
-    inside c.loop-i.invariant c.loop-i-test.true p.0 p.1 c.wide16-place.ensures.0
+    inside c.loop-x.invariant c.loop-x-test.true p.0 p.1 c.from-place.ensures
 
 pub bounds-held-place : goal.bounds-held-place
-bounds-held-place c = omega (arith, in_table (goal.at.bounds-held-place c).After-wide16-place)
+bounds-held-place c = omega (arith, in_table (goal.at.bounds-held-place c).After-from-place)
 
 pub bounds-held-place-then-held-place : goal.bounds-held-place-then-held-place
-bounds-held-place-then-held-place c = omega (arith, in_table (goal.at.bounds-held-place-then-held-place c).After-wide16-place)
+bounds-held-place-then-held-place c = omega (arith, in_table (goal.at.bounds-held-place-then-held-place c).After-from-place)
 
-pub loop-i-preserved : goal.loop-i-preserved
-loop-i-preserved c =
-    let l = c.loop-i-test.true in
-    let e = c.wide16-place.ensures.0 in
-    let r = c.loop-i.invariant in
-    let h = in_table (goal.at.loop-i-preserved c).After-wide16-place in
+pub loop-x-preserved : goal.loop-x-preserved
+loop-x-preserved c =
+    let l = c.loop-x-test.true in
+    let e = c.from-place.ensures in
+    let r = c.loop-x.invariant in
+    let h = in_table (goal.at.loop-x-preserved c).After-from-place in
     elim c.if-held-place.branch [
       | then-held-place w ↦ rw w.held-is (more_here r l e h w.if-held-place.true)
       | else-held-place w ↦ rw w.held-is (more_none r l e h w.if-held-place.false)
     ]
 
 pub returns : goal.returns
-returns c = done c.loop-i.invariant c.loop-i-test.false
+returns c = done c.loop-x.invariant c.loop-x-test.false

@@ -15,8 +15,5 @@ pub record Raising (list first : List ℕ) (n : ℕ) (held : List ℕ) (i : ℕ)
   pub wide : length held ≡ length first
   pub same : (x : ℕ) → raised n list first x ≡ raised n (drop i list) held x
 
-abbrev pub invariant-loop-i : goal.invariant-loop-i
-invariant-loop-i l = Raising l.list l.initial.held l.count l.held l.i
-
-abbrev pub decreases-loop-i : goal.decreases-loop-i
-decreases-loop-i l = length l.list - l.i
+abbrev pub invariant-loop-x : goal.invariant-loop-x
+invariant-loop-x l = Raising l.list l.initial.held l.count l.held l.x-index

@@ -125,41 +125,41 @@ unfolding begin
 within places {end = end} r room l e = ((cut r l e).0, omega (arith, r.low, length-take-le end places room), room)
 
 pub slice_bounds-hold-count : goal.slice_bounds-hold-count
-slice_bounds-hold-count c = (within c.args.places.now c.loop-i.invariant c.requires.end_in_bounds.0 c.loop-i-test.true c.wide16-first.ensures.0).0
+slice_bounds-hold-count c = (within c.args.places.now c.loop-child.invariant c.requires.end_in_bounds.0 c.loop-child-test.true c.from-first.ensures).0
 
 pub slice_bounds-hold-start : goal.slice_bounds-hold-start
 slice_bounds-hold-start c =
-    let w = within c.args.places.now c.loop-i.invariant c.requires.end_in_bounds.0 c.loop-i-test.true c.wide16-first.ensures.0 in
+    let w = within c.args.places.now c.loop-child.invariant c.requires.end_in_bounds.0 c.loop-child-test.true c.from-first.ensures in
     omega (arith, w)
 
 pub hold-requires : goal.hold-requires
 unfolding begin own
 hold-requires c =
-    let inv = c.loop-i.invariant in
-    let l = c.loop-i-test.true in
-    let e = c.wide16-first.ensures.0 in
+    let inv = c.loop-child.invariant in
+    let l = c.loop-child-test.true in
+    let e = c.from-first.ensures in
     let w = within c.args.places.now inv c.requires.end_in_bounds.0 l e in (
-      rw (lent_own c.args.places.now c.args.end (c.wide16-first.result / 2) c.loop-i.to w.0 w.1 w.2) (own_inside inv l e c.requires.end_in_bounds.1),
+      rw (lent_own c.args.places.now c.args.end (c.from-first.result / 2) c.loop-child.to w.0 w.1 w.2) (own_inside inv l e c.requires.end_in_bounds.1),
       inv.wide,
       omega (arith, inv.few, inv.left, c.requires.children_len_bound.0),
     )
 
-pub loop-i-preserved : goal.loop-i-preserved
+pub loop-child-preserved : goal.loop-child-preserved
 unfolding begin own
-loop-i-preserved c =
-    let l = c.loop-i-test.true in
-    let f = c.wide16-first.result in
-    let e = c.wide16-first.ensures.0 in
-    let r = c.loop-i.invariant in
+loop-child-preserved c =
+    let l = c.loop-child-test.true in
+    let f = c.from-first.result in
+    let e = c.from-first.ensures in
+    let r = c.loop-child.invariant in
     let t = within c.args.places.now r c.requires.end_in_bounds.0 l e in
-    let own = lent_own c.args.places.now c.args.end (f / 2) c.loop-i.to t.0 t.1 t.2 in
+    let own = lent_own c.args.places.now c.args.end (f / 2) c.loop-child.to t.0 t.1 t.2 in
     elim c.if-first-eq0.branch [
       | then-first-eq0 w ↦
-          rw (w.held-is, w.count-is)
+          rw (w.held-is, w.count-is, w.to-is)
           (counted r l e (failing_even f w.if-first-eq0.true) w.hold.new.held w.hold.auto.held
-          (λ x. w.hold.ensures x ∙ ap (λ ls. raised c.loop-i.count ls c.loop-i.held x) own))
-      | else-first-eq0 w ↦ rw (w.held-is, w.count-is) (skipped r l e (failing_odd f w.if-first-eq0.false))
+          (λ x. w.hold.ensures x ∙ ap (λ ls. raised c.loop-child.count ls c.loop-child.held x) own))
+      | else-first-eq0 w ↦ rw (w.held-is, w.count-is, w.to-is) (skipped r l e (failing_odd f w.if-first-eq0.false))
     ]
 
 pub returns : goal.returns
-returns c = done c.loop-i.invariant c.loop-i-test.false
+returns c = done c.loop-child.invariant c.loop-child-test.false

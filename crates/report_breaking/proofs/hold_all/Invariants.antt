@@ -28,8 +28,5 @@ pub record Reached (ls fs held : List ℕ) (n to i : ℕ) : Type 0 where
   pub common : (x : ℕ) → (eqb (get_or held x 0) n && fails_all or (broken x (take to ls) (drop i fs))) ≡ fails_all or (broken x ls fs)
   pub blank : BlankBut (drop to ls) held
 
-abbrev pub invariant-loop-i : goal.invariant-loop-i
-invariant-loop-i l = Reached (take l.end l.places) l.children l.held l.count l.to l.i
-
-abbrev pub decreases-loop-i : goal.decreases-loop-i
-decreases-loop-i l = length l.children - l.i
+abbrev pub invariant-loop-child : goal.invariant-loop-child
+invariant-loop-child l = Reached (take l.end l.places) l.children l.held l.count l.to l.child-index

@@ -116,32 +116,28 @@ lacking c = omega (arith, c.need_of-need.ensures, c.count_standing.ensures.0, c.
 four : (c : goal.Else-kind_of-ne4) → kind c.args.x ≡ 4
 four c = omega (arith, c.kind_of.ensures, c.if-kind_of-ne4.false)
 
-pub overflow_mul-result : goal.overflow_mul-result
-overflow_mul-result c = omega (arith, below (goal.at.overflow_mul-result c).Start)
+pub failing-requires : goal.failing-requires
+failing-requires c = let b = below (goal.at.failing-requires c).Start in omega (arith, b.0, b.1)
 
-pub overflow_add-result : goal.overflow_add-result
-overflow_add-result c = omega (arith, below (goal.at.overflow_add-result c).Start)
+pub standing-requires : goal.standing-requires
+standing-requires c = let b = below (goal.at.standing-requires c).Start in omega (arith, b.0, b.1)
 
-pub overflow_cast-result : goal.overflow_cast-result
-overflow_cast-result c = omega (arith, below (goal.at.overflow_cast-result c).Start)
+pub standing-requires-then-kind_of-ne4 : goal.standing-requires-then-kind_of-ne4
+standing-requires-then-kind_of-ne4 c = let b = below (goal.at.standing-requires-then-kind_of-ne4 c).Start in omega (arith, b.0, b.1)
 
 pub returns-then-need-failing : goal.returns-then-need-failing
 returns-then-need-failing c =
     let p = c.requires.children in
+    rw (c.failing.ensures.0, c.failing.ensures.1)
     record {
       made = falls p.0 c.args.x (omega (arith, counted (goal.at.returns-then-need-failing c).After-count_standing, c.if-need-failing.true));
       end_le_end = ((below (goal.at.returns-then-need-failing c).Start).0, p.2);
     }
 
-pub overflow_mul-first : goal.overflow_mul-first
-overflow_mul-first c = omega (arith, below (goal.at.overflow_mul-first c).Start)
-
-pub overflow_cast-first : goal.overflow_cast-first
-overflow_cast-first c = omega (arith, below (goal.at.overflow_cast-first c).Start)
-
 pub returns-then-need-failing-2 : goal.returns-then-need-failing-2
 returns-then-need-failing-2 c =
     let p = c.requires.children in
+    rw (c.standing.ensures.0, c.standing.ensures.1)
     record {
       made = stands p.0 c.args.x (omega (arith, counted (goal.at.returns-then-need-failing-2 c).After-count_standing, c.if-need-failing-2.true));
       end_le_end = (omega arith, p.2);
@@ -151,6 +147,8 @@ pub returns-then-kind_of-ne4 : goal.returns-then-kind_of-ne4
 returns-then-kind_of-ne4 c =
     let p = c.requires.children in
     let other : kind c.args.x ≡ 4 → ⊥ = λ e. c.if-kind_of-ne4.true (c.kind_of.ensures ∙ e) in
+    let tree = c.standing-then-kind_of-ne4 in
+    rw (tree.ensures.0, tree.ensures.1)
     record {
       made = unmoved p.0 c.args.x other c.requires.apart (lacking (goal.at.returns-then-kind_of-ne4 c).Else-need-failing-2);
       end_le_end = ((below (goal.at.returns-then-kind_of-ne4 c).Start).0, p.2);
@@ -162,11 +160,14 @@ intersect-requires c =
     let k = goal.at.intersect-requires c in
     (p.0, some_stand c.args.x c.args.children.now (four k.Else-kind_of-ne4) (lacking k.Else-need-failing-2), p.2)
 
-pub returns : goal.returns
-returns c =
+pub returns-else-kind_of-ne4 : goal.returns-else-kind_of-ne4
+returns-else-kind_of-ne4 c =
     let p = c.requires.children in
-    let i = c.intersect in record {
-      made = meets p.0 c.args.x (four (goal.at.returns c).Else-kind_of-ne4) i.new.places i.result i.ensures.lower_bound.0
+    let i = c.intersect in
+    let tree = c.standing-else-kind_of-ne4 in
+    rw (tree.ensures.0, tree.ensures.1)
+    record {
+      made = meets p.0 c.args.x (four (goal.at.returns-else-kind_of-ne4 c).Else-kind_of-ne4) i.new.places i.result i.ensures.lower_bound.0
           (omega (arith, i.ensures.lower_bound.1, i.auto.places, p.0.room)) i.ensures.lower_bound.2 i.ensures.in_table.0 i.ensures.by_index;
       end_le_end = (i.ensures.lower_bound.1, i.ensures.in_table.1);
     }

@@ -14,7 +14,7 @@ use Rattle.report_breaking.specs.Stacks.{among, InTable, BlankBut}
 use Rattle.report_breaking.proofs.Among.{among_same, among_drop}
 use Rattle.report_breaking.proofs.Holding.{kept_here, kept_none, blank_more}
 use Rattle.report_breaking.proofs.keep.Goals as goal
-use Rattle.report_breaking.proofs.keep.Goals.{After-wide16-place, then-held-place, else-held-place}
+use Rattle.report_breaking.proofs.keep.Goals.{After-from-place, then-held-place, else-held-place}
 use Rattle.report_breaking.proofs.keep.Invariants.{Keeping}
 
 begun : (list held : List ℕ) (n : ℕ) → InTable list → BlankBut list held → Keeping list held n list held 0 0
@@ -87,25 +87,26 @@ module _ {list₀ held₀ : List ℕ} {n : ℕ} {list held : List ℕ} {kept i :
   all_blank x = ⊎_elim (λ e. e) (λ e. true_false (sym e)) (rw none_left at (r.blank x))
 
 -- The literal's place is one of the table's.
-inside_table : (c : goal.After-wide16-place) → c.wide16-place.result < length c.loop-i.held
+inside_table : (c : goal.After-from-place) → c.from-place.result < length c.loop-i.held
 inside_table c =
-    in_table c.loop-i.invariant c.loop-i-test.true c.wide16-place.ensures.0 c.requires.1
+    let r = c.loop-i.invariant in
+    in_table r (omega (arith, r.long)) c.from-place.ensures c.requires.1
 
 pub loop-i-init : goal.loop-i-init
 loop-i-init c = let p = c.requires in begun _ _ _ p.0 p.3
 
 pub bounds-held-place : goal.bounds-held-place
-bounds-held-place c = inside_table (goal.at.bounds-held-place c).After-wide16-place
+bounds-held-place c = inside_table (goal.at.bounds-held-place c).After-from-place
 
 pub bounds-held-place-in-loop-i : goal.bounds-held-place-in-loop-i
-bounds-held-place-in-loop-i c = inside_table (goal.at.bounds-held-place-in-loop-i c).After-wide16-place
+bounds-held-place-in-loop-i c = inside_table (goal.at.bounds-held-place-in-loop-i c).After-from-place
 
 pub loop-i-preserved : goal.loop-i-preserved
 loop-i-preserved c =
     let p = c.requires in
-    let l = c.loop-i-test.true in
-    let e = c.wide16-place.ensures.0 in
+    let e = c.from-place.ensures in
     let r = c.loop-i.invariant in
+    let l : c.loop-i.i < length c.loop-i.list = omega (arith, r.long) in
     elim c.if-held-place.branch [
       | then-held-place w ↦ rw (w.list-is, w.kept-is) (more_here r l e p.2 p.1 w.if-held-place.true)
       | else-held-place w ↦ rw (w.list-is, w.kept-is) (more_none r l e p.2 p.1 w.if-held-place.false)
@@ -114,5 +115,5 @@ loop-i-preserved c =
 pub returns : goal.returns
 returns c =
     let r = c.loop-i.invariant in
-    let h = c.loop-i-test.false in
+    let h : length c.loop-i.list ≤ c.loop-i.i = omega (arith, r.long) in
     record { upper_bound = (omega (arith, r.left, r.low, r.long), all_kept r h); by_index = all_blank r h }

@@ -24,6 +24,3 @@ pub record Keeping (list₀ held₀ : List ℕ) (n : ℕ) (list held : List ℕ)
 
 abbrev pub invariant-loop-i : goal.invariant-loop-i
 invariant-loop-i l = Keeping l.initial.list l.initial.held l.count l.list l.held l.kept l.i
-
-abbrev pub decreases-loop-i : goal.decreases-loop-i
-decreases-loop-i l = length l.initial.list - l.i

@@ -13,8 +13,8 @@ returns-then-place-eq0 c =
     let p = c.args.place in
     sym (pick_true (eqb (p % 2) 0) (p + 1) (p - 1) (eq-eqb (p % 2) 0 c.if-place-eq0.true))
 
-pub returns : goal.returns
+pub returns-else-place-eq0 : goal.returns-else-place-eq0
 unfolding opposite
-returns c =
+returns-else-place-eq0 c =
     let p = c.args.place in
     sym (pick_false (eqb (p % 2) 0) (p + 1) (p - 1) (ne_eqb (p % 2) 0 c.if-place-eq0.false))

@@ -70,6 +70,7 @@ returns-then-failed-place-eq1 c =
     let l = c.requires.place_lt_most_literals in
     let e = c.requires.end_in_bounds in
     let g = c.args in
+    rw (c.failing.ensures.0, c.failing.ensures.1)
     record {
       made = falls g.places.now g.failed.now g.place g.end e.0 e.2 l.0 l.1 c.if-failed-place-eq1.true;
       end_bound = omega arith;
@@ -86,17 +87,20 @@ returns-then-failed-opposite_of-eq1 c =
     let e = c.requires.end_in_bounds in
     let g = c.args in
     let o = c.opposite_of.ensures in
+    rw (c.standing.ensures.0, c.standing.ensures.1)
     record {
       made = unasked g.places.now g.failed.now g.place g.end e.0 e.2 l.0 l.1 c.if-failed-place-eq1.false (rw o at c.if-failed-opposite_of-eq1.true);
       end_bound = omega arith;
     }
 
-pub returns : goal.returns
-returns c =
+pub returns-else-failed-opposite_of-eq1 : goal.returns-else-failed-opposite_of-eq1
+returns-else-failed-opposite_of-eq1 c =
     let l = c.requires.place_lt_most_literals in
     let e = c.requires.end_in_bounds in
     let g = c.args in
     let o = c.opposite_of.ensures in
+    let tree = c.standing-else-failed-opposite_of-eq1 in
+    rw (tree.ensures.0, tree.ensures.1)
     record {
       made = added g.places.now g.failed.now g.place g.end e.0 e.2 l.0 l.1 c.if-failed-place-eq1.false (rw o at c.if-failed-opposite_of-eq1.false);
       end_bound = omega arith;

@@ -57,20 +57,20 @@ returns-then-is_literal c =
           ∙ at_literal (tried g.failed.now q) g.x _ c.place_of.ensures (literal (goal.at.returns-then-is_literal c).Then-is_literal);
     }
 
-pub returns : goal.returns
-returns c =
+pub returns-else-is_literal : goal.returns-else-is_literal
+returns-else-is_literal c =
     let r = c.read_group-tree in
     let p = c.requires in
     let g = c.args in
     let h = p.end_lt_sheet_room.3 in
     let i : ℕ = g.top + c.children_of.result - 1 in
     let at : suc i ≡ g.top + children g.x = omega (arith, c.children_of.ensures, p.le_top.0) in
-    let low : i < length g.stack.now = omega (arith, enough (goal.at.returns c).After-children_of, p.le_top.0) in
+    let low : i < length g.stack.now = omega (arith, enough (goal.at.returns-else-is_literal c).After-children_of, p.le_top.0) in
     let room : r.result.end ≤ length r.new.places =
     omega (arith, r.ensures.end_le_end.0, r.auto.places, p.end_lt_sheet_room.0, p.end_lt_sheet_room.1) in
     let w = pushed h (children g.x) i r.result.first r.new.places r.result.end at low room r.ensures.made in
     record {
       end_bound = (omega (arith, r.ensures.end_le_end.0), w.0, r.ensures.end_le_end.1);
       by_index = λ q. w.1 q
-          ∙ at_inner (tried g.failed.now q) g.x q (take g.end g.places.now) (drop g.top g.stack.now) (inner (goal.at.returns c).Else-is_literal);
+          ∙ at_inner (tried g.failed.now q) g.x q (take g.end g.places.now) (drop g.top g.stack.now) (inner (goal.at.returns-else-is_literal c).Else-is_literal);
     }
