@@ -29,7 +29,7 @@ use Rattle.report_parts.proofs.Finding.{stretch_number, stretch_long}
 use Rattle.report_breaking.specs.Breaking.{opposite}
 use Rattle.report_propagation.specs.declared.Extent.{Extent}
 use Rattle.report_propagation.specs.declared.Turn.{Turn}
-use Rattle.report_propagation.specs.Trails.{Fallen, Exhausted, Looked, Watching, due, Passed, NextDue}
+use Rattle.report_propagation.specs.Trails.{HasFallen, Exhausted, Looked, Watching, due, Passed, PassedTo, NextDue}
 use Rattle.report_propagation.proofs.Learning.{opposite_place}
 use Rattle.report_propagation.proofs.Looking.{part_inside}
 use Rattle.report_propagation.proofs.Watching.{watching_looked, noted_later, noted_now}
@@ -104,9 +104,9 @@ following_none w z p =
 module _ {s ends homes links : List ℕ} (sheet : Formed s) (table : Parted s ends homes) (links_of : Linked s links)
     {seen t trail : List ℕ} {n large : ℕ} {turn : Turn} (v : Following s ends seen t trail n large turn) where
   -- From a place of the chain on, which the turn leads to.
-  from_place : {m : ℕ} → NextDue ends homes links seen turn m → (h i k : ℕ) → h < large →
+  from_place : {m : ℕ} → PassedTo ends homes links seen turn m → (h i k : ℕ) → h < large →
       (turn.limit ≡ sheet_length → suc h ≡ large → m < k) → i ≤ k → k < get_or ends i 0 → Occurs s (get_or trail h 0) k → h < get_or seen i 0
-  from_place {m} next h i k l after a b o = ⊎_elim
+  from_place {m} passed_to h i k l after a b o = ⊎_elim
       (λ all. ⊎_elim
       (λ (last : suc h ≡ large). ⊎_elim
       (λ g. v.done h i k l (λ x y. leb-true turn.place k g) a b o)
@@ -125,15 +125,15 @@ module _ {s ends homes links : List ℕ} (sheet : Formed s) (table : Parted s en
           let q = get_or trail h 0 in
           let small : q < most_literals = v.watching.facts.placed h (omega (arith, v.ahead)) in
           let on : OnChain s q turn.place = rw same at c.0 in
-          let passed = next.passed s q table links_of small on in
+          let passed = passed_to s q table links_of small on in
           let w = passed.looked i k (after all last) before a b (omega (arith, p.begins, p.ends, sheet.used)) o in
           omega arith
 
   -- A part of the chain is looked at.
-  pub following_looked : {m : ℕ} → NextDue ends homes links seen turn m → 0 < m → {i : ℕ} → i ≡ get_or homes m 0 →
+  pub following_looked : {m : ℕ} → NextDue ends homes links seen turn m → {i : ℕ} → i ≡ get_or homes m 0 →
       {t' trail' : List ℕ} {n' : ℕ} → Looked s i (get_or ends i 0) t trail n t' trail' n' → {turn' : Turn} →
       turn'.index ≡ turn.index → turn'.place ≡ m → turn'.limit ≡ turn.limit → Following s ends (set seen i n) t' trail' n' large turn'
-  following_looked {m} next l {i} home {t'} {trail'} {n'} w {turn'} a b c =
+  following_looked {m} next {i} home {t'} {trail'} {n'} w {turn'} a b c =
       let far : i < sheet_length = rw home (table.near m) in
       let ahead = v.ahead in
       record {
@@ -149,7 +149,7 @@ module _ {s ends homes links : List ℕ} (sheet : Formed s) (table : Parted s en
             let own : j ≡ i = sym (table.home j m (λ z. omega arith) (omega arith) (omega arith)) ∙ sym home in
             rw (own, noted_now sheet table.part v.watching far) (omega arith))
             (λ other.
-            let was = from_place next h j k x (λ y z. past other (after (c ∙ y) z)) d e p in
+            let was = from_place next.passed h j k x (λ y z. past other (after (c ∙ y) z)) d e p in
             omega (arith, noted_later sheet table.part v.watching far j))
             (same_or_not k m);
       }
@@ -168,9 +168,9 @@ module _ {s ends homes links : List ℕ} (sheet : Formed s) (table : Parted s en
           (rw (same, b) (inr (⊎_elim (λ z. absurd (omega arith)) (λ z. z) there)), omega (arith, u.1))
 
   -- The chain is passed; and another literal's turn, for some parts or for all.
-  module _ {m : ℕ} (next : NextDue ends homes links seen turn m) (end : m ≤ 0) where
+  module _ (passed_to : PassedTo ends homes links seen turn 0) where
     pub following_over : Followed s ends seen trail large
-    following_over h i k l a b o = from_place next h i k l (λ x y. omega (arith, o.from)) a b o
+    following_over h i k l a b o = from_place passed_to h i k l (λ x y. omega (arith, o.from)) a b o
 
     module _ {turn' : Turn} {h : ℕ} (index : turn'.index ≡ h) (place : turn'.place ≡ sheet_length + get_or trail h 0) (below : h < n) where
       pub following_some : (turn'.limit ≡ sheet_length → ⊥) → Following s ends seen t trail n large turn'
@@ -212,7 +212,7 @@ reported : (s t : List ℕ) {b : Bool} → tree_fails t (numbers_in s) ≡ b →
 reported s t e has = (has, sym (report_conflict s t has ∙ as_tree s t ∙ e))
 
 -- A contradictory sheet's report needs no more.
-pub fallen_report : {s t : List ℕ} → Formed s → Fallen s t → Reported s t true
+pub fallen_report : {s t : List ℕ} → Formed s → HasFallen s t → Reported s t true
 fallen_report {s} {t} sheet w = reported s t w.falls (sheet_failed s sheet t (as_tree s t ∙ w.falls) w.right)
 
 -- At the end of the trail every part is exhausted.

@@ -2,7 +2,7 @@
 use mathlib.Core.Bool.{true, false, and-false, and-true}
 use mathlib.Core.List.{List, [], ◌∷◌}
 use mathlib.Core.Logic.{⊎_elim}
-use mathlib.Core.Path.{◌≡◌, refl, sym, ap, subst, ◌∙◌}
+use mathlib.Core.Path.{◌≡◌, refl, sym, ap, ◌∙◌}
 use Prim.Native.Nat.{ℕ, zero, suc, ◌+◌, ◌-◌, ◌≤◌, ◌<◌}
 use native.Mathlib.Omega.{arith}
 use borrow.Author.Tests.{eq-eqb, ne_eqb}
@@ -21,13 +21,13 @@ use Rattle.theory_forms.specs.Sheets.{Formed}
 use Rattle.theory_reading.specs.Leaves.{place_at}
 use Rattle.theory_meaning.specs.NumberTrees.{tree_fails, SpellsTree}
 use Rattle.theory_meaning.specs.TreeValues.{values_of, values_none, values_more, conn_any, with_literal, with_inner, tree_value}
+use Rattle.std.proofs.Common.{Option, Some, None}
 use Rattle.report_breaking.specs.Breaking.{opposite}
 use Rattle.report_parts.specs.Parts.{stretch, Part}
 use Rattle.report_parts.proofs.Linking.{same_or_not, below_next, literal_place}
 use Rattle.report_parts.proofs.Finding.{stretch_first, stretch_number, stretch_long}
 use Rattle.report_propagation.specs.Trails.{fresh, Facts, Forces, Lone, Unforced, Looked}
-use Rattle.report_propagation.specs.declared.Forced.{Forced}
-use Rattle.report_propagation.specs.declared.Forced.TheVariants.{Only, Nothing, Fails, Untold}
+use Rattle.report_propagation.specs.declared.Forced.TheVariants.{Only, Fails}
 use Rattle.report_propagation.proofs.Learning.{grown_none, learned, as_it_is}
 use Rattle.report_propagation.proofs.Looking.{part_inside, looked}
 
@@ -108,23 +108,22 @@ pub record Free (s t : List ℕ) (j k p : ℕ) : Type 0 where
   pub stands : get_or t p 0 ≡ 1 → ⊥
 
 -- All that do not fail have one place in the table, or all fail.
-abbrev Found : List ℕ → List ℕ → ℕ → ℕ → Forced → Type 0
-Found s t j k (Only p) =
+abbrev Found : List ℕ → List ℕ → ℕ → ℕ → Option ℕ → Type 0
+Found s t j k (Some p) =
     Free s t j k p × ((m : ℕ) → j ≤ m → m < k → (place_at (get_or s m 0) ≡ p → ⊥) → get_or t (place_at (get_or s m 0)) 0 ≡ 1)
-Found s t j k Nothing = ⊥
-Found s t j k Fails = (m : ℕ) → j ≤ m → m < k → get_or t (place_at (get_or s m 0)) 0 ≡ 1
-Found s t j k Untold = ⊥
+Found s t j k None = (m : ℕ) → j ≤ m → m < k → get_or t (place_at (get_or s m 0)) 0 ≡ 1
 
-pub record Scanned (s t : List ℕ) (i e j : ℕ) (forced : Forced) (k : ℕ) : Type 0 where
+pub record Scanned (s t : List ℕ) (i e j : ℕ) (only : Option ℕ) (k : ℕ) : Type 0 where
   pub plain : Plain s i e j k
-  pub found : Found s t j k forced
+  pub found : Found s t j k only
 
-pub scanned_none : {s t : List ℕ} {i e j : ℕ} → i ≤ j → j ≤ e → Together s i e j → Scanned s t i e j Fails j
-scanned_none a b together =
-    record {
+pub scanned_none : {s t : List ℕ} {i e j k : ℕ} → i ≤ j → j ≤ e → Together s i e j → k ≡ j → Scanned s t i e j None k
+scanned_none a b together z =
+    rw z
+    (record {
       plain = record { from = a; past = omega arith; within = b; together = together; literals = λ m c d. absurd (omega arith) };
       found = λ m c d. absurd (omega arith);
-    }
+    })
 
 module _ {s : List ℕ} {i e : ℕ} (sheet : Formed s) (part : Part s i e) {j k : ℕ} (w : Plain s i e j k) where
   -- The literals have places in the table.
@@ -178,98 +177,77 @@ later : {s t : List ℕ} {j k p : ℕ} → Free s t j k p → Free s t j (k + 1)
 later f =
     record { place = f.place; from = f.from; before = omega (arith, f.before); same = f.same; stands = f.stands }
 
--- Where none was found that does not fail, all fail.
-all_failed : (s t : List ℕ) (j k : ℕ) (forced : Forced) → Found s t j k forced → ((q : ℕ) → forced ≡ Only q → ⊥) → forced ≡ Fails
-all_failed s t j k (Only p) f unfound = absurd (unfound p refl)
-all_failed s t j k Nothing f unfound = absurd f
-all_failed s t j k Fails f unfound = refl
-all_failed s t j k Untold f unfound = absurd f
-
 -- One literal more that fails.
-found_failed : (s t : List ℕ) (j k : ℕ) (forced : Forced) → Found s t j k forced → get_or t (place_at (get_or s k 0)) 0 ≡ 1 →
-    Found s t j (k + 1) forced
-found_failed s t j k (Only p) f fails = (
+found_failed : (s t : List ℕ) (j k : ℕ) (only : Option ℕ) → Found s t j k only → get_or t (place_at (get_or s k 0)) 0 ≡ 1 →
+    Found s t j (k + 1) only
+found_failed s t j k (Some p) f fails = (
   later f.0,
   λ m a b d. ⊎_elim (λ g. f.1 m a g d) (λ g. ap (λ n. get_or t (place_at (get_or s n 0)) 0) g ∙ fails) (below_next m k b),
 )
-found_failed s t j k Nothing f fails = f
-found_failed s t j k Fails f fails =
+found_failed s t j k None f fails =
     λ m a b. ⊎_elim (λ g. f m a g) (λ g. ap (λ n. get_or t (place_at (get_or s n 0)) 0) g ∙ fails) (below_next m k b)
-found_failed s t j k Untold f fails = f
 
--- All numbers of the part are seen.
-found_all : (s t : List ℕ) (i e j k : ℕ) → Formed s → Part s i e → length t ≡ most_literals → (forced : Forced) → Plain s i e j k →
-    e ≤ k → Found s t j k forced → Lone s i e t forced
-found_all s t i e j k sheet part long (Only p) w end f =
-    let small : p < most_literals = rw f.0.same at (near sheet part w f.0.place f.0.from f.0.before) in
-    record {
-      near = small;
-      one = all_under sheet part w end (set t p 1) (λ m a b. ⊎_elim
-          (λ same. ap (λ n. get_or (set t p 1) n 0) same ∙ get_or-set_same t p 1 0 (omega arith))
-          (λ other. get_or-set_other t p (place_at (get_or s m 0)) 1 0 other ∙ f.1 m a b other)
-          (same_or_not (place_at (get_or s m 0)) p));
-      only = λ q fall. ⊎_elim
-          (λ same. sym same)
-          (λ (other : p ≡ q → ⊥). true_false (sym fall ∙ stands_yet sheet part w f.0 q other))
-          (same_or_not p q);
-    }
-found_all s t i e j k sheet part long Nothing w end f = absurd f
-found_all s t i e j k sheet part long Fails w end f = all_under sheet part w end t f
-found_all s t i e j k sheet part long Untold w end f = absurd f
+-- One that does not, where those before it that do not have its place.
+found_here : (s t : List ℕ) (j k p : ℕ) (only : Option ℕ) → Found s t j k only → ((q : ℕ) → only ≡ Some q → q ≡ p) →
+    p ≡ place_at (get_or s k 0) → Free s t j (k + 1) p → Found s t j (k + 1) (Some p)
+found_here s t j k p (Some q) f same here free = (
+  free,
+  λ m a b d. ⊎_elim
+      (λ g. f.1 m a g (λ e. d (e ∙ same q refl)))
+      (λ g. absurd (d (ap (λ n. place_at (get_or s n 0)) g ∙ sym here)))
+      (below_next m k b),
+)
+found_here s t j k p None f same here free = (
+  free,
+  λ m a b d. ⊎_elim
+      (λ g. f m a g)
+      (λ g. absurd (d (ap (λ n. place_at (get_or s n 0)) g ∙ sym here)))
+      (below_next m k b),
+)
 
 module _ {s t : List ℕ} {i e : ℕ} (sheet : Formed s) (part : Part s i e) (long : length t ≡ most_literals) {j k : ℕ} where
-  pub scanned_all : {forced : Forced} → Scanned s t i e j forced k → e ≤ k → Lone s i e t forced
-  scanned_all {forced} w end = found_all s t i e j k sheet part long forced w.plain end w.found
+  -- All numbers of the part are seen.
+  module _ (end : e ≤ k) where
+    pub scanned_all : Scanned s t i e j None k → Lone s i e t Fails
+    scanned_all w = all_under sheet part w.plain end t w.found
+
+    pub scanned_only : {p : ℕ} → Scanned s t i e j (Some p) k → Lone s i e t (Only p)
+    scanned_only {p} w =
+        let f = w.found in
+        let small : p < most_literals = rw f.0.same at (near sheet part w.plain f.0.place f.0.from f.0.before) in
+        record {
+          near = small;
+          one = all_under sheet part w.plain end (set t p 1) (λ m a b. ⊎_elim
+              (λ same. ap (λ n. get_or (set t p 1) n 0) same ∙ get_or-set_same t p 1 0 (omega arith))
+              (λ other. get_or-set_other t p (place_at (get_or s m 0)) 1 0 other ∙ f.1 m a b other)
+              (same_or_not (place_at (get_or s m 0)) p));
+          only = λ q fall. ⊎_elim
+              (λ same. sym same)
+              (λ (other : p ≡ q → ⊥). true_false (sym fall ∙ stands_yet sheet part w.plain f.0 q other))
+              (same_or_not p q);
+        }
 
   -- One literal more.
   module _ (l : k < e) (lit : is_literal (get_or s k 0) ≡ true) where
-    pub scanned_failed : {forced : Forced} → Scanned s t i e j forced k → get_or t (place_at (get_or s k 0)) 0 ≡ 1 →
-        Scanned s t i e j forced (k + 1)
-    scanned_failed {forced} w fails =
-        record { plain = plain_more w.plain l lit; found = found_failed s t j k forced w.found fails }
+    pub scanned_failed : {only : Option ℕ} → Scanned s t i e j only k → get_or t (place_at (get_or s k 0)) 0 ≡ 1 →
+        Scanned s t i e j only (k + 1)
+    scanned_failed {only} w fails =
+        record { plain = plain_more w.plain l lit; found = found_failed s t j k only w.found fails }
 
     -- It does not fail.
     module _ {p : ℕ} (here : p ≡ place_at (get_or s k 0)) (stands : get_or t p 0 ≡ 1 → ⊥) where
       free_here : j ≤ k → Free s t j (k + 1) p
       free_here past = record { place = k; from = past; before = omega arith; same = sym here; stands = stands }
 
-      first_here : Scanned s t i e j Fails k → Scanned s t i e j (Only p) (k + 1)
-      first_here w =
-          record {
-            plain = plain_more w.plain l lit;
-            found = (
-              free_here w.plain.past,
-              λ m a b d. ⊎_elim
-                  (λ g. w.found m a g)
-                  (λ g. absurd (d (ap (λ n. place_at (get_or s n 0)) g ∙ sym here)))
-                  (below_next m k b),
-            );
-          }
+      pub scanned_here : {only : Option ℕ} → Scanned s t i e j only k → ((q : ℕ) → only ≡ Some q → q ≡ p) →
+          Scanned s t i e j (Some p) (k + 1)
+      scanned_here {only} w same = record {
+        plain = plain_more w.plain l lit;
+        found = found_here s t j k p only w.found same here (free_here w.plain.past);
+      }
 
-      pub scanned_first : {forced : Forced} → Scanned s t i e j forced k → ((q : ℕ) → forced ≡ Only q → ⊥) →
-          Scanned s t i e j (Only p) (k + 1)
-      scanned_first {forced} w unfound =
-          first_here (subst (λ f. Scanned s t i e j f k) (all_failed s t j k forced w.found unfound) w)
-
-      pub scanned_again : {forced : Forced} {other : ℕ} → Scanned s t i e j forced k → forced ≡ Only other → other ≡ p →
-          Scanned s t i e j (Only other) (k + 1)
-      scanned_again {other = other} v found same =
-          let w : Scanned s t i e j (Only other) k = subst (λ f. Scanned s t i e j f k) found v in
-          record {
-            plain = plain_more w.plain l lit;
-            found = (
-              later w.found.0,
-              λ m a b d. ⊎_elim
-                  (λ g. w.found.1 m a g d)
-                  (λ g. absurd (d (ap (λ n. place_at (get_or s n 0)) g ∙ sym here ∙ sym same)))
-                  (below_next m k b),
-            );
-          }
-
-      pub scanned_two : {forced : Forced} {other : ℕ} → Scanned s t i e j forced k → forced ≡ Only other → (other ≡ p → ⊥) →
-          Unforced s i e t
-      scanned_two {other = other} v found unlike =
-          let w : Scanned s t i e j (Only other) k = subst (λ f. Scanned s t i e j f k) found v in
+      pub scanned_two : {other : ℕ} → Scanned s t i e j (Some other) k → (other ≡ p → ⊥) → Unforced s i e t
+      scanned_two {other} w unlike =
           two_stand sheet part (plain_more w.plain l lit) (later w.found.0) (free_here w.plain.past) unlike
 
 -- A part that forces nothing is exhausted.

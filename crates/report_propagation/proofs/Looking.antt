@@ -6,7 +6,8 @@ use mathlib.Core.Path.{◌≡◌, sym, ap, ◌∙◌}
 use Prim.Native.Nat.{ℕ, ◌+◌, ◌≤◌, ◌<◌}
 use native.Mathlib.Omega.{arith}
 use borrow.Author.Count.{below_more}
-use lib.ListN.{length, get_or, set}
+use lib.ListN.{length, get_or, set, take}
+use lib.Seq.{get_or-take}
 use Rattle.model.specs.Base.{pick}
 use Rattle.model.specs.Limits.{sheet_room, sheet_length, most_literals}
 use Rattle.model.specs.Sheet.{numbers_in}
@@ -16,7 +17,7 @@ use Rattle.report_breaking.specs.Breaking.{opposite, IsBrokenBy}
 use Rattle.report_parts.specs.Parts.{stretch, Part}
 use Rattle.report_parts.proofs.Linking.{same_or_not}
 use Rattle.report_parts.proofs.Finding.{stretch_long}
-use Rattle.report_propagation.specs.Trails.{fresh, Facts, Fallen, Grown, Looked}
+use Rattle.report_propagation.specs.Trails.{fresh, Facts, HasFallen, Grown, Looked}
 use Rattle.report_propagation.proofs.Learning.{grown_none, grown_both, learned, Answered, answered_exhausted}
 
 -- A part lies within its sheet.
@@ -37,6 +38,18 @@ looked sheet part before after grown answered =
       exhausted = λ free. answered_exhausted grown before.long after.long part (part_inside sheet part).0 free answered;
     }
 
+-- The first literals of a list, in the part that is lent.
+broken_by_first : {t tree places : List ℕ} {n : ℕ} → IsBrokenBy t tree places n → IsBrokenBy t tree (take n places) n
+broken_by_first {t} {tree} {places} {n} w =
+    record {
+      few = w.few;
+      stands = w.stands;
+      each = λ k l. rw (get_or-take n places k 0 l) (w.each k l);
+      all = λ q small new fall.
+          let found = w.all q small new fall in
+          (found.0, found.1, get_or-take n places found.0 0 found.1 ∙ found.2);
+    }
+
 -- Of the literals that break a part, the first k are known.
 pub record BreaksKnown (s : List ℕ) (i e : ℕ) (t₀ trail₀ : List ℕ) (n₀ : ℕ) (places : List ℕ) (count : ℕ)
     (t trail : List ℕ) (n k : ℕ) : Type 0 where
@@ -50,13 +63,13 @@ pub record BreaksKnown (s : List ℕ) (i e : ℕ) (t₀ trail₀ : List ℕ) (n�
 
 module _ {s : List ℕ} {i e : ℕ} {t₀ trail₀ : List ℕ} {n₀ : ℕ} {places : List ℕ} {count : ℕ} where
   pub breaks_none : Formed s → Part s i e → Facts s t₀ trail₀ n₀ → IsBrokenBy t₀ (stretch i e s) places count →
-      BreaksKnown s i e t₀ trail₀ n₀ places count t₀ trail₀ n₀ 0
+      BreaksKnown s i e t₀ trail₀ n₀ (take count places) count t₀ trail₀ n₀ 0
   breaks_none sheet part start broken =
       record {
         sheet = sheet;
         part = part;
         start = start;
-        broken = broken;
+        broken = broken_by_first broken;
         facts = start;
         grown = grown_none t₀ trail₀ n₀;
         known = λ j l. absurd (omega arith);
@@ -98,5 +111,5 @@ module _ {s : List ℕ} {i e : ℕ} {t₀ trail₀ : List ℕ} {n₀ : ℕ} {pla
 
 -- A part that fails under facts makes the sheet contradictory.
 pub part_fallen : {s : List ℕ} {i e : ℕ} {t trail : List ℕ} {n : ℕ} → Part s i e → Facts s t trail n →
-    tree_fails t (stretch i e s) ≡ true → Fallen s t
+    tree_fails t (stretch i e s) ≡ true → HasFallen s t
 part_fallen {t = t} part facts fall = record { falls = part.counts t fall; right = facts.right }

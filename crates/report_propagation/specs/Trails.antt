@@ -13,8 +13,6 @@ use Rattle.report_breaking.specs.Breaking.{opposite}
 use Rattle.report_parts.specs.Parts.{stretch, Part, Parted, Occurs, OnChain, Linked}
 use Rattle.report_propagation.specs.declared.Forced.{Forced}
 use Rattle.report_propagation.specs.declared.Forced.TheVariants.{Only, Nothing, Fails, Untold}
-use Rattle.report_propagation.specs.declared.Outcome.{Outcome}
-use Rattle.report_propagation.specs.declared.Outcome.TheVariants as O
 use Rattle.report_propagation.specs.declared.Extent.{Extent}
 use Rattle.report_propagation.specs.declared.Turn.{Turn}
 
@@ -57,14 +55,9 @@ abbrev pub ExhaustedAt : List ℕ → ℕ → ℕ → ℕ → List ℕ → List 
 ExhaustedAt s i e c t trail n = Untouched s i e c trail n → Exhausted s i e t
 
 -- The sheet fails under a table of facts, so that it is contradictory.
-pub record Fallen (s t : List ℕ) : Type 0 where
+pub record HasFallen (s t : List ℕ) : Type 0 where
   pub falls : tree_fails t (numbers_in s) ≡ true
   pub right : Right (clauses root (decode (nodes_in s))) t
-
--- What holds of the trail's length, unless the sheet has fallen.
-abbrev pub UnlessFallen : List ℕ → List ℕ → (ℕ → Type 0) → Outcome → Type 0
-UnlessFallen s t holds (O.Known n) = holds n
-UnlessFallen s t holds O.Fallen = Fallen s t
 
 -- A part fails under no literal more.
 abbrev pub Unforced : List ℕ → ℕ → ℕ → List ℕ → Type 0
@@ -113,10 +106,16 @@ pub record Passed (s ends seen : List ℕ) (q : ℕ) (turn : Turn) (m : ℕ) : T
   pub looked : (i k : ℕ) → m < k → k < turn.place → i ≤ k → k < get_or ends i 0 → get_or ends i 0 < i + turn.limit → Occurs s q k →
       turn.index < get_or seen i 0
 
--- The next place of the chain that a turn is at whose part is to be looked at; 0 where there is none.
+-- The chain that a turn is at is passed from the turn's place to another.
+abbrev pub PassedTo : List ℕ → List ℕ → List ℕ → List ℕ → Turn → ℕ → Type 0
+PassedTo ends homes links seen turn m =
+    (s : List ℕ) (q : ℕ) → Parted s ends homes → Linked s links → q < most_literals → OnChain s q turn.place →
+    Passed s ends seen q turn m
+
+-- The next place of it whose part is to be looked at.
 pub record NextDue (ends homes links seen : List ℕ) (turn : Turn) (m : ℕ) : Type 0 where
+  pub some : 0 < m
   pub near : m < sheet_length
   pub down : m ≤ turn.place - 1
-  pub begins : 0 < m → get_or homes m 0 < get_or ends (get_or homes m 0) 0
-  pub passed : (s : List ℕ) (q : ℕ) → Parted s ends homes → Linked s links → q < most_literals → OnChain s q turn.place →
-      Passed s ends seen q turn m
+  pub begins : get_or homes m 0 < get_or ends (get_or homes m 0) 0
+  pub passed : PassedTo ends homes links seen turn m

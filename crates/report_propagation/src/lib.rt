@@ -2,7 +2,7 @@
 // the literals that failed, in order; for each part it is noted how long the trail was when the part was last looked at.
 #![tactic(auto)]
 
-ghost use Rattle.std.specs.Prelude.{◌≡◌, ℕ, ◌+◌, ◌<◌, length, get_or, set, replicate};
+ghost use Rattle.std.specs.Prelude.{◌≡◌, ℕ, ◌+◌, ◌<◌, length, get_or, set, replicate, MatchOption, MatchResult};
 ghost use Rattle.model.specs.Base.{pick};
 ghost use Rattle.model.specs.Limits.{sheet_length, most_literals};
 ghost use Rattle.model.specs.Sheet.{report_in};
@@ -10,11 +10,10 @@ ghost use Rattle.theory_meaning.specs.FailedLiterals.{HasReport};
 ghost use Rattle.theory_forms.specs.Sheets.{Formed};
 ghost use Rattle.report_breaking.specs.Breaking.{opposite};
 ghost use Rattle.report_parts.specs.Parts.{Part, Parted, links_length, Descends, Linked};
-ghost use Rattle.report_propagation.specs.Trails.{unset, fresh, Facts, UnlessFallen, Lone, Looked};
-ghost use Rattle.report_propagation.specs.Trails.{PartEnds, Watching, due, NextDue};
+ghost use Rattle.report_propagation.specs.Trails.{unset, fresh, Facts, HasFallen, Lone, Looked};
+ghost use Rattle.report_propagation.specs.Trails.{PartEnds, Watching, due, PassedTo, NextDue};
 
 use common_limits::{MOST_LITERALS, SHEET_LENGTH, SHEET_ROOM};
-use report_breaking::Verdict;
 use report_parts::LINKS_LENGTH;
 
 // Parts of fewer numbers than this are looked at before all others.
@@ -45,12 +44,9 @@ pub enum Forced {
     Untold,
 }
 
-// How many literals the trail has, or that the sheet has fallen: a part fails under what is known.
+// The sheet has fallen: a part fails under what is known.
 #[derive(Clone, Copy)]
-pub enum Outcome {
-    Known(usize),
-    Fallen,
-}
+pub struct Fallen;
 
 // The literal at a place is forced, so it becomes a fact: its complement fails, and joins the trail where it did not fail before.
 // The trail's new length.
@@ -70,11 +66,12 @@ fn learn(
 {
     let other = report_breaking::opposite_of(k);
     if failed[other] == 1 {
-        return known;
+        known
+    } else {
+        failed[other] = 1;
+        trail[known] = other as u16;
+        known + 1
     }
-    failed[other] = 1;
-    trail[known] = other as u16;
-    known + 1
 }
 
 // What a part forces that is a literal, or a disjunction that begins with literals: nothing where two of them, unlike one another,
@@ -87,30 +84,29 @@ fn lone(sheet: &[u16], part: Extent, failed: &[u8; MOST_LITERALS]) -> Forced
     ensures { Lone sheet.now part.from part.to failed.now result }
 {
     let from = part.from;
-    let to = part.to;
-    let mut forced = Forced::Fails;
-    let mut i = from;
-    if common_nodes::kind_of(common_nodes::wide16(sheet[from])) == 4 {
-        i += 1;
-    }
-    while i < to {
-        let x = common_nodes::wide16(sheet[i]);
+    let begin = if common_nodes::kind_of(usize::from(sheet[from])) == 4 {
+        from + 1
+    } else {
+        from
+    };
+    let mut only = None;
+    for x in &sheet[begin..part.to] {
+        let x = usize::from(*x);
         if !common_nodes::is_literal(x) {
             return Forced::Untold;
         }
         let place = common_nodes::place_of(x);
         if failed[place] != 1 {
-            if let Forced::Only(other) = forced {
-                if other != place {
-                    return Forced::Nothing;
-                }
-            } else {
-                forced = Forced::Only(place);
+            match only {
+                Some(other) if other != place => return Forced::Nothing,
+                _ => only = Some(place),
             }
         }
-        i += 1;
     }
-    forced
+    match only {
+        Some(place) => Forced::Only(place),
+        None => Forced::Fails,
+    }
 }
 
 // Each literal that a part forces becomes known; the literals that break it are found in one pass. A part that fails as it is makes
@@ -123,26 +119,22 @@ fn look_inside(
     known: usize,
     places: &mut [u16; SHEET_ROOM],
     stack: &mut [u16; SHEET_ROOM],
-) -> Outcome
+) -> Result<usize, Fallen>
     requires formed { Formed sheet.now }
     requires part { Part sheet.now part.from part.to }
     requires facts { Facts sheet.now failed.old trail.old known }
-    ensures { UnlessFallen sheet.now failed.new (Looked sheet.now part.from part.to
-        failed.old trail.old known failed.new trail.new) result }
+    ensures { MatchResult result
+        (Looked sheet.now part.from part.to failed.old trail.old known failed.new trail.new)
+        (λ _. HasFallen sheet.now failed.new) }
 {
-    let from = part.from;
-    let to = part.to;
-    let verdict = report_breaking::breaking(&sheet[from..to], failed, places, stack);
-    let Verdict::BrokenBy(n) = verdict else {
-        return Outcome::Fallen;
-    };
+    let n = report_breaking::breaking(&sheet[part.from..part.to], failed, places, stack).ok_or(
+        Fallen,
+    )?;
     let mut grown = known;
-    let mut k = 0;
-    while k < n {
-        grown = learn(common_nodes::wide16(places[k]), failed, trail, grown);
-        k += 1;
+    for place in &places[..n] {
+        grown = learn(usize::from(*place), failed, trail, grown);
     }
-    Outcome::Known(grown)
+    Ok(grown)
 }
 
 // The same, without that pass where the part's literals tell enough.
@@ -154,18 +146,18 @@ fn look(
     known: usize,
     places: &mut [u16; SHEET_ROOM],
     stack: &mut [u16; SHEET_ROOM],
-) -> Outcome
+) -> Result<usize, Fallen>
     requires formed { Formed sheet.now }
     requires part { Part sheet.now part.from part.to }
     requires facts { Facts sheet.now failed.old trail.old known }
-    ensures { UnlessFallen sheet.now failed.new (Looked sheet.now part.from part.to
-        failed.old trail.old known failed.new trail.new) result }
+    ensures { MatchResult result
+        (Looked sheet.now part.from part.to failed.old trail.old known failed.new trail.new)
+        (λ _. HasFallen sheet.now failed.new) }
 {
-    let forced = lone(sheet, part, failed);
-    match forced {
-        Forced::Only(place) => Outcome::Known(learn(place, failed, trail, known)),
-        Forced::Nothing => Outcome::Known(known),
-        Forced::Fails => Outcome::Fallen,
+    match lone(sheet, part, failed) {
+        Forced::Only(place) => Ok(learn(place, failed, trail, known)),
+        Forced::Nothing => Ok(known),
+        Forced::Fails => Err(Fallen),
         Forced::Untold => look_inside(sheet, part, failed, trail, known, places, stack),
     }
 }
@@ -179,29 +171,31 @@ fn look_at_all(
     trail: &mut [u16; MOST_LITERALS],
     places: &mut [u16; SHEET_ROOM],
     stack: &mut [u16; SHEET_ROOM],
-) -> Outcome
+) -> Result<usize, Fallen>
     requires formed { Formed sheet.now }
     requires part_ends { PartEnds sheet.now ends.now }
     requires watching { Watching sheet.now ends.now 0 seen.old failed.old trail.old 0 }
-    ensures { UnlessFallen sheet.now failed.new (Watching sheet.now ends.now
-        sheet_length seen.new failed.new trail.new) result }
+    ensures { MatchResult result
+        (Watching sheet.now ends.now sheet_length seen.new failed.new trail.new)
+        (λ _. HasFallen sheet.now failed.new) }
 {
     let mut known = 0;
-    let mut i = 0;
-    while i < SHEET_LENGTH {
-        let end = common_nodes::wide16(ends[i]);
-        if 0 < end {
-            seen[i] = known as u16;
-            let part = Extent { from: i, to: end };
-            let outcome = look(sheet, part, failed, trail, known, places, stack);
-            let Outcome::Known(more) = outcome else {
-                return Outcome::Fallen;
-            };
-            known = more;
+    for (from, end) in ends.iter().enumerate() {
+        let to = usize::from(*end);
+        if 0 < to {
+            seen[from] = known as u16;
+            known = look(
+                sheet,
+                Extent { from, to },
+                failed,
+                trail,
+                known,
+                places,
+                stack,
+            )?;
         }
-        i += 1;
     }
-    Outcome::Known(known)
+    Ok(known)
 }
 
 // Whether a turn has a part looked at that was last looked at when the trail was so long: there is one, it is below the turn's
@@ -209,13 +203,7 @@ fn look_at_all(
 fn is_due(part: Extent, seen: usize, turn: Turn) -> bool
     ensures { result ≡ due part seen turn }
 {
-    if part.to <= part.from {
-        return false;
-    }
-    if turn.limit <= part.to - part.from {
-        return false;
-    }
-    seen <= turn.index
+    part.from < part.to && part.to - part.from < turn.limit && seen <= turn.index
 }
 
 // The turn of a literal of the trail: its chain is followed from its own entry on.
@@ -224,9 +212,9 @@ fn turn_of(trail: &[u16; MOST_LITERALS], index: usize, limit: usize) -> Turn
     ensures { (result.index ≡ index) × (result.place ≡ sheet_length + get_or trail.now index 0) × (result.limit ≡ limit) }
 {
     Turn {
-        index: index,
-        place: SHEET_LENGTH + common_nodes::wide16(trail[index]),
-        limit: limit,
+        index,
+        place: SHEET_LENGTH + usize::from(trail[index]),
+        limit,
     }
 }
 
@@ -236,38 +224,38 @@ fn part_at(ends: &[u16; SHEET_LENGTH], homes: &[u16; SHEET_LENGTH], n: usize) ->
     requires n_bound { get_or homes.now n 0 < sheet_length }
     ensures { (result.from ≡ get_or homes.now n 0) × (result.to ≡ get_or ends.now result.from 0) }
 {
-    let from = common_nodes::wide16(homes[n]);
+    let from = usize::from(homes[n]);
     Extent {
-        from: from,
-        to: common_nodes::wide16(ends[from]),
+        from,
+        to: usize::from(ends[from]),
     }
 }
 
-// The next place of a literal whose part is below the turn's limit and was not looked at since the trail has the literal; 0 where
-// there is none.
+// The next place of a literal whose part is below the turn's limit and was not looked at since the trail has the literal.
 fn next_due(
     ends: &[u16; SHEET_LENGTH],
     homes: &[u16; SHEET_LENGTH],
     links: &[u16; LINKS_LENGTH],
     seen: &[u16; SHEET_LENGTH],
     turn: Turn,
-) -> usize
+) -> Option<usize>
     requires place_lt_links_length { turn.place < links_length }
     requires descends { Descends links.now }
     requires by_index { (n : ℕ) → get_or homes.now n 0 < sheet_length }
-    ensures { NextDue ends.now homes.now links.now seen.now turn result }
+    ensures { MatchOption result
+        (PassedTo ends.now homes.now links.now seen.now turn 0)
+        (NextDue ends.now homes.now links.now seen.now turn) }
 {
-    let place = turn.place;
-    let mut n = common_nodes::wide16(links[place]);
+    let mut n = usize::from(links[turn.place]);
+    // A `while`, since each turn follows a link; 0 is the end of a chain.
     while 0 < n {
         let part = part_at(ends, homes, n);
-        let from = part.from;
-        if is_due(part, common_nodes::wide16(seen[from]), turn) {
-            return n;
+        if is_due(part, usize::from(seen[part.from]), turn) {
+            return Some(n);
         }
-        n = common_nodes::wide16(links[n]);
+        n = usize::from(links[n]);
     }
-    0
+    None
 }
 
 // Looks at each part, and then again at the parts that hold a literal of the trail, until its end: at small parts first, and at all
@@ -293,10 +281,9 @@ pub fn follow(
     let mut places = [0u16; SHEET_ROOM];
     let mut stack = [0u16; SHEET_ROOM];
     let start = look_at_all(sheet, ends, seen, failed, trail, &mut places, &mut stack);
-    let Outcome::Known(begun) = start else {
+    let Ok(mut known) = start else {
         return true;
     };
-    let mut known = begun;
     let mut small = 0;
     let mut large = 0;
     // No part is below the first turn's limit, so that it ends at once.
@@ -306,13 +293,11 @@ pub fn follow(
         limit: 0,
     };
     loop {
-        let n = next_due(ends, homes, links, seen, turn);
-        if 0 < n {
+        if let Some(n) = next_due(ends, homes, links, seen, turn) {
             let part = part_at(ends, homes, n);
-            let from = part.from;
-            seen[from] = known as u16;
+            seen[part.from] = known as u16;
             let outcome = look(sheet, part, failed, trail, known, &mut places, &mut stack);
-            let Outcome::Known(more) = outcome else {
+            let Ok(more) = outcome else {
                 return true;
             };
             known = more;

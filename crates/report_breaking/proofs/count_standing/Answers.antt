@@ -1,5 +1,4 @@
 -- `report_breaking::count_standing` meets its contract: the entries that are even.
-use mathlib.Core.List.{List}
 use mathlib.Core.Path.{◌≡◌, sym, ◌∙◌}
 use Prim.Native.Nat.{◌%◌}
 use native.Mathlib.Omega.{arith}

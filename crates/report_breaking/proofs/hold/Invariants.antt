@@ -5,7 +5,6 @@ use mathlib.Core.Path.{◌≡◌}
 use Prim.Native.Nat.{ℕ, ◌≤◌}
 use lib.ListN.{drop}
 use Rattle.report_breaking.specs.Stacks.{raised}
-use Prim.Native.Nat.{◌-◌}
 use lib.ListN.{length}
 use Rattle.report_breaking.proofs.hold.Given as goal
 

@@ -11,7 +11,6 @@ use Rattle.model.specs.Forest.{or}
 use Rattle.theory_meaning.specs.Evaluation.{fails_all}
 use Rattle.report_breaking.specs.Stacks.{broken, Stacked, bottom, standing}
 use Rattle.report_breaking.specs.Stacks.{BlankBut}
-use Prim.Native.Nat.{◌-◌}
 use lib.ListN.{length, take}
 use Rattle.report_breaking.proofs.hold_all.Given as goal
 

@@ -7,7 +7,6 @@ use Prim.Native.Nat.{ℕ, ◌≤◌}
 use lib.Dec.{eqb}
 use lib.ListN.{get_or, take, drop}
 use Rattle.report_breaking.specs.Stacks.{among, InTable, BlankBut}
-use Prim.Native.Nat.{◌-◌}
 use lib.ListN.{length}
 use Rattle.report_breaking.proofs.keep.Given as goal
 

@@ -17,38 +17,36 @@ returns-in_default c =
 
 pub returns-in_default-outcome : goal.returns-in_default-outcome
 returns-in_default-outcome c =
-    let h = fallen_report c.loop-part.invariant.0 c.in_default-outcome.ensures in
+    let h = fallen_report c.loop-n.invariant.0 c.in_default-outcome.ensures in
     record { has_report = h.0; value = h.1 }
 
-pub loop-part-preserved-then-n-gt0 : goal.loop-part-preserved-then-n-gt0
-loop-part-preserved-then-n-gt0 c =
-    let w = c.loop-part.invariant in
+pub loop-n-preserved-in-Some : goal.loop-n-preserved-in-Some
+loop-n-preserved-in-Some c =
+    let w = c.loop-n.invariant in
     let part = c.part_at-part.ensures in
-    let look = rw part.1 at c.in-Known-outcome.ensures in
-    let on = following_looked w.0 w.1 w.2 w.4 c.next_due-n.ensures c.if-n-gt0.true part.0 look in
+    let look = rw part.1 at c.in-Ok-outcome.ensures in
+    let on = following_looked w.0 w.1 w.2 w.4 c.in-Some.ensures part.0 look in
     (w.0, w.1, w.2, omega (arith, look.grown.more), on refl refl refl)
 
-pub loop-part-preserved-then-small-known : goal.loop-part-preserved-then-small-known
-loop-part-preserved-then-small-known c =
-    let w = c.loop-part.invariant in
+pub loop-n-preserved-then-small-known : goal.loop-n-preserved-then-small-known
+loop-n-preserved-then-small-known c =
+    let w = c.loop-n.invariant in
     let e = c.turn_of-turn.ensures in
-    let next = c.next_due-n.ensures in
-    let end = c.if-n-gt0.false in
+    let next = c.in_default-next_due.ensures in
     let l = c.if-small-known.true in
-    (w.0, w.1, w.2, omega (arith, l), following_some w.0 w.1 w.2 w.4 next end e.0 e.1 l (λ z. omega (arith, z, e.2)))
+    (w.0, w.1, w.2, omega (arith, l), following_some w.0 w.1 w.2 w.4 next e.0 e.1 l (λ z. omega (arith, z, e.2)))
 
-pub loop-part-preserved : goal.loop-part-preserved
-loop-part-preserved c =
-    let w = c.loop-part.invariant in
+pub loop-n-preserved : goal.loop-n-preserved
+loop-n-preserved c =
+    let w = c.loop-n.invariant in
     let e = c.turn_of-turn-then-large-known.ensures in
-    let next = c.next_due-n.ensures in
-    let end = c.if-n-gt0.false in
+    let next = c.in_default-next_due.ensures in
     let l = c.if-large-known.true in
-    (w.0, w.1, w.2, w.3, following_all w.0 w.1 w.2 w.4 next end e.0 e.1 l refl e.2)
+    (w.0, w.1, w.2, w.3, following_all w.0 w.1 w.2 w.4 next e.0 e.1 l refl e.2)
 
 pub returns-else-large-known : goal.returns-else-large-known
 returns-else-large-known c =
-    let w = c.loop-part.invariant in
-    let over = following_over w.0 w.1 w.2 w.4 c.next_due-n.ensures c.if-n-gt0.false in
+    let w = c.loop-n.invariant in
+    let over = following_over w.0 w.1 w.2 w.4 c.in_default-next_due.ensures in
     let h = followed w.0 w.1 w.4.watching over c.if-large-known.false in
     record { has_report = h.0; value = h.1 }

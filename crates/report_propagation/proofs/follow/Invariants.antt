@@ -7,10 +7,10 @@ use Rattle.report_parts.specs.Parts.{Parted, Linked}
 use Rattle.report_propagation.proofs.Following.{Following}
 use Rattle.report_propagation.proofs.follow.Given as goal
 
-abbrev pub invariant-loop-part : goal.invariant-loop-part
-invariant-loop-part l =
+abbrev pub invariant-loop-n : goal.invariant-loop-n
+invariant-loop-n l =
     Formed l.sheet × Parted l.sheet l.ends l.homes × Linked l.sheet l.links × (l.small ≤ l.known)
     × Following l.sheet l.ends l.seen l.failed l.trail l.known l.large l.turn
 
-abbrev pub decreases-loop-part : goal.decreases-loop-part
-decreases-loop-part l = 8192 * (2 * most_literals - (l.small + l.large)) + l.turn.place
+abbrev pub decreases-loop-n : goal.decreases-loop-n
+decreases-loop-n l = 8192 * (2 * most_literals - (l.small + l.large)) + l.turn.place

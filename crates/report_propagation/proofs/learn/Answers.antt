@@ -31,8 +31,8 @@ returns-then-failed-other-eq1 c =
     rw (← o.ensures, eq-eqb (get_or c.args.failed.now o.result 0) 1 c.if-failed-other-eq1.true)
     (record { value = refl; failed_after = refl; trail_after = refl })
 
-pub bounds-failed-other-2 : goal.bounds-failed-other-2
-bounds-failed-other-2 c = inside (goal.at.bounds-failed-other-2 c).After-opposite_of-other
+pub bounds-failed-other-else-failed-other-eq1 : goal.bounds-failed-other-else-failed-other-eq1
+bounds-failed-other-else-failed-other-eq1 c = inside (goal.at.bounds-failed-other-else-failed-other-eq1 c).After-opposite_of-other
 
 pub overflow_cast-trail : goal.overflow_cast-trail
 overflow_cast-trail c = omega (arith, inside (goal.at.overflow_cast-trail c).After-opposite_of-other)
@@ -40,9 +40,9 @@ overflow_cast-trail c = omega (arith, inside (goal.at.overflow_cast-trail c).Aft
 pub bounds-trail-known : goal.bounds-trail-known
 bounds-trail-known c = room _ c.requires.failed_len (inside (goal.at.bounds-trail-known c).After-opposite_of-other) c.if-failed-other-eq1.false
 
-pub returns : goal.returns
+pub returns-else-failed-other-eq1 : goal.returns-else-failed-other-eq1
 unfolding fresh pick
-returns c =
+returns-else-failed-other-eq1 c =
     let o = c.opposite_of-other in
     rw (← o.ensures, ne_eqb (get_or c.args.failed.now o.result 0) 1 c.if-failed-other-eq1.false)
     (record { value = refl; failed_after = refl; trail_after = refl })

@@ -1,7 +1,7 @@
 -- `report_propagation::lone` meets its contract. Invariant: the numbers passed are literals, and those of them that do not fail have one
 -- place in the table.
 use mathlib.Core.Path.{◌≡◌}
-use Prim.Native.Nat.{◌-◌}
+use Prim.Native.Nat.{◌+◌}
 use lib.ListN.{length}
 use Rattle.model.specs.Limits.{most_literals}
 use Rattle.theory_forms.specs.Sheets.{Formed}
@@ -9,9 +9,8 @@ use Rattle.report_parts.specs.Parts.{Part}
 use Rattle.report_propagation.proofs.LoneLiterals.{Scanned}
 use Rattle.report_propagation.proofs.lone.Given as goal
 
-abbrev pub invariant-loop-i : goal.invariant-loop-i
-invariant-loop-i l =
-    Formed l.sheet × Part l.sheet l.from l.to × (length l.failed ≡ most_literals) × Scanned l.sheet l.failed l.from l.to l.initial.i l.forced l.i
-
-abbrev pub decreases-loop-i : goal.decreases-loop-i
-decreases-loop-i l = l.to - l.i
+abbrev pub invariant-loop-x : goal.invariant-loop-x
+invariant-loop-x l =
+    let part = l.fn.part in
+    Formed l.sheet × Part l.sheet part.from part.to × (length l.failed ≡ most_literals)
+    × Scanned l.sheet l.failed part.from part.to l.begin l.only (l.begin + l.x-index)

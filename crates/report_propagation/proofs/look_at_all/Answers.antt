@@ -3,27 +3,24 @@ use Prim.Native.Nat.{ℕ, ◌+◌, ◌<◌}
 use native.Mathlib.Omega.{arith}
 use Rattle.report_propagation.proofs.Watching.{watching_looked, watching_past}
 use Rattle.report_propagation.proofs.look_at_all.Goals as goal
-use Rattle.report_propagation.proofs.look_at_all.Goals.{then-end-gt0+in-Known, else-end-gt0}
+use Rattle.report_propagation.proofs.look_at_all.Goals.{then-to-gt0+in_ok-known, else-to-gt0}
 
 -- One place more, at which a part begins.
 next : (i j : ℕ) → j < i + 1 → (j ≡ i → ⊥) → j < i
 next i j l d = omega arith
 
-pub loop-i-preserved : goal.loop-i-preserved
-loop-i-preserved c =
-    let i = c.loop-i.i in
-    let w = c.loop-i.invariant in
-    let l = c.loop-i-test.true in
-    let e = c.wide16-end.ensures.0 in (
-      omega arith,
+pub loop-from-preserved : goal.loop-from-preserved
+loop-from-preserved c =
+    let w = c.loop-from.invariant in
+    let e = c.from-to.ensures in (
+      w.0,
       w.1,
-      w.2,
-      elim c.if-end-gt0.branch [
-        | then-end-gt0+in-Known v ↦
-            let look = rw e at v.in-Known.ensures in
-            rw (v.seen-is, v.failed-is, v.trail-is, v.known-is) (watching_looked w.1 w.2 w.3 l (next i) look)
-        | else-end-gt0 v ↦
+      elim c.if-to-gt0.branch [
+        | then-to-gt0+in_ok-known v ↦
+            let look = rw e at v.in_ok-known.ensures in
+            rw (v.seen-is, v.failed-is, v.trail-is, v.known-is) (watching_looked w.0 w.1 w.2 c.loop-from-test.true (next c.loop-from.from) look)
+        | else-to-gt0 v ↦
             rw (v.seen-is, v.failed-is, v.trail-is, v.known-is)
-            (watching_past w.1 w.2 w.3 refl (sym e ∙ omega (arith, v.if-end-gt0.false)))
+            (watching_past w.0 w.1 w.2 refl (sym e ∙ omega (arith, v.if-to-gt0.false)))
       ],
     )

@@ -1,12 +1,16 @@
+use native.Mathlib.Omega.{arith}
+use lib.ListN.{length-take}
 use Rattle.report_propagation.proofs.Looking.{breaks_more, breaks_all}
 use Rattle.report_propagation.proofs.look_inside.Goals as goal
 
-pub loop-k-preserved : goal.loop-k-preserved
-loop-k-preserved c =
+pub loop-place-preserved : goal.loop-place-preserved
+loop-place-preserved c =
     let e = c.learn-grown.ensures in
-    let w = c.loop-k.invariant in
-    let l = c.loop-k-test.true in
-    breaks_more w l c.wide16.ensures.0 e.value e.failed_after e.trail_after
+    let size = length-take c.in_ok-n.n c.breaking.new.places in
+    breaks_more c.loop-place.invariant (omega (arith, size, c.loop-place-test.true)) c.from.ensures e.value e.failed_after e.trail_after
 
 pub returns : goal.returns
-returns c = breaks_all c.loop-k.invariant c.loop-k-test.false
+returns c =
+    let w = c.loop-place.invariant in
+    let size = length-take c.in_ok-n.n c.breaking.new.places in
+    breaks_all w (omega (arith, size, w.broken.few, c.loop-place-test.false, c.breaking.auto.places))

@@ -6,7 +6,7 @@ use Rattle.report_propagation.proofs.next_due.Goals.{After-part_at-part}
 
 pub loop-n-init : goal.loop-n-init
 loop-n-init c =
-    let e = c.wide16-n.ensures.0 in
+    let e = c.from-n.ensures in
     record {
       descends = c.requires.descends;
       homes_near = c.requires.by_index;
@@ -21,9 +21,10 @@ returns-then-is_due c =
     let w = c.loop-n.invariant in
     let begins = due_begins _ _ _ (sym c.is_due.ensures ∙ c.if-is_due.true) in
     record {
+      some = c.loop-n-test.true;
       near = w.near;
       down = w.down;
-      begins = λ l. omega (arith, begins, part.ensures.0, rw part.ensures.0 at part.ensures.1);
+      begins = omega (arith, begins, part.ensures.0, rw part.ensures.0 at part.ensures.1);
       passed = w.passed;
     }
 
@@ -33,8 +34,8 @@ loop-n-preserved c =
     let w = c.loop-n.invariant in
     let l = c.loop-n-test.true in
     let part = c.part_at-part in
-    let e = c.wide16-n-in-loop-n.ensures.0 in
-    let seen = c.wide16.ensures.0 in
+    let e = c.from-n-in-loop-n.ensures in
+    let seen = c.from.ensures in
     let idle = rw seen at (sym c.is_due.ensures ∙ c.if-is_due.false) in
     record {
       descends = w.descends;
@@ -49,4 +50,4 @@ pub returns : goal.returns
 returns c =
     let w = c.loop-n.invariant in
     let z : c.loop-n.n ≡ 0 = omega (arith, c.loop-n-test.false) in
-    record { near = omega arith; down = omega arith; begins = λ l. absurd (omega arith); passed = rw z at w.passed }
+    rw z at w.passed

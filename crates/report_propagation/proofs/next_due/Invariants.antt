@@ -2,10 +2,10 @@
 use mathlib.Core.List.{List}
 use Prim.Native.Nat.{ℕ, ◌≤◌, ◌<◌}
 use lib.ListN.{get_or}
-use Rattle.model.specs.Limits.{sheet_length, most_literals}
-use Rattle.report_parts.specs.Parts.{Parted, OnChain, Descends, Linked}
+use Rattle.model.specs.Limits.{sheet_length}
+use Rattle.report_parts.specs.Parts.{Descends}
 use Rattle.report_propagation.specs.declared.Turn.{Turn}
-use Rattle.report_propagation.specs.Trails.{Passed}
+use Rattle.report_propagation.specs.Trails.{PassedTo}
 use Prim.Native.Nat.{◌-◌}
 use Rattle.report_propagation.proofs.next_due.Given as goal
 
@@ -14,8 +14,7 @@ pub record Passing (ends homes links seen : List ℕ) (turn : Turn) (n : ℕ) : 
   pub homes_near : (m : ℕ) → get_or homes m 0 < sheet_length
   pub near : n < sheet_length
   pub down : n ≤ turn.place - 1
-  pub passed : (s : List ℕ) (q : ℕ) → Parted s ends homes → Linked s links → q < most_literals → OnChain s q turn.place →
-      Passed s ends seen q turn n
+  pub passed : PassedTo ends homes links seen turn n
 
 abbrev pub invariant-loop-n : goal.invariant-loop-n
 invariant-loop-n l = Passing l.ends l.homes l.links l.seen l.turn l.n
