@@ -12,11 +12,9 @@ pub fn are_in_line(s: &[u8], m: usize, total: usize) -> bool
     ensures { result ≡ in_line total 0 (entries m s.now) }
 {
     let mut sum = 0;
-    let mut i = 0;
-    while i < m {
-        let at = 4 * i;
-        let first = common_nodes::word_at(s, at);
-        let count = common_nodes::word_at(s, at + 2);
+    for i in 0..m {
+        let first = common_nodes::word_at(s, 4 * i);
+        let count = common_nodes::word_at(s, 4 * i + 2);
         if first != sum {
             return false;
         }
@@ -24,7 +22,6 @@ pub fn are_in_line(s: &[u8], m: usize, total: usize) -> bool
             return false;
         }
         sum += count;
-        i += 1;
     }
     sum == total
 }
@@ -55,15 +52,13 @@ pub fn are_bodies(contents: &[u8], m: usize, s: &[u8], total: usize, n: usize) -
     ensures { result ≡ all (body_ok n) (cut (entries m contents.now) (words total s.now)) }
 {
     let mut sum = 0;
-    let mut i = 0;
-    while i < m {
+    for i in 0..m {
         let count = common_nodes::word_at(contents, 4 * i + 2);
         let from = 2 * sum;
         if !is_body(&s[from..], count, n) {
             return false;
         }
         sum += count;
-        i += 1;
     }
     true
 }

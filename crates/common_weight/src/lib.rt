@@ -22,14 +22,11 @@ pub fn weigh_sheet(s: &[u16]) -> u16
     ensures { (result ≡ weight (nodes_in s.now)) × (result ≤ most_sum) }
 {
     let used = s[1];
-    let count = common_nodes::wide16(used);
     let mut sum = used;
-    let mut i = 0;
-    while i < count {
-        if common_nodes::is_literal(common_nodes::wide16(s[2 + i])) {
+    for x in &s[2..2 + usize::from(used)] {
+        if common_nodes::is_literal(usize::from(*x)) {
             sum += 1;
         }
-        i += 1;
     }
     sum
 }
@@ -43,14 +40,11 @@ pub fn weigh_book(book: &[u8]) -> u16
     let codes = CODE_LENGTH * common_nodes::word_at(book, 0);
     let bodies = HEAD_LENGTH + codes + 4 * common_nodes::word_at(book, 2);
     let size = common_nodes::number_at(book, 4);
-    let count = common_nodes::wide16(size);
     let mut sum = 1 + size;
-    let mut i = 0;
-    while i < count {
+    for i in 0..usize::from(size) {
         if common_nodes::is_literal(common_nodes::word_at(book, bodies + 2 * i)) {
             sum += 1;
         }
-        i += 1;
     }
     sum
 }

@@ -42,12 +42,8 @@ fn is_clear(s: &[u16]) -> bool
     ensures { result ≡ all (eqb 0) s.now }
 {
     let mut clear = true;
-    let mut i = 0;
-    while i < s.len() {
-        if s[i] != 0 {
-            clear = false;
-        }
-        i += 1;
+    for x in s {
+        clear &= *x == 0;
     }
     clear
 }

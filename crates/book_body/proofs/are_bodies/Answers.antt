@@ -36,7 +36,7 @@ lined c =
     let a = c.args in
     let l = c.loop-i in
     rw c.word_at-count.ensures
-    (in_line_after a.total l.sum a.m l.i a.contents.now c.loop-i-test.true l.invariant.1)
+    (in_line_after a.total l.sum a.m l.i a.contents.now c.loop-i-test.true l.invariant.0)
 
 fits :
     (c : goal.After-word_at-count) →
@@ -56,15 +56,15 @@ step c =
     let k = c in
     let a = k.args in
     let l = k.loop-i in
-    let within = in_line_sum _ _ _ (in_line_after a.total l.sum a.m l.i a.contents.now k.loop-i-test.true l.invariant.1) in
-    l.invariant.2
+    let within = in_line_sum _ _ _ (in_line_after a.total l.sum a.m l.i a.contents.now k.loop-i-test.true l.invariant.0) in
+    l.invariant.1
     ∙ rw (c.is_body.ensures, part_to_end a.s.now (2 * l.sum), k.word_at-count.ensures)
     (more a.n a.total l.sum a.m l.i a.contents.now a.s.now k.loop-i-test.true within)
 
 pub loop-i-init : goal.loop-i-init
 loop-i-init c =
     let a = c.args in
-    (omega arith, rw (sub-zero a.m) c.requires.contents_value, rw (sub-zero a.m, sub-zero a.total))
+    (rw (sub-zero a.m) c.requires.contents_value, rw (sub-zero a.m, sub-zero a.total))
 
 pub overflow_mul-from : goal.overflow_mul-from
 overflow_mul-from c = omega (arith, fits (goal.at.overflow_mul-from c).After-word_at-count)
@@ -94,11 +94,11 @@ overflow_add-sum c = omega (arith, fits (goal.at.overflow_add-sum c).After-word_
 
 pub loop-i-preserved : goal.loop-i-preserved
 loop-i-preserved c =
-    (omega arith, lined (goal.at.loop-i-preserved c).After-word_at-count, step (goal.at.loop-i-preserved c).After-is_body ∙ rw c.if-not-is_body.false)
+    (lined (goal.at.loop-i-preserved c).After-word_at-count, step (goal.at.loop-i-preserved c).After-is_body ∙ rw c.if-not-is_body.false)
 
 pub returns : goal.returns
 unfolding cut entries all
 returns c =
     let n = c in
     let e : n.loop-i.i ≡ n.args.m = omega arith in
-    sym (n.loop-i.invariant.2 ∙ rw (e, sub_self n.args.m))
+    sym (n.loop-i.invariant.1 ∙ rw (e, sub_self n.args.m))

@@ -21,7 +21,7 @@ more :
 more c =
     let n = c in
     let a = n.args in
-    n.loop-i.invariant.2
+    n.loop-i.invariant.1
     ∙ rw (c.word_at-first.ensures, c.word_at-count.ensures)
     (in_line_at a.total n.loop-i.sum a.m n.loop-i.i a.s.now c.loop-i-test.true)
 
@@ -33,12 +33,12 @@ by_count :
     ≡ (leb 1 c.word_at-count.result && in_line a.total (c.loop-i.sum + c.word_at-count.result) (entries_from a.m (c.loop-i.i + 1) a.s.now))
 by_count c =
     let a = c.args in
-    c.loop-i.invariant.2
+    c.loop-i.invariant.1
     ∙ rw (in_line_at a.total c.loop-i.sum a.m c.loop-i.i a.s.now c.loop-i-test.true, ← c.word_at-first.ensures, ← c.word_at-count.ensures)
     (rw (eq-eqb c.word_at-first.result c.loop-i.sum c.if-first-sum.false))
 
 pub loop-i-init : goal.loop-i-init
-loop-i-init c = (omega arith, omega arith, rw (sub-zero c.args.m))
+loop-i-init c = (omega arith, rw (sub-zero c.args.m))
 
 pub returns-then-first-sum : goal.returns-then-first-sum
 returns-then-first-sum c =
@@ -56,11 +56,11 @@ overflow_add-sum c =
 pub loop-i-preserved : goal.loop-i-preserved
 loop-i-preserved c =
     let small : c.word_at-count.result < 65536 = rw c.word_at-count.ensures (word_small c.args.s.now _ (λ i. (c.type_inv.s i).fits)) in
-    (omega arith, omega arith, by_count (goal.at.loop-i-preserved c).Else-first-sum ∙ rw (le-leb 1 c.word_at-count.result c.if-count-lt1.false))
+    (omega arith, by_count (goal.at.loop-i-preserved c).Else-first-sum ∙ rw (le-leb 1 c.word_at-count.result c.if-count-lt1.false))
 
 pub returns : goal.returns
 unfolding entries in_line
 returns c =
     let n = c in
     let e : n.loop-i.i ≡ n.args.m = omega arith in
-    sym (n.loop-i.invariant.2 ∙ rw (e, sub_self n.args.m))
+    sym (n.loop-i.invariant.1 ∙ rw (e, sub_self n.args.m))

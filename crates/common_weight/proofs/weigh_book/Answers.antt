@@ -46,7 +46,7 @@ module _ (c : goal.In-loop-i) where
   at_place = omega (arith, c.word_at-codes.ensures, c.word_at.ensures)
 
   inside : c.loop-i.i < size_of book
-  inside = omega (arith, c.loop-i-test.true, c.wide16-count.ensures.0, c.number_at-size.ensures, read_size book)
+  inside = omega (arith, c.loop-i-test.true, c.from-i-end.ensures, c.number_at-size.ensures, read_size book)
 
   in_book : begin book + 2 * c.loop-i.i + 1 < length book
   in_book = omega (arith, inside, read_due book, c.requires.1)
@@ -96,9 +96,6 @@ word_at-requires-in-loop-i c =
     let k = (goal.at.word_at-requires-in-loop-i c).In-loop-i in
     omega (arith, at_place k, in_book k)
 
-pub overflow_add-i : goal.overflow_add-i
-overflow_add-i c = omega (arith, in_book (goal.at.overflow_add-i c).In-loop-i)
-
 pub loop-i-preserved : goal.loop-i-preserved
 loop-i-preserved c =
     let k = (goal.at.loop-i-preserved c).In-loop-i in
@@ -118,7 +115,7 @@ loop-i-preserved c =
 pub returns : goal.returns
 returns c =
     let b = c.args.book.now in
-    let count = c.wide16-count.ensures.0 in
+    let count = c.from-i-end.ensures in
     let size = c.number_at-size.ensures in
     let all : c.loop-i.i ≡ length (numbers_of b) = omega (arith, count, size, read_size b, bodies_many b) in
     (all_weighed all c.loop-i.invariant.0, c.loop-i.invariant.1)
