@@ -20,14 +20,9 @@ fn are_literals(part: &[u16], from: usize, to: usize) -> bool
     requires { (from ≤ to) × (to ≤ length part.now) }
     ensures { result ≡ all is_literal (slice from to part.now) }
 {
-    let mut k = from;
-    while k < to {
-        if !common_nodes::is_literal(common_nodes::wide16(part[k])) {
-            return false;
-        }
-        k += 1;
-    }
-    true
+    part[from..to]
+        .iter()
+        .all(|x| common_nodes::is_literal(usize::from(*x)))
 }
 
 // Child j of the group that a stretch begins with is there, and a literal.
@@ -36,11 +31,8 @@ fn is_literal_child(part: &[u16], j: usize) -> bool
     requires part_in_bounds { j < children (get_or part.now 0 0) → child_at j part.now < length part.now }
     ensures { result ≡ literal_child j part.now }
 {
-    if common_nodes::children_of(common_nodes::wide16(part[0])) <= j {
-        return false;
-    }
-    let from = common_nodes::child_at(part, j);
-    common_nodes::is_literal(common_nodes::wide16(part[from]))
+    j < common_nodes::children_of(usize::from(part[0]))
+        && common_nodes::is_literal(usize::from(part[common_nodes::child_at(part, j)]))
 }
 
 // Rule 13's condition on the children other than child i, of k in all.
@@ -49,11 +41,11 @@ fn are_others_literals(part: &[u16], i: usize, k: usize) -> bool
     requires i_in_bounds { child_at (i + 1) part.now + (k - 1 - i) ≤ length part.now }
     ensures { result ≡ others_literal i k part.now }
 {
-    if !are_literals(part, 1, 1 + i) {
-        return false;
-    }
-    let next = common_nodes::child_at(part, i + 1);
-    are_literals(part, next, next + (k - 1 - i))
+    are_literals(part, 1, 1 + i)
+        && {
+            let next = common_nodes::child_at(part, i + 1);
+            are_literals(part, next, next + (k - 1 - i))
+        }
 }
 
 // Whether the rule applies to the first tree of the stretch, whose head is right for it, at the child i that begins at a place.
@@ -64,13 +56,13 @@ pub fn applies(part: &[u16], rule: usize, i: usize, j: usize, at: usize) -> bool
     requires i_bound { (i < children (get_or part.now 0 0)) × (at ≡ child_at i part.now) }
     ensures { result ≡ is_some (rewrite rule i j (forest_in part.now)) }
 {
-    if common_nodes::kind_of(common_nodes::wide16(part[at])) != 3 {
+    if common_nodes::kind_of(usize::from(part[at])) != 3 {
         return false;
     }
     match rule {
         11..=12 => is_literal_child(&part[at..], j),
         _ => {
-            let k = common_nodes::children_of(common_nodes::wide16(part[0]));
+            let k = common_nodes::children_of(usize::from(part[0]));
             j == 0 && are_others_literals(part, i, k)
         }
     }
@@ -88,13 +80,13 @@ pub fn turn(part: &mut [u16], rule: usize, i: usize, j: usize)
     match rule {
         11..=12 => {
             let from = at + common_nodes::child_at(&part[at..], j);
-            part[0] = part[0] + 1;
-            part[at] = part[at] - 1;
+            part[0] += 1;
+            part[at] -= 1;
             sheet_shifts::move_before(part, at, from);
         }
         _ => {
-            let head = common_nodes::wide16(part[0]);
-            let more = common_nodes::children_of(common_nodes::wide16(part[at]));
+            let head = usize::from(part[0]);
+            let more = common_nodes::children_of(usize::from(part[at]));
             part[0] = (head + more - 1) as u16;
             sheet_shifts::remove(part, at, 1);
         }

@@ -1,1 +1,2 @@
 pub mod Spreading
+mod Told

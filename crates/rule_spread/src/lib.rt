@@ -11,13 +11,14 @@ ghost use Rattle.theory_reading.specs.Stretches.{Stretch, forest_in};
 ghost use Rattle.theory_rewriting.specs.Heads.{Headed, rewritten_to};
 ghost use Rattle.rule_spread.specs.Assigning.{names, spreads_from, opposite, empty, assign, around};
 
-use common_limits::KIND_FACTOR_16;
+use common_limits::{BARRED_KIND, KIND_FACTOR_16};
+use rule_table::{FALSE, TRUE};
 
 // The number is a literal of the option.
 fn is_of(x: u16, option: usize) -> bool
     ensures { result ≡ names option x }
 {
-    let n = common_nodes::wide16(x);
+    let n = usize::from(x);
     common_nodes::is_literal(n) && option == common_nodes::value_of(n)
 }
 
@@ -26,14 +27,7 @@ fn occurs(part: &[u16], from: usize, to: usize, option: usize) -> bool
     requires { (from ≤ to) × (to ≤ length part.now) }
     ensures { result ≡ any (names option) (slice from to part.now) }
 {
-    let mut k = from;
-    while k < to {
-        if is_of(part[k], option) {
-            return true;
-        }
-        k += 1;
-    }
-    false
+    part[from..to].iter().any(|x| is_of(*x, option))
 }
 
 // The number at a place is a literal whose option occurs before it, from the first child on, or after it, up to an end.
@@ -41,12 +35,10 @@ pub fn occurs_around(part: &[u16], at: usize, end: usize) -> bool
     requires { (1 ≤ at) × (at < end) × (end ≤ length part.now) }
     ensures { result ≡ spreads_from at end part.now }
 {
-    let x = common_nodes::wide16(part[at]);
-    if !common_nodes::is_literal(x) {
-        return false;
-    }
+    let x = usize::from(part[at]);
     let option = common_nodes::value_of(x);
-    occurs(part, 1, at, option) || occurs(part, at + 1, end, option)
+    common_nodes::is_literal(x)
+        && (occurs(part, 1, at, option) || occurs(part, at + 1, end, option))
 }
 
 // Whether the rule applies to the first tree of the stretch, whose head is right for it, at the child i that begins at a place:
@@ -61,32 +53,27 @@ pub fn applies(part: &[u16], rule: usize, i: usize, j: usize, at: usize) -> bool
     if j != 0 {
         return false;
     }
-    let k = common_nodes::children_of(common_nodes::wide16(part[0]));
+    let k = common_nodes::children_of(usize::from(part[0]));
     let end = common_nodes::child_at(part, k);
     occurs_around(part, at, end)
 }
 
-// Kind 2 begins here: the barred literals, after the plain ones of kind 1.
-const FIRST_BARRED: u16 = 2 * KIND_FACTOR_16;
-
-// The number of a literal's complement.
+// The number of a literal's complement: the barred literals are of kind 2, the plain ones of kind 1.
 fn opposite_of(x: u16) -> u16
     ensures { result ≡ opposite x }
 {
-    if x < FIRST_BARRED {
-        return x + KIND_FACTOR_16;
+    if x < BARRED_KIND {
+        x + KIND_FACTOR_16
+    } else {
+        x - KIND_FACTOR_16
     }
-    x - KIND_FACTOR_16
 }
 
-// The number of an empty group: a disjunction is of kind 4, a conjunction of kind 3.
+// The number of an empty group: a disjunction is false, a conjunction true.
 fn empty_group(disjunction: bool) -> u16
     ensures { result ≡ empty disjunction }
 {
-    if disjunction {
-        return 16384;
-    }
-    12288
+    if disjunction { FALSE } else { TRUE }
 }
 
 // The literal at a place is assigned in the numbers before it and after it: rule 9 puts an empty disjunction for the literal
@@ -111,7 +98,7 @@ pub fn turn(part: &mut [u16], rule: usize, i: usize, j: usize)
     requires part_value { is_some (rewrite rule i j (forest_in part.old)) ≡ true }
     ensures { part.new ≡ rewritten_to rule i j part.old }
 {
-    let k = common_nodes::children_of(common_nodes::wide16(part[0]));
+    let k = common_nodes::children_of(usize::from(part[0]));
     let at = common_nodes::child_at(part, i);
     let end = common_nodes::child_at(part, k);
     assign_around(part, at, end, rule == 9);

@@ -27,7 +27,7 @@ is_conjunction : (c : goal.After-kind_of) → eqb c.kind_of.result 3 ≡ is_some
 is_conjunction c =
     let l = c.args.part.now in
     let read : c.kind_of.result ≡ kind (get_or l (child_at c.args.i l) 0) =
-    c.kind_of.ensures ∙ ap kind (c.wide16.ensures.0 ∙ ap (λ n. get_or l n 0) c.requires.i_bound.1) in
+    c.kind_of.ensures ∙ ap kind (c.from.ensures ∙ ap (λ n. get_or l n 0) c.requires.i_bound.1) in
     rw read (child_conjunction (headed_group c.requires.stretch c.requires.headed) c.args.i
     (asked_child c.requires.stretch c.requires.headed c.requires.i_bound).there)
 
@@ -36,7 +36,7 @@ conjunction : (c : goal.Else-kind_of-ne3) → (m : Forest) × (conjunction_at (a
 conjunction c =
     is_some_of _ (sym (let l = c.args.part.now in
     let read : c.kind_of.result ≡ kind (get_or l (child_at c.args.i l) 0) =
-    c.kind_of.ensures ∙ ap kind (c.wide16.ensures.0 ∙ ap (λ n. get_or l n 0) c.requires.i_bound.1) in
+    c.kind_of.ensures ∙ ap kind (c.from.ensures ∙ ap (λ n. get_or l n 0) c.requires.i_bound.1) in
     rw read (child_conjunction (headed_group c.requires.stretch c.requires.headed) c.args.i
     (asked_child c.requires.stretch c.requires.headed c.requires.i_bound).there)) ∙ eq-eqb c.kind_of.result 3 c.if-kind_of-ne3.false)
 
@@ -51,7 +51,7 @@ last c =
 -- The number of the children.
 counted : (c : goal.After-children_of-k) → c.children_of-k.result ≡ size c.requires.headed.children
 counted c =
-    c.children_of-k.ensures ∙ ap children c.wide16-in_default.ensures.0
+    c.children_of-k.ensures ∙ ap children c.from-in_default.ensures
     ∙ (asked_child c.requires.stretch c.requires.headed c.requires.i_bound).counted
 
 pub offset_bounds-part-at : goal.offset_bounds-part-at

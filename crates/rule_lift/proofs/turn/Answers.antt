@@ -68,7 +68,7 @@ counted : (c : goal.After-children_of-more) → let l = c.args.part.now in
     c.children_of-more.result ≡ children (get_or l (child_at c.args.i l) 0)
 counted c =
     let l = c.args.part.now in
-    c.children_of-more.ensures ∙ ap children (c.wide16.ensures.0 ∙ ap (λ n. get_or l n 0) c.child_at-at.ensures.0)
+    c.children_of-more.ensures ∙ ap children (c.from.ensures ∙ ap (λ n. get_or l n 0) c.child_at-at.ensures.0)
 
 pub child_at-at-requires : goal.child_at-at-requires
 child_at-at-requires c = let k = child (goal.at.child_at-at-requires c).Start in omega arith
@@ -123,13 +123,13 @@ pub bounds-part-at-in_default : goal.bounds-part-at-in_default
 bounds-part-at-in_default c = inside (goal.at.bounds-part-at-in_default c).After-child_at-at
 
 pub overflow_add-part-in_default : goal.overflow_add-part-in_default
-overflow_add-part-in_default c = let k = child (goal.at.overflow_add-part-in_default c).Start in omega (arith, children_small c.wide16.result)
+overflow_add-part-in_default c = let k = child (goal.at.overflow_add-part-in_default c).Start in omega (arith, children_small c.from.result)
 
 pub overflow_sub-part-in_default : goal.overflow_sub-part-in_default
 overflow_sub-part-in_default c = let k = child (goal.at.overflow_sub-part-in_default c).Start in omega arith
 
 pub overflow_cast-part : goal.overflow_cast-part
-overflow_cast-part c = let k = child (goal.at.overflow_cast-part c).Start in omega (arith, children_small c.wide16.result)
+overflow_cast-part c = let k = child (goal.at.overflow_cast-part c).Start in omega (arith, children_small c.from.result)
 
 pub remove-requires : goal.remove-requires
 remove-requires c = simp length-set (omega (arith, inside (goal.at.remove-requires c).After-child_at-at))
@@ -148,4 +148,4 @@ returns-in_default c =
       | in_default-via-else-rule-lt11+else-rule-lt13 w ↦ omega arith
     ] in
     turns_merge c.requires.stretch c.requires.headed c.args.i c.args.j c.requires.part_value last (c.remove.auto.s ∙ simp length-set)
-    c.child_at-at.ensures.0 c.wide16-head.ensures.0 (counted (goal.at.returns-in_default c).After-children_of-more) c.remove.ensures
+    c.child_at-at.ensures.0 c.from-head.ensures (counted (goal.at.returns-in_default c).After-children_of-more) c.remove.ensures

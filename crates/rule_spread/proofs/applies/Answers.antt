@@ -15,12 +15,12 @@ child c = asked_child c.requires.stretch c.requires.headed c.requires.i_bound
 
 -- The number of the children, and where the last one ends.
 counted : (c : goal.After-children_of-k) → c.children_of-k.result ≡ size c.requires.headed.children
-counted c = c.children_of-k.ensures ∙ ap children c.wide16.ensures.0 ∙ (asked_child c.requires.stretch c.requires.headed c.requires.i_bound).counted
+counted c = c.children_of-k.ensures ∙ ap children c.from.ensures ∙ (asked_child c.requires.stretch c.requires.headed c.requires.i_bound).counted
 
 ended : (c : goal.After-child_at-end) → c.child_at-end.result ≡ child_at (size c.requires.headed.children) c.args.part.now
 ended c =
     c.child_at-end.ensures.0 ∙ ap (λ n. child_at n c.args.part.now)
-    (c.children_of-k.ensures ∙ ap children c.wide16.ensures.0 ∙ (asked_child c.requires.stretch c.requires.headed c.requires.i_bound).counted)
+    (c.children_of-k.ensures ∙ ap children c.from.ensures ∙ (asked_child c.requires.stretch c.requires.headed c.requires.i_bound).counted)
 
 pub returns-then-j-ne0 : goal.returns-then-j-ne0
 returns-then-j-ne0 c =

@@ -7,6 +7,6 @@ pub returns-then-disjunction : goal.returns-then-disjunction
 unfolding empty pick
 returns-then-disjunction c = rw c.if-disjunction.true
 
-pub returns : goal.returns
+pub returns-else-disjunction : goal.returns-else-disjunction
 unfolding empty pick
-returns c = rw c.if-disjunction.false
+returns-else-disjunction c = rw c.if-disjunction.false

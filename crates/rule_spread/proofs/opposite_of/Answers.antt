@@ -5,10 +5,10 @@ use Rattle.rule_spread.specs.Assigning.{opposite}
 use Rattle.theory_forms.specs.Logic.{pick_true, pick_false}
 use Rattle.rule_spread.proofs.opposite_of.Goals as goal
 
-pub returns-then-x-lt-FIRST_BARRED : goal.returns-then-x-lt-FIRST_BARRED
+pub returns-then-x-lt-BARRED_KIND : goal.returns-then-x-lt-BARRED_KIND
 unfolding opposite
-returns-then-x-lt-FIRST_BARRED c = sym (pick_true _ _ _ (lt-ltb _ _ c.if-x-lt-FIRST_BARRED.true))
+returns-then-x-lt-BARRED_KIND c = sym (pick_true _ _ _ (lt-ltb _ _ c.if-x-lt-BARRED_KIND.true))
 
-pub returns : goal.returns
+pub returns-else-x-lt-BARRED_KIND : goal.returns-else-x-lt-BARRED_KIND
 unfolding opposite
-returns c = sym (pick_false _ _ _ (le-ltb _ _ c.if-x-lt-FIRST_BARRED.false))
+returns-else-x-lt-BARRED_KIND c = sym (pick_false _ _ _ (le-ltb _ _ c.if-x-lt-BARRED_KIND.false))

@@ -18,13 +18,13 @@ child c = applied_child c.requires.stretch c.requires.headed c.args.j (omega (ar
 -- The number of the children, and where the last one ends.
 counted : (c : goal.After-children_of-k) → c.children_of-k.result ≡ size c.requires.headed.children
 counted c =
-    c.children_of-k.ensures ∙ ap children c.wide16.ensures.0
+    c.children_of-k.ensures ∙ ap children c.from.ensures
     ∙ (applied_child c.requires.stretch c.requires.headed c.args.j (omega (arith, c.requires.le_rule.1)) c.requires.part_value).counted
 
 ended : (c : goal.After-child_at-end) → c.child_at-end.result ≡ child_at (size c.requires.headed.children) c.args.part.now
 ended c =
     c.child_at-end.ensures.0 ∙ ap (λ n. child_at n c.args.part.now)
-    (c.children_of-k.ensures ∙ ap children c.wide16.ensures.0
+    (c.children_of-k.ensures ∙ ap children c.from.ensures
     ∙ (applied_child c.requires.stretch c.requires.headed c.args.j (omega (arith, c.requires.le_rule.1)) c.requires.part_value).counted)
 
 pub bounds-part-0 : goal.bounds-part-0
