@@ -6,60 +6,61 @@ ghost use Rattle.model.specs.Base.{all};
 ghost use Rattle.texts.specs.Decimals.{is_digit, is_decimal, number_in};
 ghost use Rattle.theory_texts.specs.Figures.{run};
 ghost use Rattle.theory_texts.specs.WordKinds.{kind_of_digits, kind_here, kind_at, word_length};
+ghost use Rattle.import_words.specs.Kinds.{kind_number, IsWord};
 
-// What a word is, and the place after it. Its kind: 1 closes a clause, 2 is a mark, 0 is neither.
+// What a word is: the 0 that closes a clause, or a mark.
+#[derive(Clone, Copy)]
+pub enum Kind {
+    Closing,
+    Mark,
+}
+
+// A word, and the place after it.
 #[derive(Clone, Copy)]
 pub struct Word {
-    pub kind: u8,
+    pub kind: Kind,
     pub end: usize,
 }
 
 // What digits are, where "0" by itself is of a given kind.
-fn kind_of(digits: &[u8], options: &[u8], zero: u8) -> u8
+fn kind_of(digits: &[u8], options: &[u8], zero: Option<Kind>) -> Option<Kind>
     requires { (all is_digit digits.now ≡ true) × (is_decimal options.now ≡ true) }
-    ensures { result ≡ kind_of_digits zero (number_in options.now) digits.now }
+    ensures { kind_number result ≡ kind_of_digits (kind_number zero) (number_in options.now) digits.now }
 {
     if !import_numbers::is_decimal(digits) {
-        return 0;
+        None
+    } else if digits[0] == b'0' {
+        zero
+    } else if import_numbers::is_at_most(digits, options) {
+        Some(Kind::Mark)
+    } else {
+        None
     }
-    if digits[0] == 48 {
-        return zero;
-    }
-    if import_numbers::is_at_most(digits, options) {
-        return 2;
-    }
-    0
 }
 
 // What the digits from a place on are, up to a blank, a line end or the end.
-fn read_number(text: &[u8], from: usize, options: &[u8], zero: u8) -> Word
+fn read_number(text: &[u8], from: usize, options: &[u8], zero: Option<Kind>) -> Option<Word>
     requires { (from ≤ length text.now) × (is_decimal options.now ≡ true) }
     ensures { let b = drop from text.now in
-        (result.kind ≡ kind_here zero (number_in options.now) b)
-        × (result.end ≡ from + run b)
-        × (result.end ≤ length text.now) }
+        IsWord result (kind_here (kind_number zero) (number_in options.now) b) (from + run b) (length text.now) }
 {
     let end = import_bytes::past_digits(text, from);
     if !import_bytes::breaks_at(text, end) {
-        return Word { kind: 0, end: end };
+        return None;
     }
-    let kind = kind_of(&text[from..end], options, zero);
-    Word {
-        kind: kind,
-        end: end,
-    }
+    let kind = kind_of(&text[from..end], options, zero)?;
+    Some(Word { kind, end })
 }
 
 // What the word at a place is: "-0" is none.
-pub fn read_word(text: &[u8], at: usize, options: &[u8]) -> Word
+pub fn read_word(text: &[u8], at: usize, options: &[u8]) -> Option<Word>
     requires { (at < length text.now) × (is_decimal options.now ≡ true) }
     ensures { let b = drop at text.now in
-        (result.kind ≡ kind_at (number_in options.now) b)
-        × (result.end ≡ at + word_length b)
-        × (result.end ≤ length text.now) }
+        IsWord result (kind_at (number_in options.now) b) (at + word_length b) (length text.now) }
 {
-    if text[at] == 45 {
-        return read_number(text, at + 1, options, 0);
+    if text[at] == b'-' {
+        read_number(text, at + 1, options, None)
+    } else {
+        read_number(text, at, options, Some(Kind::Closing))
     }
-    read_number(text, at, options, 1)
 }

@@ -25,9 +25,9 @@ returns-then-is_at_most c =
     mark_here _ _ _ (decimal (goal.at.returns-then-is_at_most c).Else-not-is_decimal) c.if-digits-eq48.false
     (sym c.is_at_most.ensures ∙ c.if-is_at_most.true)
 
-pub returns : goal.returns
-returns c =
-    over_here _ _ _ (decimal (goal.at.returns c).Else-not-is_decimal) c.if-digits-eq48.false
+pub returns-else-is_at_most : goal.returns-else-is_at_most
+returns-else-is_at_most c =
+    over_here _ _ _ (decimal (goal.at.returns-else-is_at_most c).Else-not-is_decimal) c.if-digits-eq48.false
     (sym c.is_at_most.ensures ∙ c.if-is_at_most.false)
 
 pub bounds-digits-0 : goal.bounds-digits-0

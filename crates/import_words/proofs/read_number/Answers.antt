@@ -4,36 +4,24 @@ use Rattle.theory_texts.specs.FromPlaces.{all_between}
 use Rattle.import_words.proofs.WordTests.{not_ended, kind_ended}
 use Rattle.import_words.proofs.read_number.Goals as goal
 
-pub breaks_at-requires : goal.breaks_at-requires
-breaks_at-requires c = c.past_digits-end.ensures.1
-
 pub returns-then-not-breaks_at : goal.returns-then-not-breaks_at
 returns-then-not-breaks_at c =
-    let s = c in
     let far = c.past_digits-end in
-    let call = c.breaks_at in (
-      not_ended s.args.text.now s.args.from far.result far.ensures.0 _ _ (sym call.ensures ∙ c.if-not-breaks_at.true),
-      far.ensures.0,
-      far.ensures.1,
-    )
+    sym (not_ended c.args.text.now c.args.from far.result far.ensures.0 _ _ (sym c.breaks_at.ensures ∙ c.if-not-breaks_at.true))
 
-pub kind_of-kind-requires : goal.kind_of-kind-requires
-kind_of-kind-requires c =
-    let s = c in
+pub kind_of-requires : goal.kind_of-requires
+kind_of-requires c =
     let far = c.past_digits-end in
-    (all_between s.args.text.now s.args.from far.result far.ensures.0, s.requires.1)
+    (all_between c.args.text.now c.args.from far.result far.ensures.0, c.requires.1)
+
+pub returns-in_err-kind : goal.returns-in_err-kind
+returns-in_err-kind c =
+    let far = c.past_digits-end in
+    let ended = kind_ended c.args.text.now c.args.from far.result far.ensures.0 _ _ (sym c.breaks_at.ensures ∙ c.if-not-breaks_at.false) in
+    rw c.from_residual.ensures (sym (c.in_err-kind.ensures ∙ ended))
 
 pub returns : goal.returns
 returns c =
-    let s = c in
     let far = c.past_digits-end in
-    let call = c.breaks_at in (
-      c.kind_of-kind.ensures
-          ∙ kind_ended s.args.text.now s.args.from far.result far.ensures.0 _ _
-          (sym call.ensures ∙ c.if-not-breaks_at.false),
-      far.ensures.0,
-      far.ensures.1,
-    )
-
-pub slice_bounds-kind_of-end : goal.slice_bounds-kind_of-end
-slice_bounds-kind_of-end c = c.past_digits-end.ensures.1
+    let ended = kind_ended c.args.text.now c.args.from far.result far.ensures.0 _ _ (sym c.breaks_at.ensures ∙ c.if-not-breaks_at.false) in
+    (c.in_ok-kind.ensures ∙ ended, far.ensures.0, far.ensures.1)
