@@ -5,13 +5,17 @@ use mathlib.Core.Logic.{⊎_elim}
 use mathlib.Core.Path.{◌≡◌, refl, sym, ap, ◌∙◌}
 use Prim.Native.Nat.{ℕ, ◌+◌, ◌-◌, ◌≤◌}
 use native.Mathlib.Omega.{arith}
-use borrow.Author.Tests.{eq-eqb, ne_eqb, leb-true, leb-false}
-use lib.Dec.{leb}
+use borrow.Author.Tests.{eq-eqb, eqb-true, ne_eqb, leb-true, leb-false}
+use lib.Dec.{eqb, leb}
 use lib.ListN.{length, get_or, take, drop, length-drop, get_or-eq_default}
 use lib.Seq.{drop-drop, take_all}
+use Rattle.std.specs.Prelude.{nat_eq}
+use Rattle.std.specs.Cmp.Lexicographic.{pointwise}
+use Rattle.std.specs.List.{starts_with}
+use Rattle.common_lists.proofs.Lent.{lent_part}
 use Rattle.model.specs.Base.{same_list}
 use Rattle.texts.specs.Decimals.{is_decimal}
-use Rattle.theory_forms.specs.Logic.{either}
+use Rattle.theory_forms.specs.Logic.{either, same_test}
 use Rattle.theory_forms.specs.Placed.{same_list_is}
 use Rattle.theory_texts.specs.Figures.{run}
 use Rattle.theory_texts.specs.WordKinds.{digits_of, past_digits}
@@ -27,9 +31,24 @@ and_false : (b : Bool) → (b && false) ≡ false
 and_false true = refl
 and_false false = refl
 
+-- Whether a list is what another one begins with, as `starts_with` tells it.
+eqb_sym : (x y : ℕ) → eqb x y ≡ eqb y x
+eqb_sym x y = same_test (eqb x y) (eqb y x) (λ e. eq-eqb y x (sym (eqb-true x y e))) (λ e. eq-eqb x y (sym (eqb-true y x e)))
+
+pointwise_same : (p b : List ℕ) → pointwise nat_eq p b ≡ same_list b p
+unfolding same_list
+pointwise_same [] [] = refl
+pointwise_same [] (y ∷ b) = refl
+pointwise_same (x ∷ p) [] = refl
+pointwise_same (x ∷ p) (y ∷ b) = rw (eqb_sym x y, pointwise_same p b)
+
 module _ (l : List ℕ) (at : ℕ) where
   abbrev pub front : Bool
   front = same_list (take 6 (drop at l)) p_cnf
+
+  -- The bytes that a p line begins with, in what is lent of the text.
+  pub lent_front : starts_with nat_eq (take (length l - at) (drop at l)) p_cnf ≡ front
+  lent_front = ap (λ b. starts_with nat_eq b p_cnf) (lent_part at l) ∙ pointwise_same p_cnf (take 6 (drop at l))
 
   pub front_within : at ≤ length l → front ≡ true → at + 6 ≤ length l
   front_within h e =

@@ -1,35 +1,34 @@
 -- Words counted one after another.
-use mathlib.Core.Bool.{Bool, true, false}
+use mathlib.Core.Bool.{true, false, not}
 use mathlib.Core.List.{List, ◌∷◌}
-use mathlib.Core.Option.{none}
-use mathlib.Core.Logic.{⊎_elim}
-use mathlib.Core.Path.{◌≡◌, refl, sym, ap, ◌∙◌}
+use mathlib.Core.Option.{Option, none, some}
+use mathlib.Core.Path.{◌≡◌, sym, ap, ◌∙◌}
 use Prim.Native.Nat.{ℕ, ◌+◌, ◌≤◌, ◌<◌}
 use native.Mathlib.Numerals.{add-one}
 use native.Mathlib.Omega.{arith}
-use borrow.Author.Tests.{eqb-true, eqb-false}
-use lib.Dec.{eqb}
 use lib.ListN.{length, drop}
 use lib.Seq.{drop-drop}
-use Rattle.model.specs.Base.{pick, is_some}
-use Rattle.texts.specs.ClauseFile.{closes, mark_of_word}
-use Rattle.theory_forms.specs.Logic.{either, pick_true, pick_false}
+use Rattle.model.specs.Base.{pick, only_if}
 use Rattle.theory_texts.specs.Breaks.{breaks, words_after}
 use Rattle.theory_texts.specs.Words.{first_word}
 use Rattle.theory_texts.specs.Spans.{span}
 use Rattle.theory_texts.specs.WordKinds.{kind_of_word, first_kind, kind_at, word_length, word_at, kind_read, NextWord, next_word}
 use Rattle.theory_texts.specs.FromPlaces.{words_same, word_here, words_ended}
 use Rattle.theory_texts.specs.Tally as counts
+use Rattle.import_words.specs.Kinds.{number_of}
+use Rattle.import_words.specs.declared.Kind.{Kind}
+use Rattle.import_words.specs.declared.Kind.TheVariants.{Closing, Mark}
 use Rattle.import_judge.specs.declared.Tally.{Tally}
-use Rattle.import_judge.specs.Judging.{one_counted, to_come, counts_of}
+use Rattle.import_judge.specs.Judging.{one_counted}
 
--- What one more word does to a count: none of a kind ends it, another is counted.
-three_kinds : (c m : Bool) → (pick {A = ℕ} c 1 (pick m 2 0) ≡ 0 → ⊥) → (pick {A = ℕ} c 1 (pick m 2 0) ≡ 1 → ⊥) → pick {A = ℕ} c 1 (pick m 2 0) ≡ 2
-unfolding pick
-three_kinds true m a b = absurd (b refl)
-three_kinds false true a b = refl
-three_kinds false false a b = absurd (a refl)
+-- What the words to come make of a count, for V; and what is counted where none come: nothing, where a clause is open.
+abbrev pub to_come : ℕ → Tally → List (List ℕ) → Option counts.Tally
+to_come n t ws = counts.tally n t.clauses t.marks t.pending ws
 
+abbrev pub counts_of : Tally → Option counts.Tally
+counts_of t = only_if (not t.pending) (counts.tallied t.clauses t.marks)
+
+-- What one more word does to a count: one that is neither ends it, another is counted.
 module _ (n : ℕ) (t : Tally) where
   tally_none : (w : List ℕ) (ws : List (List ℕ)) → kind_of_word n w ≡ 0 → to_come n t (w ∷ ws) ≡ none
   unfolding counts.tally pick
@@ -44,29 +43,19 @@ module _ (n : ℕ) (t : Tally) where
   one_marked w ws e = rw (e, add-one t.marks)
 
   tally_more :
-      (w : List ℕ) (ws : List (List ℕ)) (kind : ℕ) →
-      kind_of_word n w ≡ kind →
-      (kind ≡ 0 → ⊥) →
+      (w : List ℕ) (ws : List (List ℕ)) (kind : Kind) →
+      kind_of_word n w ≡ number_of kind →
       to_come n t (w ∷ ws) ≡ to_come n (one_counted kind t) ws
-  unfolding one_counted kind_of_word pick
-  tally_more w ws kind e h =
-      ⊎_elim
-      (λ f. one_closed w ws (e ∙ eqb-true kind 1 f) ∙ ap (λ u. to_come n u ws) (sym (pick_true (eqb kind 1) _ _ f)))
-      (λ f.
-      let two = three_kinds (closes w) (is_some (mark_of_word n w)) (λ z. h (sym e ∙ z)) (λ z. eqb-false kind 1 f (sym e ∙ z)) in
-      one_marked w ws two ∙ ap (λ u. to_come n u ws) (sym (pick_false (eqb kind 1) _ _ f)))
-      (either (eqb kind 1))
+  tally_more w ws Closing e = one_closed w ws e
+  tally_more w ws Mark e = one_marked w ws e
 
-one_more : (kind : ℕ) (t : Tally) → (one_counted kind t).clauses + (one_counted kind t).marks ≡ t.clauses + t.marks + 1
-unfolding one_counted pick
-one_more kind t = go (eqb kind 1)
-  where
-    go : (b : Bool) →
-        let u = pick {A = Tally} b (record { clauses = t.clauses + 1; marks = t.marks; pending = false })
-        (record { clauses = t.clauses; marks = t.marks + 1; pending = true }) in
-        u.clauses + u.marks ≡ t.clauses + t.marks + 1
-    go true = omega arith
-    go false = omega arith
+one_more : (kind : Kind) (t : Tally) → (one_counted kind t).clauses + (one_counted kind t).marks ≡ t.clauses + t.marks + 1
+one_more Closing t = omega arith
+one_more Mark t = omega arith
+
+some_kind : (kind : Kind) → number_of kind ≡ 0 → ⊥
+some_kind Closing e = omega (arith, e)
+some_kind Mark e = omega (arith, e)
 
 -- A count after some words: what the words to come make of it is what all of them make of nothing.
 pub record Counted (n : ℕ) (l : List ℕ) (body : ℕ) (t : Tally) (at : ℕ) : Type 0 where
@@ -87,9 +76,17 @@ module _ (n : ℕ) (l : List ℕ) (body : ℕ) where
       }
 
   module _ (t : Tally) (at : ℕ) (c : Counted n l body t at) where
-    pub all_counted : length l ≤ at → counts_of t ≡ counts.tally n 0 0 false (words_after (drop body l))
+    all_counted : length l ≤ at → counts_of t ≡ counts.tally n 0 0 false (words_after (drop body l))
     unfolding counts.tally
     all_counted h = ap (to_come n t) (sym (words_ended l at h)) ∙ c.same
+
+    pub open_ended : length l ≤ at → t.pending ≡ true → none ≡ counts.tally n 0 0 false (words_after (drop body l))
+    unfolding only_if
+    open_ended h e = ap (λ b. only_if (not b) (counts.tallied t.clauses t.marks)) (sym e) ∙ all_counted h
+
+    pub closed_ended : length l ≤ at → t.pending ≡ false → some (counts.tallied t.clauses t.marks) ≡ counts.tally n 0 0 false (words_after (drop body l))
+    unfolding only_if
+    closed_ended h e = ap (λ b. only_if (not b) (counts.tallied t.clauses t.marks)) (sym e) ∙ all_counted h
 
     module _ (h : at < length l) where
       first_kind_here : first_kind n (words_after (drop at l)) ≡ kind_at n (drop at l)
@@ -103,9 +100,9 @@ module _ (n : ℕ) (l : List ℕ) (body : ℕ) where
           ∙ ap (to_come n t) (sym f.words)
           ∙ c.same
 
-      module _ (kind end next : ℕ) (told : kind ≡ kind_at n (drop at l)) (some : kind ≡ 0 → ⊥) (far : end ≡ at + word_length (drop at l)) where
+      module _ (kind : Kind) (end next : ℕ) (told : number_of kind ≡ kind_at n (drop at l)) (far : end ≡ at + word_length (drop at l)) where
         found : NextWord (drop at l)
-        found = next_word n (drop at l) (c.here h) (λ z. some (told ∙ z))
+        found = next_word n (drop at l) (c.here h) (λ z. some_kind kind (told ∙ z))
 
         rest : words_after (drop (word_length (drop at l)) (drop at l)) ≡ words_after (drop end l)
         rest = ap words_after (drop-drop (word_length (drop at l)) at l ∙ ap (λ k. drop k l) (sym far))
@@ -131,7 +128,7 @@ module _ (n : ℕ) (l : List ℕ) (body : ℕ) where
               same =
                   ap (λ v. to_come n v (words_after (drop next l))) e
                   ∙ ap (to_come n (one_counted kind t)) (words_same l end next past)
-                  ∙ sym (tally_more n t w ws kind (ap (first_kind n) (sym here) ∙ first_kind_here ∙ sym told) some)
+                  ∙ sym (tally_more n t w ws kind (ap (first_kind n) (sym here) ∙ first_kind_here ∙ sym told))
                   ∙ ap (to_come n t) (sym here)
                   ∙ c.same;
             }

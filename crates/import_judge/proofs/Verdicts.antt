@@ -1,8 +1,8 @@
 -- The verdict on a text: from the count of its words, and the number of clauses that its p line states.
-use mathlib.Core.Bool.{true, false, not}
+use mathlib.Core.Bool.{true, false}
 use mathlib.Core.List.{List, [], ◌∷◌, flatten}
 use mathlib.Core.Option.{Option, none, some}
-use mathlib.Core.Path.{◌≡◌, refl, sym, ap, ap₂, subst, ◌∙◌}
+use mathlib.Core.Path.{◌≡◌, refl, sym, ap, ap₂, ◌∙◌}
 use Prim.Native.Nat.{ℕ, ◌+◌, ◌-◌, ◌≤◌}
 use native.Mathlib.Omega.{arith}
 use lib.Dec.{eqb}
@@ -21,9 +21,8 @@ use Rattle.theory_texts.specs.PLines.{first_number, second_number, has_p_line, n
 use Rattle.theory_texts.specs.Tally as counts
 use Rattle.import_head.specs.declared.Head.{Head}
 use Rattle.import_judge.specs.declared.Tally.{Tally}
-use Rattle.import_judge.specs.declared.Judged.{Judged}
 use Rattle.import_head.specs.Heads.{Stands}
-use Rattle.import_judge.specs.Judging.{counts_of, stated_at, Gives}
+use Rattle.import_judge.specs.Judging.{stated_at, PlacedHead, Gives}
 
 -- What a count says of the clauses that were read.
 counted_some : (cs : List Clause) → counts.counted 0 0 false cs ≡ some (counts.tallied (length cs) (length (flatten cs)))
@@ -71,15 +70,7 @@ module _ (n : ℕ) (ws : List (List ℕ)) where
     unfolding file_stated then only_if
     right_count k m e f = let r = clauses_read k m e in (r, rw (r.are, ← r.many, f))
 
--- A head that stands in a text: its digits, in order.
-pub record PlacedHead (text : List ℕ) (h : Head) : Type 0 where
-  pub options_order : h.options ≤ h.space
-  pub clauses_order : h.clauses ≤ h.body
-  pub within : (h.space ≤ length text) × (h.body ≤ length text)
-  pub options : is_decimal (take (h.space - h.options) (drop h.options text)) ≡ true
-  pub clauses : is_decimal (take (h.body - h.clauses) (drop h.clauses text)) ≡ true
-
--- The ends of its digits, as far as they go.
+-- A head that stands in a text: the ends of its digits, as far as they go.
 module _ {text : List ℕ} {at : ℕ} {h : Head} (s : Stands text at h) where
   near : h.space ≡ h.options + run (drop h.options text)
   near = rw (s.rest.between, s.rest.first) s.far
@@ -127,7 +118,7 @@ module _ {text : List ℕ} {at : ℕ} {h : Head} (s : Stands text at h) where
       )
 
 -- The verdict on the words after a head, by their count.
-module _ (text : List ℕ) (h : Head) (t : Tally) (p : PlacedHead text h) where
+module _ (text : List ℕ) (h : Head) where
   abbrev stated_options : ℕ
   stated_options = number_in (take (h.space - h.options) (drop h.options text))
 
@@ -137,48 +128,40 @@ module _ (text : List ℕ) (h : Head) (t : Tally) (p : PlacedHead text h) where
   abbrev words : List (List ℕ)
   words = words_after (drop h.body text)
 
-  module _ (told : counts_of t ≡ counts.tally stated_options 0 0 false words) where
-    pub none_pending : t.pending ≡ true → stated_at text h ≡ none
-    unfolding stated_at only_if
-    none_pending e = not_counted stated_options words stated_clauses (ap (λ b. only_if (not b) (counts.tallied t.clauses t.marks)) (sym e) ∙ told)
+  pub none_counted : PlacedHead text h → none ≡ counts.tally stated_options 0 0 false words → stated_at text h ≡ none
+  unfolding stated_at
+  none_counted p told = not_counted stated_options words stated_clauses told
 
-    module _ (e : t.pending ≡ false) where
-      all_told : some (counts.tallied t.clauses t.marks) ≡ counts.tally stated_options 0 0 false words
-      unfolding only_if
-      all_told = ap (λ b. only_if (not b) (counts.tallied t.clauses t.marks)) (sym e) ∙ told
+  module _ (t : Tally) (p : PlacedHead text h) (told : some (counts.tallied t.clauses t.marks) ≡ counts.tally stated_options 0 0 false words) where
+    pub none_other : eqb t.clauses stated_clauses ≡ false → stated_at text h ≡ none
+    unfolding stated_at
+    none_other f = other_count stated_options words stated_clauses t.clauses t.marks told f
 
-      pub none_other : eqb t.clauses stated_clauses ≡ false → stated_at text h ≡ none
-      unfolding stated_at
-      none_other f = other_count stated_options words stated_clauses t.clauses t.marks all_told f
-
-      pub gives :
-          eqb t.clauses stated_clauses ≡ true →
-          t.clauses + t.marks ≤ length text →
-          Gives (stated_at text h) text
-          (record { good = true; options = h.options; space = h.space; body = h.body; clauses = t.clauses; marks = t.marks })
-      unfolding stated_at
-      gives f few =
-          let (r, g) = right_count stated_options words stated_clauses t.clauses t.marks all_told f in
-          record {
-            file = record { options = stated_options; clauses = r.clauses };
-            reads = g;
-            in_order = p.options_order;
-            within = p.within;
-            decimal = p.options;
-            options = refl;
-            words = r.are;
-            clauses = r.many;
-            marks = r.marks;
-            few = few;
-          }
+    pub gives :
+        eqb t.clauses stated_clauses ≡ true →
+        t.clauses + t.marks ≤ length text →
+        Gives (stated_at text h) text
+        (record { options = h.options; space = h.space; body = h.body; clauses = t.clauses; marks = t.marks })
+    unfolding stated_at
+    gives f few =
+        let (r, g) = right_count stated_options words stated_clauses t.clauses t.marks told f in
+        record {
+          file = record { options = stated_options; clauses = r.clauses };
+          reads = g;
+          in_order = p.options_order;
+          within = p.within;
+          decimal = p.options;
+          options = refl;
+          words = r.are;
+          clauses = r.many;
+          marks = r.marks;
+          few = few;
+        }
 
 -- The verdict on a text, by its p line.
-module _ (text : List ℕ) (at : ℕ) (h : Head) (same : file_of (drop at text) ≡ file_of text) where
+module _ (text : List ℕ) (at : ℕ) (same : file_of (drop at text) ≡ file_of text) where
   pub nothing_there : eqb (get_or (drop at text) 0 0) 99 ≡ false → has_p_line (drop at text) ≡ false → file_of text ≡ none
   nothing_there n e = sym same ∙ no_p_line (drop at text) n e
 
-  pub stated_there : has_p_line (drop at text) ≡ true → Stands text at h → file_of text ≡ stated_at text h
-  stated_there e s = sym same ∙ with_p_line (drop at text) e ∙ head_read s
-
-pub same_gives : {o r : Option File} {text : List ℕ} {j : Judged} → o ≡ r → Gives r text j → Gives o text j
-same_gives {text = text} {j} e g = subst (λ x. Gives x text j) (sym e) g
+  pub stated_there : (h : Head) → has_p_line (drop at text) ≡ true → Stands text at h → file_of text ≡ stated_at text h
+  stated_there h e s = sym same ∙ with_p_line (drop at text) e ∙ head_read s

@@ -1,30 +1,35 @@
 -- What the judging of a clause file keeps: the words counted so far, and what it gives in the end.
-use Rattle.std.specs.Prelude.{true, false, not, ◌≡◌, ℕ, ◌+◌, ◌-◌, ◌≤◌, eqb, length, take, drop}
+use Rattle.std.specs.Prelude as P
+use Rattle.std.specs.Prelude.{true, false, ◌≡◌, ℕ, ◌+◌, ◌-◌, ◌≤◌, length, take, drop}
 use mathlib.Core.List.{List, flatten}
-use Rattle.std.proofs.Math.Option.{Option, some}
-use Rattle.model.specs.Base.{pick, only_if}
+use Rattle.std.proofs.Math.Option.{Option, none, some}
 use Rattle.texts.specs.Decimals.{is_decimal, number_in}
 use Rattle.texts.specs.ClauseFile.{clauses_of_words, File, file_stated}
 use Rattle.theory_texts.specs.Breaks.{words_after}
 use Rattle.theory_texts.specs.Tally as counts
 use Rattle.import_head.specs.declared.Head.{Head}
+use Rattle.import_words.specs.declared.Kind.{Kind}
+use Rattle.import_words.specs.declared.Kind.TheVariants.{Closing, Mark}
 use Rattle.import_judge.specs.declared.Tally.{Tally}
 use Rattle.import_judge.specs.declared.Judged.{Judged}
 
--- One word more: one that closes a clause (1), or a mark.
-unfoldable pub one_counted : ℕ → Tally → Tally
-one_counted kind t =
-    pick (eqb kind 1)
-    (record { clauses = t.clauses + 1; marks = t.marks; pending = false })
-    (record { clauses = t.clauses; marks = t.marks + 1; pending = true })
+-- One word more: one that closes a clause, or a mark.
+abbrev pub one_counted : Kind → Tally → Tally
+one_counted Closing t = record { clauses = t.clauses + 1; marks = t.marks; pending = false }
+one_counted Mark t = record { clauses = t.clauses; marks = t.marks + 1; pending = true }
 
--- What the words to come make of it, for V.
-abbrev pub to_come : ℕ → Tally → List (List ℕ) → Option counts.Tally
-to_come n t ws = counts.tally n t.clauses t.marks t.pending ws
+-- What is counted in the end, as the definitions write it.
+abbrev pub count_told : P.Option Tally → Option counts.Tally
+count_told P.None = none
+count_told (P.Some t) = some (counts.tallied t.clauses t.marks)
 
--- What is counted in the end: nothing, where a clause is open.
-abbrev pub counts_of : Tally → Option counts.Tally
-counts_of t = only_if (not t.pending) (counts.tallied t.clauses t.marks)
+-- A p line at these places: its digits, in order.
+pub record PlacedHead (text : List ℕ) (h : Head) : Type 0 where
+  pub options_order : h.options ≤ h.space
+  pub clauses_order : h.clauses ≤ h.body
+  pub within : (h.space ≤ length text) × (h.body ≤ length text)
+  pub options : is_decimal (take (h.space - h.options) (drop h.options text)) ≡ true
+  pub clauses : is_decimal (take (h.body - h.clauses) (drop h.clauses text)) ≡ true
 
 -- The file that a p line at these places states, with the words after it.
 unfoldable pub stated_at : List ℕ → Head → Option File

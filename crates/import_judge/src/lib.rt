@@ -1,16 +1,16 @@
 // A clause file judged and counted in one pass: its p line, the words after it, and whether there are as many clauses as it states.
 #![tactic(auto)]
 
-ghost use Rattle.std.specs.Prelude.{◌≡◌, true, false, ◌+◌, ◌≤◌, ◌<◌, length, drop};
+ghost use Rattle.std.specs.Prelude.{◌≡◌, true, false, ◌+◌, ◌≤◌, ◌<◌, length, drop, MatchOption, IfSome};
 ghost use Rattle.std.proofs.Math.Option.{none};
 ghost use Rattle.texts.specs.Decimals.{is_decimal, number_in};
 ghost use Rattle.texts.specs.ClauseFile.{file_of};
 ghost use Rattle.theory_texts.specs.Breaks.{words_after};
 ghost use Rattle.theory_texts.specs.Tally.{tally};
-ghost use Rattle.import_head.specs.Heads.{Stands};
-ghost use Rattle.import_judge.specs.Judging.{one_counted, counts_of, stated_at, Gives};
+ghost use Rattle.import_judge.specs.Judging.{one_counted, count_told, stated_at, PlacedHead, Gives};
 
 use import_head::Head;
+use import_words::Kind;
 
 // The words counted so far: clauses closed, marks, and whether a clause is open.
 #[derive(Clone, Copy)]
@@ -20,10 +20,9 @@ pub struct Tally {
     pub pending: bool,
 }
 
-// A text judged: whether it is a clause file; where V's digits stand, and where the words after its p line begin; its clauses and marks.
+// A clause file judged: where V's digits stand, and where the words after its p line begin; its clauses and marks.
 #[derive(Clone, Copy)]
 pub struct Judged {
-    pub good: bool,
     pub options: usize,
     pub space: usize,
     pub body: usize,
@@ -32,30 +31,30 @@ pub struct Judged {
 }
 
 // One word more.
-fn counted(tally: Tally, kind: u8) -> Tally
+fn counted(tally: Tally, kind: Kind) -> Tally
     requires { tally.clauses + tally.marks < 18446744073709551615 }
     ensures { result ≡ one_counted kind tally }
 {
-    if kind == 1 {
-        return Tally {
+    match kind {
+        Kind::Closing => Tally {
             clauses: tally.clauses + 1,
-            marks: tally.marks,
             pending: false,
-        };
-    }
-    Tally {
-        clauses: tally.clauses,
-        marks: tally.marks + 1,
-        pending: true,
+            ..tally
+        },
+        Kind::Mark => Tally {
+            marks: tally.marks + 1,
+            pending: true,
+            ..tally
+        },
     }
 }
 
-// The words after a p line, counted: every clause is closed, unless one is open in the end or some word is none.
-fn count_words(text: &[u8], body: usize, options: &[u8]) -> Tally
+// The words after a p line, counted: none, where a clause is open in the end or some word is neither a mark nor closes a clause.
+fn count_words(text: &[u8], body: usize, options: &[u8]) -> Option<Tally>
     requires { (body ≤ length text.now) × (is_decimal options.now ≡ true) }
-    ensures result_value { counts_of result
+    ensures told { count_told result
         ≡ tally (number_in options.now) 0 0 false (words_after (drop body text.now)) }
-    ensures marks_in_bounds { result.clauses + result.marks ≤ length text.now }
+    ensures marks_in_bounds { IfSome result (λ t. t.clauses + t.marks ≤ length text.now) }
 {
     let mut so_far = Tally {
         clauses: 0,
@@ -63,74 +62,38 @@ fn count_words(text: &[u8], body: usize, options: &[u8]) -> Tally
         pending: false,
     };
     let mut at = import_bytes::past_blanks(text, body);
+    // Each turn hops over a word, whose end is read.
     while at < text.len() {
-        let word = import_words::read_word(text, at, options);
-        let kind = word.kind;
-        if kind == 0 {
-            return Tally {
-                clauses: 0,
-                marks: 0,
-                pending: true,
-            };
-        }
-        so_far = counted(so_far, kind);
-        let end = word.end;
-        at = import_bytes::past_blanks(text, end);
+        let word = import_words::read_word(text, at, options)?;
+        so_far = counted(so_far, word.kind);
+        at = import_bytes::past_blanks(text, word.end);
     }
-    so_far
+    if so_far.pending { None } else { Some(so_far) }
 }
 
-// No clause file.
-fn no_file() -> Judged
-    ensures { result.good ≡ false }
+// The words after a p line, if there are as many clauses as it states.
+fn judge_words(text: &[u8], head: Head) -> Option<Judged>
+    requires { PlacedHead text.now head }
+    ensures { MatchOption result (stated_at text.now head ≡ none) (λ j. Gives (stated_at text.now head) text.now j) }
 {
-    Judged {
-        good: false,
-        options: 0,
-        space: 0,
-        body: 0,
-        clauses: 0,
-        marks: 0,
+    let tally = count_words(text, head.body, &text[head.options..head.space])?;
+    if !import_numbers::is_number(&text[head.clauses..head.body], tally.clauses) {
+        return None;
     }
-}
-
-// The words after a p line, and whether there are as many clauses as it states.
-fn judge_words(text: &[u8], at: usize, head: Head) -> Judged
-    requires { Stands text.now at head }
-    ensures head_value { result.good ≡ false → stated_at text.now head ≡ none }
-    ensures gives { result.good ≡ true → Gives (stated_at text.now head) text.now result }
-{
-    let options = head.options;
-    let space = head.space;
-    let clauses = head.clauses;
-    let body = head.body;
-    let tally = count_words(text, body, &text[options..space]);
-    if tally.pending {
-        return no_file();
-    }
-    let count = tally.clauses;
-    if !import_numbers::is_number(&text[clauses..body], count) {
-        return no_file();
-    }
-    Judged {
-        good: true,
-        options: options,
-        space: space,
-        body: body,
-        clauses: count,
+    Some(Judged {
+        options: head.options,
+        space: head.space,
+        body: head.body,
+        clauses: tally.clauses,
         marks: tally.marks,
-    }
+    })
 }
 
-// A text judged and counted.
-pub fn judge(text: &[u8]) -> Judged
-    ensures text_value { result.good ≡ false → file_of text.now ≡ none }
-    ensures gives { result.good ≡ true → Gives (file_of text.now) text.now result }
+// A text judged and counted: none, where it is no clause file.
+pub fn judge(text: &[u8]) -> Option<Judged>
+    ensures { MatchOption result (file_of text.now ≡ none) (λ j. Gives (file_of text.now) text.now j) }
 {
     let at = import_bytes::past_comments(text);
-    let head = import_head::read_head(text, at);
-    if !head.good {
-        return no_file();
-    }
-    judge_words(text, at, head)
+    let head = import_head::read_head(text, at)?;
+    judge_words(text, head)
 }

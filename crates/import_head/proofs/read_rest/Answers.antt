@@ -1,66 +1,42 @@
 -- `import_head::read_rest` meets its contract: a space, a decimal, and a line end, one test after another.
-use mathlib.Core.Path.{refl, sym, ap, ◌∙◌}
+use mathlib.Core.Path.{sym, ◌∙◌}
 use Prim.Native.Nat.{◌+◌}
-use Rattle.texts.specs.Decimals.{is_decimal}
 use Rattle.theory_texts.specs.FromPlaces.{all_between}
-use Rattle.theory_forms.specs.Logic.{true_false}
-use Rattle.import_head.proofs.HeadTests.{no_space, no_more, clauses_there, no_clauses, by_end}
+use Rattle.import_head.proofs.HeadTests.{no_space, no_more, no_clauses, by_end}
 use Rattle.import_head.proofs.read_rest.Goals as goal
+use Rattle.import_head.proofs.read_rest.Goals.{then-text-space-via-then-text-space, then-text-space-via-else-text-space+then-text-space-ne32, then-not-is_decimal-via-then-not-is_decimal, then-not-is_decimal-via-else-not-is_decimal+then-not-ends_line_at}
 
-pub returns-then-text-space : goal.returns-then-text-space
-returns-then-text-space c =
-    let a = c.args in
-    record {
-      good_value = c.no_head.ensures ∙ sym (no_more a.text.now a.space c.if-text-space.true);
-      rest = λ h. true_false (sym h ∙ c.no_head.ensures);
-    }
-
-pub returns-then-text-space-ne32 : goal.returns-then-text-space-ne32
-returns-then-text-space-ne32 c =
-    let a = c.args in
-    record {
-      good_value = c.no_head-then-text-space-ne32.ensures ∙ sym (no_space a.text.now a.space c.if-text-space-ne32.true);
-      rest = λ h. true_false (sym h ∙ c.no_head-then-text-space-ne32.ensures);
-    }
+pub returns-then-text-space-clause-found : goal.returns-then-text-space-clause-found
+returns-then-text-space-clause-found c =
+    let text = c.args.text.now in
+    elim c.then-text-space.branch [
+      | then-text-space-via-then-text-space w ↦ sym (no_more text c.args.space w.if-text-space.true)
+      | then-text-space-via-else-text-space+then-text-space-ne32 w ↦ sym (no_space text c.args.space w.if-text-space-ne32.true)
+    ]
 
 pub is_decimal-requires : goal.is_decimal-requires
 is_decimal-requires c =
-    let a = c.args in
-    let far = c.past_digits-body in
-    all_between a.text.now (a.space + 1) far.result far.ensures.0
+    let far = c.past_digits-body in all_between c.args.text.now (c.args.space + 1) far.result far.ensures.0
 
-pub returns-then-not-is_decimal : goal.returns-then-not-is_decimal
-returns-then-not-is_decimal c =
-    let a = c.args in
-    let far = c.past_digits-body in
-    let call = c.is_decimal in
-    record {
-      good_value = c.no_head-then-not-is_decimal.ensures
-          ∙ sym (no_clauses a.text.now a.space c.if-text-space-ne32.false far.result far.ensures.0 (sym call.ensures ∙ c.if-not-is_decimal.true));
-      rest = λ h. true_false (sym h ∙ c.no_head-then-not-is_decimal.ensures);
-    }
-
-pub returns : goal.returns
-returns c =
-    let a = c.args in
-    let far = c.past_digits-body in
-    let call = c.is_decimal in
+pub returns-then-not-is_decimal-clause-found : goal.returns-then-not-is_decimal-clause-found
+returns-then-not-is_decimal-clause-found c =
+    let text = c.args.text.now in
+    let space = c.args.space in
     let here = c.if-text-space-ne32.false in
-    let good = sym call.ensures ∙ c.if-not-is_decimal.false in
-    record {
-      good_value = c.ends_line_at.ensures ∙ sym (by_end a.text.now a.space here far.result far.ensures.0 good);
-      rest = λ h. record {
-        first = refl;
-        between = refl;
-        second = refl;
-        last = far.ensures.0;
-        within = far.ensures.1;
-        decimal = ap is_decimal (clauses_there a.text.now a.space here far.result far.ensures.0) ∙ good;
-      };
-    }
+    let far = c.past_digits-body in
+    let call = c.is_decimal in
+    elim c.then-not-is_decimal.branch [
+      | then-not-is_decimal-via-then-not-is_decimal w ↦
+          sym (no_clauses text space here far.result far.ensures.0 (sym call.ensures ∙ w.if-not-is_decimal.true))
+      | then-not-is_decimal-via-else-not-is_decimal+then-not-ends_line_at w ↦
+          sym (by_end text space here far.result far.ensures.0 (sym call.ensures ∙ w.if-not-is_decimal.false)
+          ∙ sym w.ends_line_at.ensures
+          ∙ w.if-not-ends_line_at.true)
+    ]
 
-pub slice_bounds-is_decimal-end : goal.slice_bounds-is_decimal-end
-slice_bounds-is_decimal-end c = c.past_digits-body.ensures.1
-
-pub ends_line_at-requires : goal.ends_line_at-requires
-ends_line_at-requires c = c.past_digits-body.ensures.1
+pub returns-clause-found : goal.returns-clause-found
+returns-clause-found c =
+    let far = c.past_digits-body in
+    sym (by_end c.args.text.now c.args.space c.if-text-space-ne32.false far.result far.ensures.0 (sym c.is_decimal.ensures ∙ c.if-not-is_decimal.false)
+    ∙ sym c.ends_line_at.ensures
+    ∙ c.if-not-ends_line_at.false)
