@@ -55,15 +55,13 @@ fn put_file(text: &[u8], options: usize, judged: Judged, out: &mut [u8]) -> Foun
 pub fn import(text: &[u8], out: &mut [u8]) -> Found
     ensures { after_call (found_of result) out.new ≡ import_of text.now out.old }
 {
-    let judged = import_judge::judge(text);
-    if !judged.good {
+    let Some(judged) = import_judge::judge(text) else {
         return Found::Refused(Refusal::Text);
-    }
-    let from = judged.options;
-    let to = judged.space;
-    if is_too_large(&text[from..to], judged.clauses, judged.marks) {
+    };
+    let digits = &text[judged.options..judged.space];
+    if is_too_large(digits, judged.clauses, judged.marks) {
         return Found::Refused(Refusal::Size);
     }
-    let options = import_numbers::small_number(&text[from..to]);
+    let options = import_numbers::small_number(digits);
     put_file(text, options, judged, out)
 }
