@@ -1,7 +1,7 @@
 -- Bounds set back one after another.
 use mathlib.Core.List.{List}
 use mathlib.Core.Logic.{inl, inr, ⊎_elim}
-use mathlib.Core.Path.{◌≡◌, refl, ap, subst, ◌∙◌}
+use mathlib.Core.Path.{◌≡◌, ap, subst, ◌∙◌}
 use Prim.Native.Nat.{ℕ, ◌+◌, ◌≤◌, ◌<◌}
 use native.Mathlib.Omega.{arith}
 use borrow.Author.Tests.{ltb-true, ltb-false}
@@ -11,10 +11,6 @@ use lib.Seq.{get_or-set_same, get_or-set_other}
 use Rattle.model.specs.Code.{Node}
 use Rattle.theory_forms.specs.Logic.{either}
 use Rattle.run_bounds_after.specs.SetBack.{ConstantFree, SetBack}
-
--- Bounds set back up to a place: none at first, then one place more, which has stayed or gone back to 1.
-pub set_none : (from : ℕ) (ns : List Node) (t : List ℕ) → SetBack from from ns t t
-set_none from ns t = record { outside = λ q w. refl; inside = λ q a b. absurd (omega arith) }
 
 module _ {from p : ℕ} (ns : List Node) (t u : List ℕ) (w : SetBack from p ns t u) (le : from ≤ p) where
   pub set_kept : ConstantFree p ns → SetBack from (p + 1) ns t u

@@ -1,7 +1,7 @@
 -- Tables of sizes, entry by entry: some fall, others move, and ones follow.
 use mathlib.Core.List.{List}
 use mathlib.Core.Logic.{⊎_elim}
-use mathlib.Core.Path.{◌≡◌, refl, sym, ap, ◌∙◌}
+use mathlib.Core.Path.{◌≡◌, sym, ap, ◌∙◌}
 use Prim.Native.Nat.{ℕ, ◌+◌, ◌-◌, ◌≤◌, ◌<◌}
 use native.Mathlib.Omega.{arith}
 use borrow.Author.Tests.{eqb-true, eqb-false}
@@ -12,9 +12,6 @@ use Rattle.model.specs.Limits.{sheet_room}
 use Rattle.theory_forms.specs.Logic.{either}
 use Rattle.run_bounds_after.specs.Resized.{fallen_size, Falls, Shrunk, Resized}
 use Rattle.run_bounds_after.proofs.RenewedEntries.{Ones, gone, gone_before, gone_after}
-
-pub shrunk_none : (place by : ℕ) (t : List ℕ) → Shrunk 0 place by t t
-shrunk_none place by t = record { before = λ q l. absurd (omega arith); after = λ q l. refl }
 
 pub shrunk_more :
     (to place by : ℕ) (t u : List ℕ) {x : ℕ} →

@@ -1,13 +1,12 @@
 -- Tables, entry by entry: a run of ones, and entries that go.
-use mathlib.Core.List.{List, [], ◌++◌, append-nil}
+use mathlib.Core.List.{List, ◌++◌}
 use mathlib.Core.Logic.{⊎_elim}
-use mathlib.Core.Path.{◌≡◌, refl, sym, ap, ◌∙◌}
+use mathlib.Core.Path.{◌≡◌, sym, ap, ◌∙◌}
 use Prim.Native.Nat.{ℕ, ◌+◌, ◌-◌, ◌≤◌, ◌<◌}
-use native.Mathlib.Nat.{add-zero}
 use native.Mathlib.Omega.{arith}
 use borrow.Author.Tests.{eqb-true, eqb-false}
 use lib.Dec.{eqb}
-use lib.ListN.{length, get_or, take, drop, set, replicate, length-drop, length-set, take-append-drop, get_or-append}
+use lib.ListN.{length, get_or, take, drop, set, replicate, length-drop, length-set, get_or-append}
 use lib.Seq.{get_or-set_same, get_or-set_other, get_or-take, get_or-drop, get_or-append-add, length-take-le}
 use Rattle.model.specs.Limits.{sheet_room}
 use Rattle.theory_forms.specs.Logic.{either}
@@ -19,31 +18,9 @@ pub record Ones (from to : ℕ) (t u : List ℕ) : Type 0 where
   pub before : (q : ℕ) → q < from → get_or u q 0 ≡ get_or t q 0
   pub after : (q : ℕ) → to ≤ q → get_or u q 0 ≡ get_or t q 0
 
-pub ones_none : (from : ℕ) (t : List ℕ) → Ones from from t t
-ones_none from t = record { ones = λ q a b. absurd (omega arith); before = λ q a. refl; after = λ q a. refl }
-
-pub ones_more : (from to : ℕ) (t u : List ℕ) → from ≤ to → to < length u → Ones from to t u → Ones from (to + 1) t (set u to 1)
-ones_more from to t u le l o =
-    record {
-      ones = λ q a b. ⊎_elim (λ e. let same : q ≡ to = eqb-true q to e in ap (λ k. get_or (set u to 1) k 0) same ∙ get_or-set_same u to 1 0 l)
-          (λ e. let other : q ≡ to → ⊥ = eqb-false q to e in get_or-set_other u to q 1 0 other ∙ o.ones q a (omega (arith, other)))
-          (either (eqb q to));
-      before = λ q a. get_or-set_other u to q 1 0 (λ e. omega arith) ∙ o.before q a;
-      after = λ q a. get_or-set_other u to q 1 0 (λ e. omega arith) ∙ o.after q (omega arith);
-    }
-
 -- Entries that go: those before them stay, those after them move up.
 abbrev pub gone : List ℕ → ℕ → ℕ → List ℕ
 gone t at count = take at t ++ (drop (at + count) t ++ replicate count 0)
-
--- Where none go, all stay.
-pub gone_none : (t : List ℕ) (at count : ℕ) → count ≡ 0 → t ≡ gone t at count
-gone_none t at count e =
-    sym
-    (ap (gone t at) e
-    ∙ ap (λ k. take at t ++ (drop k t ++ [])) (add-zero at)
-    ∙ ap (λ xs. take at t ++ xs) (append-nil (drop at t))
-    ∙ take-append-drop at t)
 
 module _ (t : List ℕ) (at count : ℕ) (within : at + count ≤ length t) where
   long : length (take at t) ≡ at

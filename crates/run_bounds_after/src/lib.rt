@@ -28,6 +28,35 @@ pub struct Zone {
     pub new: usize,
 }
 
+impl Zone {
+    // The zone of a step that takes one node away.
+    fn node_gone(at: usize) -> Zone
+        requires { at < sheet_room }
+        ensures { (result.from ≡ at)
+            × (result.old ≡ at + 1)
+            × (result.new ≡ at) }
+    {
+        Zone {
+            from: at,
+            old: at + 1,
+            new: at,
+        }
+    }
+
+    // The zone of a step that moves no node.
+    fn unmoved(from: usize, to: usize) -> Zone
+        ensures { (result.from ≡ from)
+            × (result.old ≡ to)
+            × (result.new ≡ to) }
+    {
+        Zone {
+            from,
+            old: to,
+            new: to,
+        }
+    }
+}
+
 // What a step will change: its zone, its own place, and the two nearest places that hold it.
 #[derive(Clone, Copy)]
 pub struct Plan {
@@ -57,38 +86,7 @@ fn lifted_zone(sheet: &[u16], redex: Redex) -> Zone
 {
     let at = child_place(sheet, redex.place, redex.i);
     let after = child_place(sheet, at, redex.j) + 1;
-    Zone {
-        from: at,
-        old: after,
-        new: after,
-    }
-}
-
-// The zone of a step that takes one node away.
-fn node_gone(at: usize) -> Zone
-    requires { at < sheet_room }
-    ensures { (result.from ≡ at)
-        × (result.old ≡ at + 1)
-        × (result.new ≡ at) }
-{
-    Zone {
-        from: at,
-        old: at + 1,
-        new: at,
-    }
-}
-
-// The zone of a step that moves no node.
-fn unmoved(from: usize, to: usize) -> Zone
-    ensures { (result.from ≡ from)
-        × (result.old ≡ to)
-        × (result.new ≡ to) }
-{
-    Zone {
-        from: from,
-        old: to,
-        new: to,
-    }
+    Zone::unmoved(at, after)
 }
 
 // The zone of a step that applies. Rule 14 makes a tree anew: from the place on all is left open. Rule 17 changes a head alone: its zone
@@ -100,24 +98,24 @@ pub fn zone_of(sheet: &[u16], sizes: &[u16], redex: Redex) -> Zone
 {
     let rule = redex.rule;
     let place = redex.place;
-    let end = place + common_nodes::wide16(sizes[place]);
+    let end = place + usize::from(sizes[place]);
     match rule {
         1..=3 => Zone {
             from: place,
             old: end,
             new: place + 2,
         },
-        4..=6 | 13 | 15 => node_gone(child_place(sheet, place, redex.i)),
-        7..=8 => node_gone(place),
-        9..=10 => unmoved(place, end),
+        4..=6 | 13 | 15 => Zone::node_gone(child_place(sheet, place, redex.i)),
+        7..=8 => Zone::node_gone(place),
+        9..=10 => Zone::unmoved(place, end),
         11..=12 => lifted_zone(sheet, redex),
         16 => Zone {
             from: place,
             old: end,
             new: place + 1,
         },
-        17 => unmoved(place + 1, place + 1),
-        _ => unmoved(place, SHEET_ROOM),
+        17 => Zone::unmoved(place + 1, place + 1),
+        _ => Zone::unmoved(place, SHEET_ROOM),
     }
 }
 
@@ -130,11 +128,7 @@ fn put_ones(low: &mut [u16], from: usize, to: usize)
     ensures by_index_2 { ((q : ℕ) → q < from → get_or low.new q 0 ≡ get_or low.old q 0)
         × ((q : ℕ) → to ≤ q → get_or low.new q 0 ≡ get_or low.old q 0) }
 {
-    let mut q = from;
-    while q < to {
-        low[q] = 1;
-        q += 1;
-    }
+    low[from..to].fill(1);
 }
 
 // What stood from `old` on stands from `new` on; where the two are one place nothing moves.
@@ -153,10 +147,12 @@ pub fn renew(low: &mut [u16], plan: Plan)
     requires planned { Planned plan }
     ensures { Renewed plan low.old low.new }
 {
-    let zone = plan.zone;
-    let place = plan.place;
-    let inner = plan.inner;
-    let outer = plan.outer;
+    let Plan {
+        zone,
+        place,
+        inner,
+        outer,
+    } = plan;
     close_up(low, zone.new, zone.old);
     put_ones(low, zone.from, zone.new);
     low[place] = 1;
@@ -169,10 +165,7 @@ fn fallen(q: u16, n: u16, place: u16, by: u16) -> u16
     requires { (q + n ≤ sheet_room) × (place < q + n → by ≤ n) }
     ensures { result ≡ fallen_size place by q n }
 {
-    if place < q + n {
-        return n - by;
-    }
-    n
+    if place < q + n { n - by } else { n }
 }
 
 // The sizes before `to`, fallen so. The loop has no way out and its numbers are narrow, so that the compiler does eight at a time.
@@ -181,10 +174,8 @@ fn shrink(sizes: &mut [u16], to: usize, place: u16, by: u16)
     requires falls { Falls to place by sizes.old }
     ensures { Shrunk to place by sizes.old sizes.new }
 {
-    let mut q = 0;
-    while q < to {
+    for q in 0..to {
         sizes[q] = fallen(q as u16, sizes[q], place, by);
-        q += 1;
     }
 }
 
@@ -205,22 +196,20 @@ pub fn resize_by(sizes: &mut [u16], to: usize, place: usize, new: usize, old: us
     shrink(sizes, to, place as u16, back as u16);
 }
 
-// The node at a place has a constant among its children: the number of an empty conjunction (kind 3) or disjunction (kind 4).
+// The node at a place has a constant among its children. (A child begins where the one before it ends: the size that is read there says.)
 fn has_constant(sheet: &[u16], sizes: &[u16], place: usize) -> bool
     requires measured { Measured sheet.now sizes.now }
     requires place_bound { place < used_in sheet.now }
     ensures { result ≡ false → ConstantFree place (nodes_in sheet.now) }
 {
-    let k = common_nodes::arity_of(common_nodes::wide16(sheet[2 + place]));
-    let mut i = 0;
+    let k = common_nodes::arity_of(usize::from(sheet[2 + place]));
     let mut at = place + 1;
-    while i < k {
+    for _ in 0..k {
         let x = sheet[2 + at];
-        if x == 12288 || x == 16384 {
+        if x == rule_table::TRUE || x == rule_table::FALSE {
             return true;
         }
-        at += common_nodes::wide16(sizes[at]);
-        i += 1;
+        at += usize::from(sizes[at]);
     }
     false
 }
@@ -232,10 +221,7 @@ fn may_wake(sheet: &[u16], sizes: &[u16], place: usize) -> bool
     requires place_bound { place < used_in sheet.now }
     ensures { result ≡ false → ConstantFree place (nodes_in sheet.now) }
 {
-    if common_nodes::is_literal(common_nodes::wide16(sheet[2 + place])) {
-        return false;
-    }
-    has_constant(sheet, sizes, place)
+    !common_nodes::is_literal(usize::from(sheet[2 + place])) && has_constant(sheet, sizes, place)
 }
 
 // The bounds of the places from one up to another that have a constant among their children go back to 1.
@@ -245,11 +231,9 @@ pub fn set_back(sheet: &[u16], sizes: &[u16], low: &mut [u16], from: usize, to: 
     requires from_le_to { (from ≤ to) × (to ≤ used_in sheet.now) }
     ensures { SetBack from to (nodes_in sheet.now) low.old low.new }
 {
-    let mut place = from;
-    while place < to {
+    for place in from..to {
         if may_wake(sheet, sizes, place) {
             low[place] = 1;
         }
-        place += 1;
     }
 }

@@ -11,7 +11,7 @@ returns-then-place-q c =
     let a = c.args in
     sym (pick_true (ltb a.place (a.q + a.n)) (a.n - a.by) a.n (lt-ltb a.place (a.q + a.n) c.if-place-q.true))
 
-pub returns : goal.returns
-returns c =
+pub returns-else-place-q : goal.returns-else-place-q
+returns-else-place-q c =
     let a = c.args in
     sym (pick_false (ltb a.place (a.q + a.n)) (a.n - a.by) a.n (le-ltb a.place (a.q + a.n) c.if-place-q.false))

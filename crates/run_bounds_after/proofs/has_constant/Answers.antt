@@ -9,7 +9,7 @@ use Rattle.search_sizes.specs.TreeHops.{passed_first, hop_within, passed_more}
 use Rattle.search_sizes.proofs.SizeEntries.{sheet_sizes}
 use Rattle.run_bounds_after.proofs.ConstantChildren.{passed_all, child_inside, plain_child}
 use Rattle.run_bounds_after.proofs.has_constant.Goals as goal
-use Rattle.run_bounds_after.proofs.has_constant.Goals.{After-arity_of-k, In-loop-i, Start}
+use Rattle.run_bounds_after.proofs.has_constant.Goals.{After-arity_of-k, In-loop, Start}
 
 -- The place is within the sheet.
 placed : (c : goal.Start) → (c.args.place < sheet_room) × (length c.args.sheet.now ≡ sheet_length)
@@ -19,24 +19,24 @@ counted :
     (c : goal.After-arity_of-k) →
     let a = c.args in
     c.arity_of-k.result ≡ arity (get_or a.sheet.now (2 + a.place) 0)
-counted c = c.arity_of-k.ensures.0 ∙ ap arity c.wide16.ensures.0
+counted c = c.arity_of-k.ensures.0 ∙ ap arity c.from.ensures
 
 -- Child i is there, and begins within the sheet.
 here :
-    (c : goal.In-loop-i) →
+    (c : goal.In-loop) →
     let a = c.args in
-    c.loop-i.i < arity (get_or a.sheet.now (2 + a.place) 0)
-here c = omega (arith, (c.arity_of-k.ensures.0 ∙ ap arity c.wide16.ensures.0), c.loop-i-test.true)
+    c.loop.counter < arity (get_or a.sheet.now (2 + a.place) 0)
+here c = omega (arith, (c.arity_of-k.ensures.0 ∙ ap arity c.from.ensures), c.loop-test.true)
 
-inside : (c : goal.In-loop-i) → c.loop-i.at < sheet_room
+inside : (c : goal.In-loop) → c.loop.at < sheet_room
 inside c =
-    child_inside c.requires.measured.sheet c.requires.place_bound c.loop-i.invariant.here (here c)
+    child_inside c.requires.measured.sheet c.requires.place_bound c.loop.invariant.here (here c)
 
 -- So the table has its size.
 entry :
-    (c : goal.In-loop-i) →
+    (c : goal.In-loop) →
     let a = c.args in
-    c.loop-i.at < length (drop 2 a.sheet.now)
+    c.loop.at < length (drop 2 a.sheet.now)
 entry c =
     omega (arith, inside c, length-drop 2 c.args.sheet.now, c.requires.measured.sheet.whole)
 
@@ -52,39 +52,39 @@ bounds-sheet-place c = let w = placed (goal.at.bounds-sheet-place c).Start in om
 pub overflow_add-at : goal.overflow_add-at
 overflow_add-at c = let w = placed (goal.at.overflow_add-at c).Start in omega arith
 
-pub loop-i-init : goal.loop-i-init
-loop-i-init c = passed_first
+pub loop-init : goal.loop-init
+loop-init c = passed_first
 
 pub overflow_add-x : goal.overflow_add-x
-overflow_add-x c = let w = inside (goal.at.overflow_add-x c).In-loop-i in omega arith
+overflow_add-x c = let w = inside (goal.at.overflow_add-x c).In-loop in omega arith
 
 pub offset_bounds-sheet-at : goal.offset_bounds-sheet-at
-offset_bounds-sheet-at c = let w = inside (goal.at.offset_bounds-sheet-at c).In-loop-i in omega arith
+offset_bounds-sheet-at c = let w = inside (goal.at.offset_bounds-sheet-at c).In-loop in omega arith
 
 pub bounds-sheet-at : goal.bounds-sheet-at
 bounds-sheet-at c =
-    omega (arith, inside (goal.at.bounds-sheet-at c).In-loop-i, (placed (goal.at.bounds-sheet-at c).Start).1)
+    omega (arith, inside (goal.at.bounds-sheet-at c).In-loop, (placed (goal.at.bounds-sheet-at c).Start).1)
 
 pub offset_bounds-sizes-at : goal.offset_bounds-sizes-at
-offset_bounds-sizes-at c = let w = inside (goal.at.offset_bounds-sizes-at c).In-loop-i in omega arith
+offset_bounds-sizes-at c = let w = inside (goal.at.offset_bounds-sizes-at c).In-loop in omega arith
 
 pub bounds-sizes-at : goal.bounds-sizes-at
 bounds-sizes-at c =
-    omega (arith, inside (goal.at.bounds-sizes-at c).In-loop-i, c.requires.measured.long)
+    omega (arith, inside (goal.at.bounds-sizes-at c).In-loop, c.requires.measured.long)
 
-pub overflow_add-at-in-loop-i : goal.overflow_add-at-in-loop-i
-overflow_add-at-in-loop-i c =
-    let w = hop_within (sheet_sizes c.requires.measured) (entry (goal.at.overflow_add-at-in-loop-i c).In-loop-i) c.wide16-at.ensures.0 in
+pub overflow_add-at-in-loop : goal.overflow_add-at-in-loop
+overflow_add-at-in-loop c =
+    let w = hop_within (sheet_sizes c.requires.measured) (entry (goal.at.overflow_add-at-in-loop c).In-loop) c.from-at.ensures in
     omega (arith, length-drop 2 c.args.sheet.now, c.requires.measured.sheet.whole)
 
-pub loop-i-preserved : goal.loop-i-preserved
-loop-i-preserved c =
+pub loop-preserved : goal.loop-preserved
+loop-preserved c =
     let p = c.requires in
-    let there = here (goal.at.loop-i-preserved c).In-loop-i in
-    let none_here = plain_child p.measured.sheet p.place_bound c.loop-i.invariant.here there (λ e. omega arith) (λ e. omega arith) in
-    passed_more (sheet_sizes p.measured) (entry (goal.at.loop-i-preserved c).In-loop-i) c.wide16-at.ensures.0 c.loop-i.invariant none_here
+    let there = here (goal.at.loop-preserved c).In-loop in
+    let none_here = plain_child p.measured.sheet p.place_bound c.loop.invariant.here there (λ e. omega arith) (λ e. omega arith) in
+    passed_more (sheet_sizes p.measured) (entry (goal.at.loop-preserved c).In-loop) c.from-at.ensures c.loop.invariant none_here
 
 pub returns : goal.returns
 returns c e =
-    passed_all c.requires.measured.sheet c.requires.place_bound c.loop-i.invariant.before
+    passed_all c.requires.measured.sheet c.requires.place_bound c.loop.invariant.before
     (omega (arith, counted (goal.at.returns c).After-arity_of-k))

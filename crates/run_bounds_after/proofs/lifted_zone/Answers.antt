@@ -1,5 +1,5 @@
 -- `run_bounds_after::lifted_zone` meets its contract: from child i on, past its inner child j.
-use mathlib.Core.Path.{refl, sym, subst}
+use mathlib.Core.Path.{sym, subst}
 use Prim.Native.Nat.{◌<◌}
 use native.Mathlib.Omega.{arith}
 use lib.ListN.{drop}
@@ -27,4 +27,4 @@ pub returns : goal.returns
 returns c =
     let a = c.args in
     let p = c.requires in
-    zone_11 a.sheet.now p.formed a.redex p.applies p.le_rule.0 p.le_rule.1 refl refl refl c.child_place-at.ensures.0 c.child_place-after.ensures.0
+    zone_11 a.sheet.now p.formed a.redex p.applies p.le_rule.0 p.le_rule.1 c.unmoved.ensures.0 c.unmoved.ensures.1 c.unmoved.ensures.2 c.child_place-at.ensures.0 c.child_place-after.ensures.0

@@ -9,11 +9,11 @@ use Rattle.theory_reading.specs.Spans.{arity_literal}
 use Rattle.run_bounds_after.proofs.ConstantChildren.{passed_all}
 use Rattle.run_bounds_after.proofs.may_wake.Goals as goal
 
-pub returns-then-is_literal : goal.returns-then-is_literal
-returns-then-is_literal c =
+pub returns-else-not-is_literal : goal.returns-else-not-is_literal
+returns-else-not-is_literal c =
     let p = c.requires in
     let a = c.args in
     let it : is_literal (get_or a.sheet.now (2 + a.place) 0) ≡ true =
-    sym (c.is_literal.ensures ∙ ap is_literal c.wide16.ensures.0) ∙ c.if-is_literal.true in
+    sym (c.is_literal.ensures ∙ ap is_literal c.from.ensures) ∙ c.if-not-is_literal.false in
     λ e. passed_all p.measured.sheet p.place_bound {i = 0} (λ j l. absurd (omega arith))
     (omega (arith, arity_literal (get_or a.sheet.now (2 + a.place) 0) it))

@@ -1,10 +1,7 @@
-use mathlib.Core.Path.{◌≡◌, ◌∙◌}
-use Prim.Native.Nat.{◌+◌, ◌<◌}
+use Prim.Native.Nat.{◌≤◌, ◌<◌}
 use native.Mathlib.Omega.{arith}
-use lib.ListN.{length, length-set}
 use Rattle.model.specs.Limits.{sheet_room}
 use Rattle.model.specs.Sheet.{nodes_in}
-use Rattle.run_bounds_after.specs.SetBack.{SetBack}
 use Rattle.run_bounds_after.proofs.BoundsSetBack.{set_kept, set_one}
 use Rattle.run_bounds_after.proofs.set_back.Goals as goal
 use Rattle.run_bounds_after.proofs.set_back.Goals.{In-loop-place, then-may_wake, else-may_wake}
@@ -18,24 +15,19 @@ pub offset_bounds-low-place : goal.offset_bounds-low-place
 offset_bounds-low-place c = let w = inside (goal.at.offset_bounds-low-place c).In-loop-place in omega arith
 
 pub bounds-low-place : goal.bounds-low-place
-bounds-low-place c = omega (arith, inside (goal.at.bounds-low-place c).In-loop-place, c.loop-place.invariant.1)
-
-pub overflow_add-place : goal.overflow_add-place
-overflow_add-place c = let w = inside (goal.at.overflow_add-place c).In-loop-place in omega arith
+bounds-low-place c = omega (arith, inside (goal.at.bounds-low-place c).In-loop-place, c.requires.low_len)
 
 pub loop-place-preserved : goal.loop-place-preserved
 loop-place-preserved c =
     let a = c.args in
     let ns = nodes_in a.sheet.now in
     let old = c.loop-place.low in
-    let v = c.loop-place.invariant in
-    let new : (length c.if-may_wake.low ≡ sheet_room) × SetBack a.from (c.loop-place.place + 1) ns a.low.now c.if-may_wake.low =
+    let so = c.loop-place.invariant in
+    let after : a.from ≤ c.loop-place.place = omega arith in
     elim c.if-may_wake.branch [
       | then-may_wake w ↦ rw w.low-is (
-        length-set old c.loop-place.place 1 ∙ v.1,
-        set_one ns a.low.now old v.2 v.0.0
-            (omega (arith, inside (goal.at.loop-place-preserved c).In-loop-place, v.1)),
-      )
-      | else-may_wake w ↦ rw w.low-is (v.1, set_kept ns a.low.now old v.2 v.0.0 (c.may_wake.ensures w.if-may_wake.false))
-    ] in
-    ((omega (arith, v.0.0), omega arith), new.0, new.1)
+          set_one ns a.low.now old so after
+          (omega (arith, inside (goal.at.loop-place-preserved c).In-loop-place, c.requires.low_len))
+          )
+      | else-may_wake w ↦ rw w.low-is (set_kept ns a.low.now old so after (c.may_wake.ensures w.if-may_wake.false))
+    ]

@@ -11,7 +11,7 @@ use Rattle.model.specs.Sheet.{nodes_in}
 use Rattle.locality.specs.Zones.{tree_end}
 use Rattle.run_bounds_after.proofs.SheetZones.{Unheads, within, rules, child, end_by, zone_1, zone_child, zone_7, zone_9, zone_14, zone_16, zone_17}
 use Rattle.run_bounds_after.proofs.zone_of.Goals as goal
-use Rattle.run_bounds_after.proofs.zone_of.Goals.{After-wide16, In_default, Start}
+use Rattle.run_bounds_after.proofs.zone_of.Goals.{After-from, In_default, Start}
 
 -- The place is one of the nodes, and the rule one of the table's.
 here : (c : goal.Start) → (c.args.redex.place < sheet_room) × (1 ≤ c.args.redex.rule) × (c.args.redex.rule ≤ last_rule)
@@ -23,13 +23,13 @@ here c =
 
 -- Where the tree at the place ends.
 ended :
-    (c : goal.After-wide16) →
+    (c : goal.After-from) →
     let a = c.args in
-    a.redex.place + c.wide16.result ≡ tree_end a.redex.place (nodes_in a.sheet.now)
+    a.redex.place + c.from.result ≡ tree_end a.redex.place (nodes_in a.sheet.now)
 ended c =
     let p = c.requires in
     let a = c.args in
-    ap (λ n. a.redex.place + n) c.wide16.ensures.0 ∙ end_by a.sheet.now p.measured.sheet a.redex p.applies a.sizes.now p.measured.each
+    ap (λ n. a.redex.place + n) c.from.ensures ∙ end_by a.sheet.now p.measured.sheet a.redex p.applies a.sizes.now p.measured.each
 
 -- A rule that takes the head of a child away.
 unheads : (r : ℕ) → (r ≤ 6 → 4 ≤ r) → (7 ≤ r → 13 ≤ r) → r ≤ 15 → (r ≡ 14 → ⊥) → Unheads r
@@ -79,7 +79,7 @@ child_place-requires c =
 pub returns-in-16 : goal.returns-in-16
 returns-in-16 c =
     zone_16 c.args.sheet.now c.requires.measured.sheet c.args.redex c.requires.applies c.in-16.is refl
-    (ended (goal.at.returns-in-16 c).After-wide16) refl
+    (ended (goal.at.returns-in-16 c).After-from) refl
 
 pub returns-in-17 : goal.returns-in-17
 returns-in-17 c =
@@ -88,7 +88,7 @@ returns-in-17 c =
 pub returns-in-1-to-3 : goal.returns-in-1-to-3
 returns-in-1-to-3 c =
     let p = c.requires in
-    zone_1 c.args.sheet.now p.measured.sheet c.args.redex p.applies (omega arith) refl (ended (goal.at.returns-in-1-to-3 c).After-wide16) refl
+    zone_1 c.args.sheet.now p.measured.sheet c.args.redex p.applies (omega arith) refl (ended (goal.at.returns-in-1-to-3 c).After-from) refl
 
 pub returns-in-7-to-8 : goal.returns-in-7-to-8
 returns-in-7-to-8 c =
@@ -99,7 +99,7 @@ returns-in-9-to-10 c =
     let a = c.args in
     let p = c.requires in
     zone_9 a.sheet.now p.measured.sheet a.redex p.applies c.unmoved-in-9-to-10.ensures (omega arith) (omega arith) refl
-    (ended (goal.at.returns-in-9-to-10 c).After-wide16)
+    (ended (goal.at.returns-in-9-to-10 c).After-from)
 
 pub returns-in_default : goal.returns-in_default
 returns-in_default c =
