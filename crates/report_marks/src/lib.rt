@@ -42,12 +42,12 @@ fn mark_of(failed: &[u8; MOST_LITERALS], v: usize) -> u8
     ensures { result ≡ mark_in failed.now v }
 {
     if failed[2 * v + 1] == 1 {
-        return 1;
+        1
+    } else if failed[2 * v] == 1 {
+        2
+    } else {
+        0
     }
-    if failed[2 * v] == 1 {
-        return 2;
-    }
-    0
 }
 
 // The mark of each option, or all 3.
@@ -55,10 +55,8 @@ fn put_marks(failed: &[u8; MOST_LITERALS], contradictory: bool, out: &mut [u8])
     requires { length out.old ≤ most_options }
     ensures { out.new ≡ marks_in contradictory failed.now (length out.old) }
 {
-    let mut v = 0;
-    while v < out.len() {
-        out[v] = if contradictory { 3 } else { mark_of(failed, v) };
-        v += 1;
+    for (v, mark) in out.iter_mut().enumerate() {
+        *mark = if contradictory { 3 } else { mark_of(failed, v) };
     }
 }
 
@@ -76,12 +74,10 @@ fn all_marked(failed: &[u8; MOST_LITERALS], named: &[u8; NAMED_LENGTH], n: usize
     ensures { result
         ≡ all (λ v. not (is_noted named.now v) || is_marked failed.now v) (count_from 0 n) }
 {
-    let mut v = 0;
-    while v < n {
+    for v in 0..n {
         if is_missing(failed, named, v) {
             return false;
         }
-        v += 1;
     }
     true
 }
@@ -105,5 +101,5 @@ pub fn is_complete(sheet: &[u16], named: &[u8; NAMED_LENGTH]) -> bool
         (report_in sheet.now) }
 {
     let mut failed = [0u8; MOST_LITERALS];
-    !propagate(sheet, &mut failed) && all_marked(&failed, named, common_nodes::wide16(sheet[0]))
+    !propagate(sheet, &mut failed) && all_marked(&failed, named, usize::from(sheet[0]))
 }

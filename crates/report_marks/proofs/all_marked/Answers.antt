@@ -30,17 +30,17 @@ pub returns-then-is_missing : goal.returns-then-is_missing
 returns-then-is_missing c =
     let a = c.args in
     let l = c.loop-v-test.true in
-    sym (whole _ _ a.n ∙ c.loop-v.invariant.1 ∙ more _ _ a.n c.loop-v.v l c.is_missing.ensures c.if-is_missing.true)
+    sym (whole _ _ a.n ∙ c.loop-v.invariant ∙ more _ _ a.n c.loop-v.v l c.is_missing.ensures c.if-is_missing.true)
 
 pub loop-v-preserved : goal.loop-v-preserved
 loop-v-preserved c =
     let a = c.args in
     let l = c.loop-v-test.true in
-    (omega arith, c.loop-v.invariant.1 ∙ more _ _ a.n c.loop-v.v l c.is_missing.ensures c.if-is_missing.false)
+    c.loop-v.invariant ∙ more _ _ a.n c.loop-v.v l c.is_missing.ensures c.if-is_missing.false
 
 pub returns : goal.returns
 unfolding all count_from
 returns c =
     let a = c.args in
     let e : a.n - c.loop-v.v ≡ 0 = omega arith in
-    sym (whole _ _ a.n ∙ c.loop-v.invariant.1 ∙ rw e)
+    sym (whole _ _ a.n ∙ c.loop-v.invariant ∙ rw e)

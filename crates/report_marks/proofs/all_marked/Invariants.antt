@@ -7,7 +7,7 @@ use Rattle.model.specs.Propagation.{count_from}
 use Rattle.theory_meaning.specs.FailedLiterals.{is_marked}
 use Rattle.report_marks.specs.Noted.{is_noted}
 use mathlib.Core.Path.{◌≡◌}
-use Prim.Native.Nat.{◌-◌, ◌≤◌}
+use Prim.Native.Nat.{◌-◌}
 use Rattle.report_marks.proofs.all_marked.Given as goal
 
 -- An option is not named, or is in or out.
@@ -19,7 +19,4 @@ abbrev pub left : List ℕ → List ℕ → ℕ → ℕ → Bool
 left t named n v = all (settled t named) (count_from v (n - v))
 
 abbrev pub invariant-loop-v : goal.invariant-loop-v
-invariant-loop-v l = (l.v ≤ l.n) × (left l.failed l.named l.n 0 ≡ left l.failed l.named l.n l.v)
-
-abbrev pub decreases-loop-v : goal.decreases-loop-v
-decreases-loop-v l = l.n - l.v
+invariant-loop-v l = left l.failed l.named l.n 0 ≡ left l.failed l.named l.n l.v

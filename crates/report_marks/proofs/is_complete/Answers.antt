@@ -31,14 +31,14 @@ module _ (s : List ℕ) (named : ℕ → Bool) where
 
 pub all_marked-requires : goal.all_marked-requires
 unfolding options_in
-all_marked-requires c = omega (arith, c.wide16.ensures, c.requires.options)
+all_marked-requires c = omega (arith, c.from.ensures, c.requires.options)
 
 pub returns-then-not-propagate : goal.returns-then-not-propagate
 unfolding options_in
 returns-then-not-propagate c =
     let call = c.propagate in
     let stands = sym call.ensures.value ∙ c.if-not-propagate.true in
-    c.all_marked.ensures ∙ rw c.wide16.ensures.0 (consistent _ _ _ call.ensures.has_report stands)
+    c.all_marked.ensures ∙ rw c.from.ensures (consistent _ _ _ call.ensures.has_report stands)
 
 pub returns-else-not-propagate : goal.returns-else-not-propagate
 returns-else-not-propagate c =

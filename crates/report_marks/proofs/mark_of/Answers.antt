@@ -18,9 +18,9 @@ returns-then-failed-v-eq1-2 c =
     let t = a.failed.now in
     rw (ne_eqb (get_or t (2 * a.v + 1) 0) 1 c.if-failed-v-eq1.false, eq-eqb (get_or t (2 * a.v) 0) 1 c.if-failed-v-eq1-2.true)
 
-pub returns : goal.returns
+pub returns-else-failed-v-eq1-2 : goal.returns-else-failed-v-eq1-2
 unfolding mark_in set_of place_of pick
-returns c =
+returns-else-failed-v-eq1-2 c =
     let a = c.args in
     let t = a.failed.now in
     rw (ne_eqb (get_or t (2 * a.v + 1) 0) 1 c.if-failed-v-eq1.false, ne_eqb (get_or t (2 * a.v) 0) 1 c.if-failed-v-eq1-2.false)

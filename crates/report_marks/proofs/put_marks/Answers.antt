@@ -19,22 +19,22 @@ more b t out v {m} h p e = rw (add-one, take-suc-set out v m h, e, p, marks_more
 -- The mark, where the two ways meet.
 mark : (c : goal.Joined-contradictory) →
     let a = c.args in
-    c.if-contradictory.out ≡ pick a.contradictory 3 (mark_in a.failed.now c.loop-v.v)
+    c.if-contradictory.mark ≡ pick a.contradictory 3 (mark_in a.failed.now c.loop-v.v)
 unfolding pick
 mark c =
     elim c.if-contradictory.branch [
-      | then-contradictory w ↦ w.out-is ∙ rw w.if-contradictory.true
-      | else-contradictory w ↦ w.out-is ∙ w.mark_of.ensures ∙ rw w.if-contradictory.false
+      | then-contradictory w ↦ w.mark-is ∙ rw w.if-contradictory.true
+      | else-contradictory w ↦ w.mark-is ∙ w.mark_of.ensures ∙ rw w.if-contradictory.false
     ]
 
 pub loop-v-init : goal.loop-v-init
 unfolding marks_in count_from
-loop-v-init c = (omega arith, refl, refl)
+loop-v-init c = (refl, refl)
 
 pub loop-v-preserved : goal.loop-v-preserved
 loop-v-preserved c =
     let a = c.args in
     let w = c.loop-v.invariant in
-    let long = length-set c.loop-v.out c.loop-v.v c.if-contradictory.out ∙ w.1 in
-    let l = c.loop-v-test.true in
-    (omega arith, long, more a.contradictory a.failed.now c.loop-v.out c.loop-v.v l (mark (goal.at.loop-v-preserved c).Joined-contradictory) w.2)
+    let long = length-set c.loop-v.out c.loop-v.v c.if-contradictory.mark ∙ w.0 in
+    let l : c.loop-v.v < length c.loop-v.out = omega (arith, w.0) in
+    (long, more a.contradictory a.failed.now c.loop-v.out c.loop-v.v l (mark (goal.at.loop-v-preserved c).Joined-contradictory) w.1)
