@@ -37,12 +37,12 @@ fn put_pair(out: &mut [u8], contents: usize, k: usize, first: usize, count: usiz
 }
 
 // A mark, at a node of the bodies.
-fn put_mark(out: &mut [u8], bodies: usize, next: usize, option: usize, barred: bool)
-    requires { (option < most_options) × (bodies + 2 * next + 2 ≤ length out.old) }
-    ensures { out.new ≡ with_nodes bodies next (leaf (literal option barred) ∷ []) out.old }
+fn put_mark(out: &mut [u8], bodies: usize, next: usize, mark: Mark)
+    requires { (mark.option < most_options) × (bodies + 2 * next + 2 ≤ length out.old) }
+    ensures { out.new ≡ with_nodes bodies next (leaf (literal mark.option mark.barred) ∷ []) out.old }
 {
-    let number = sheet_append::number_of(option as u16, barred);
-    book_bytes::put_word(out, bodies + 2 * next, common_nodes::wide16(number));
+    let number = sheet_append::number_of(mark.option as u16, mark.barred);
+    book_bytes::put_word(out, bodies + 2 * next, usize::from(number));
 }
 
 // A rule whose marks stand already: its any-of, kind 4, before them, and its pair of contents.
@@ -67,8 +67,8 @@ fn read_number(text: &[u8], from: usize, barred: bool) -> Mark
     let number = import_numbers::small_number(&text[from..end]);
     Mark {
         option: number - 1,
-        barred: barred,
-        end: end,
+        barred,
+        end,
     }
 }
 
@@ -79,10 +79,11 @@ fn read_mark(text: &[u8], at: usize) -> Mark
         (mark_of_word most_options (word_at b) ≡ some (literal result.option result.barred))
         × (result.end ≡ at + word_length b) × (result.end ≤ length text.now) }
 {
-    if text[at] == 45 {
-        return read_number(text, at + 1, true);
+    if text[at] == b'-' {
+        read_number(text, at + 1, true)
+    } else {
+        read_number(text, at, false)
     }
-    read_number(text, at, false)
 }
 
 // The clauses from a place on, in one pass over their words: marks as they come, and at each 0 the rule that ends there.
@@ -99,8 +100,9 @@ fn put_clauses(text: &[u8], body: usize, options: usize, rules: usize, out: &mut
     let mut first = 0;
     let mut next = 1;
     let mut at = import_bytes::past_blanks(text, body);
+    // Each turn hops over a word, whose end is read.
     while at < text.len() {
-        if text[at] == 48 {
+        if text[at] == b'0' {
             put_rule(out, contents, bodies, k, first, next);
             k += 1;
             first = next;
@@ -108,10 +110,9 @@ fn put_clauses(text: &[u8], body: usize, options: usize, rules: usize, out: &mut
             at = import_bytes::past_blanks(text, at + 1);
         } else {
             let mark = read_mark(text, at);
-            let end = mark.end;
-            put_mark(out, bodies, next, mark.option, mark.barred);
+            put_mark(out, bodies, next, mark);
             next += 1;
-            at = import_bytes::past_blanks(text, end);
+            at = import_bytes::past_blanks(text, mark.end);
         }
     }
 }

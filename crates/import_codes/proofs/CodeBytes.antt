@@ -6,15 +6,14 @@ use native.Mathlib.Nat.{sub-zero, zero-sub, suc-sub-suc}
 use native.Mathlib.Numerals.{add-one}
 use native.Mathlib.Omega.{arith}
 use borrow.Rule.Slice.PartMut.{mid_of, put_mid}
-use lib.ListN.{length, take, drop, set, replicate}
-use lib.Seq.{take_all}
+use lib.ListN.{length, drop, set, replicate}
 use Rattle.model.specs.Limits.{code_length, most_options}
 use Rattle.model.specs.Propagation.{count_from}
 use Rattle.texts.specs.Decimals.{decimal}
 use Rattle.texts.specs.ClauseBook.{padded, code_of, codes_to}
 use Rattle.theory_forms.specs.Lists.{count_more}
 use Rattle.theory_imports.specs.Codes.{length_codes}
-use Rattle.common_lists.proofs.Lent.{lent_part, lent_back, lent_start}
+use Rattle.common_lists.proofs.Lent.{lent_start}
 use Rattle.common_decimal.specs.Placed.{after, filled}
 use Rattle.common_decimal.proofs.PlacedBytes.{placed_count, placed_buffer}
 
@@ -32,19 +31,15 @@ module _ (v : ℕ) {r : ℕ} {digits : List ℕ} (e : after r digits ≡ filled 
       let left : 13 - suc (length (decimal v)) ≡ 12 - r = omega arith in
       rw left (ap (λ l. 86 ∷ l) (placed_buffer (decimal v) (replicate 12 0) e ∙ ap (λ z. decimal v ++ z) (drop_zeros r 12)))
 
--- They are put after the first byte, and then the letter before them.
+-- They are put after the letter.
 pub code_written :
     (v : ℕ) (old : List ℕ) {r : ℕ} {digits ys : List ℕ} →
     after r digits ≡ filled (decimal v) (replicate 12 0) →
-    length digits ≡ 12 →
     1 ≤ length old →
-    ys ≡ take 12 digits ++ drop 12 (mid_of 1 (length old - 1) old) →
-    set (put_mid 1 (length old - 1) old ys) 0 86 ≡ code_of v ++ drop code_length old
-code_written v [] e twelve h f = absurd (omega arith)
-code_written v (x ∷ old) {digits = digits} {ys = ys} e twelve h f =
-    ap (λ l. set l 0 86) (lent_back 1 (x ∷ old) ys h)
-    ∙ ap (λ l. 86 ∷ l) (f ∙ rw (lent_part 1 (x ∷ old), take_all 12 digits (omega arith)))
-    ∙ ap (λ l. l ++ drop 12 old) (after_letter v e)
+    ys ≡ digits →
+    put_mid 1 12 (set old 0 86) ys ≡ code_of v ++ drop code_length old
+code_written v [] e h f = absurd (omega arith)
+code_written v (x ∷ old) e h f = ap (λ ds. 86 ∷ (ds ++ drop 12 old)) f ∙ ap (λ l. l ++ drop 12 old) (after_letter v e)
 
 -- The codes of the options passed, and the next.
 flatten_more : {A : Type 0} (xss : List (List A)) (xs : List A) → flatten (xss ++ (xs ∷ [])) ≡ flatten xss ++ xs

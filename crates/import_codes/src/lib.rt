@@ -18,8 +18,8 @@ fn put_code(v: usize, out: &mut [u8])
 {
     let mut digits = [0u8; DIGITS_LENGTH];
     common_decimal::put_decimal(v as u64, &mut digits);
-    book_bytes::copy(&digits, DIGITS_LENGTH, &mut out[1..]);
-    out[0] = 86;
+    out[0] = b'V';
+    out[1..CODE_LENGTH].copy_from_slice(&digits);
 }
 
 // The codes of so many options, from 1 on.
@@ -27,10 +27,7 @@ pub fn put_codes(n: usize, out: &mut [u8])
     requires { (n ≤ most_options) × (code_length * n ≤ length out.old) }
     ensures { out.new ≡ flatten (codes_to n) ++ drop (code_length * n) out.old }
 {
-    let mut i = 0;
-    while i < n {
-        let at = CODE_LENGTH * i;
-        put_code(i + 1, &mut out[at..]);
-        i += 1;
+    for i in 0..n {
+        put_code(i + 1, &mut out[CODE_LENGTH * i..]);
     }
 }

@@ -9,5 +9,5 @@ pub returns : goal.returns
 returns c =
     let number = c in
     let a = number.args in
-    node_stored a.bodies a.next (leaf (literal a.option a.barred)) a.out.now
-    (c.wide16.ensures.0 ∙ number.number_of-number.ensures) c.put_word.ensures
+    node_stored a.bodies a.next (leaf (literal a.mark.option a.mark.barred)) a.out.now
+    (c.from.ensures ∙ c.number_of-number.ensures) c.put_word.ensures

@@ -18,15 +18,15 @@ returns-then-text-at-eq45 c =
     let call = c.read_number.ensures in
     (law.0 ∙ call.0, call.1 ∙ law.1, call.2)
 
-pub read_number-requires-2 : goal.read_number-requires-2
-read_number-requires-2 c =
+pub read_number-requires-else-text-at-eq45 : goal.read_number-requires-else-text-at-eq45
+read_number-requires-else-text-at-eq45 c =
     let s = c in
     let law = without_minus s.args.text.now s.args.at c.if-text-at-eq45.false in
     (omega (arith, s.requires.0), ap is_some (sym law.0) ∙ s.requires.1)
 
-pub returns : goal.returns
-returns c =
+pub returns-else-text-at-eq45 : goal.returns-else-text-at-eq45
+returns-else-text-at-eq45 c =
     let s = c in
     let law = without_minus s.args.text.now s.args.at c.if-text-at-eq45.false in
-    let call = c.read_number-2.ensures in
+    let call = c.read_number-else-text-at-eq45.ensures in
     (law.0 ∙ call.0, call.1 ∙ law.1, call.2)

@@ -8,8 +8,4 @@ pub put_decimal-requires : goal.put_decimal-requires
 put_decimal-requires c = omega (arith, three_digits c.args.v (omega arith))
 
 pub returns : goal.returns
-returns c =
-    let copy = c.copy in
-    let call = c.put_decimal in
-    let start = c in
-    code_written start.args.v start.args.out.now call.ensures (omega arith) (omega arith) copy.ensures
+returns c = code_written c.args.v c.args.out.now c.put_decimal.ensures (omega arith) c.copy_from_slice.ensures.after

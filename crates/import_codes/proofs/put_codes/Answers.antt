@@ -12,7 +12,7 @@ use Rattle.import_codes.proofs.put_codes.Goals as goal
 
 pub loop-i-init : goal.loop-i-init
 unfolding codes_to count_from flatten
-loop-i-init c = (omega arith, refl, refl)
+loop-i-init c = (refl, refl)
 
 pub put_code-requires : goal.put_code-requires
 put_code-requires c =
@@ -25,7 +25,7 @@ loop-i-preserved c =
     let n = c in
     let old = n.args.out.now in
     let call = c.put_code in
-    (omega arith, omega arith, codes_more n.loop-i.i old (omega arith) n.loop-i.invariant.2 (omega arith) call.ensures)
+    (omega arith, codes_more n.loop-i.i old (omega arith) n.loop-i.invariant.1 (omega arith) call.ensures)
 
 pub returns : goal.returns
 returns c =
