@@ -8,7 +8,7 @@ use native.Mathlib.Omega.{arith}
 use borrow.Author.Tests.{lt-leb, leb-true, leb-false, eq-eqb, eqb-true, not-true}
 use lib.Dec.{leb}
 use lib.ListN.{length, get_or, drop, length-map}
-use Rattle.model.specs.Base.{pick, is_some, then}
+use Rattle.model.specs.Base.{pick, maybe, is_some, then}
 use Rattle.model.specs.Literal.{Literal}
 use Rattle.model.specs.Forest.{Conn, Forest, size, first, after, literal_at, conjunction_at, literals_only, has_unit}
 use Rattle.model.specs.Code.{leaf, head, encode, kind, children, number_of}
@@ -23,7 +23,7 @@ use Rattle.theory_reading.specs.Stretches.{Stretch, forest_in}
 use Rattle.theory_rewriting.specs.Heads.{Headed}
 use Rattle.theory_rewriting.specs.Children.{code, Group, group_children, child_place, child_room, child_fits, child_literal, child_conjunction, headed_group, group_long, literal_within, literal_fits, literal_number, asked_child, conjunction_group}
 use Rattle.theory_rewriting.specs.Turns.{family_at, last_at, family_applies}
-use Rattle.rule_factor.specs.Walks.{among, unit_of, sharing}
+use Rattle.rule_factor.specs.Walks.{among, unit_at, unit_of, sharing}
 use Rattle.theory_reading.specs.Leaves.{leaf_literal}
 use Rattle.rule_factor.proofs.TreeNumbers.{fits_parts, code-⊕}
 use Rattle.rule_factor.proofs.Here.{unit_past, unit_inner}
@@ -31,9 +31,14 @@ use Rattle.rule_factor.proofs.WalkedTrees.{among_trees, share_trees, groups_tree
 use Rattle.rule_factor.proofs.LiteralRuns.{literals_short, short_literals}
 
 -- A literal's number is not zero.
-leaf_some : (a : Literal) → fits (leaf a) ≡ true → number_of (leaf a) ≡ 0 → ⊥
+pub leaf_some : (a : Literal) → fits (leaf a) ≡ true → number_of (leaf a) ≡ 0 → ⊥
 unfolding is_literal kind
 leaf_some a h e = true_false (sym (leaf_literal a h) ∙ ap is_literal e)
+
+first_or_0 : (b : Bool) (x : ℕ) → maybe 0 (λ y. y) (pick b none (some x)) ≡ pick b 0 x
+unfolding pick maybe
+first_or_0 true x = refl
+first_or_0 false x = refl
 
 -- The numbers of a group, and of the trees after it.
 module _ {l : List ℕ} {c : Conn} {k f : Forest} {z : ℕ} (g : Group l c k f z) where
@@ -56,9 +61,10 @@ module _ {l : List ℕ} {c : Conn} {k f : Forest} {z : ℕ} (g : Group l c k f z
         ∙ rw few at (among_trees a (literal_fits g j e).0 p (code q ++ spell f z) (child_fits g j (omega (arith, literal_within g j e))).0)
 
     unit_is : unit_of j l ≡ pick (has_unit a (first j k)) 0 (number_of (leaf a))
-    unfolding unit_of pick
+    unfolding unit_of unit_at pick
     unit_is =
         rw (group_children g, lt-leb (size k) j (literal_within g j e), literal_number g j e, leaf_literal a (literal_fits g j e).0, among_before)
+        (first_or_0 (has_unit a (first j k)) (number_of (leaf a)))
 
     pub unit_first : has_unit a (first j k) ≡ false → unit_of j l ≡ number_of (leaf a)
     unit_first n = unit_is ∙ pick_false _ 0 (number_of (leaf a)) n

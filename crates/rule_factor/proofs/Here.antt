@@ -1,17 +1,18 @@
 -- What is asked of the first tree of a run of numbers, test by test.
-use mathlib.Core.Bool.{true, false}
+use mathlib.Core.Bool.{Bool, true, false}
 use mathlib.Core.List.{List}
-use mathlib.Core.Path.{◌≡◌}
+use mathlib.Core.Option.{none, some}
+use mathlib.Core.Path.{◌≡◌, refl, sym, ap, ◌∙◌}
 use Prim.Native.Nat.{ℕ, ◌≤◌, ◌<◌}
 use borrow.Author.Tests.{le-leb, lt-leb, lt-ltb, le-ltb, eqb-true, eq-eqb, ne_eqb}
-use lib.Dec.{eqb, ltb}
+use lib.Dec.{eqb, leb, ltb}
 use lib.ListN.{get_or, drop}
-use Rattle.model.specs.Base.{pick}
+use Rattle.model.specs.Base.{pick, maybe}
 use Rattle.model.specs.Code.{kind, children}
-use Rattle.theory_forms.specs.Logic.{and_split}
+use Rattle.theory_forms.specs.Logic.{true_false, none_some, some_inj, and_split}
 use Rattle.theory_forms.specs.Scan.{is_literal}
 use Rattle.theory_reading.specs.Spans.{span, child_at}
-use Rattle.rule_factor.specs.Walks.{unit_place, among, unit_of, shares_here}
+use Rattle.rule_factor.specs.Walks.{unit_place, among, unit_at, unit_of, shares_here}
 
 -- Whether it shares a number.
 module _ (a : ℕ) (l : List ℕ) where
@@ -32,23 +33,70 @@ module _ (a : ℕ) (l : List ℕ) where
 
 -- The literal that is child j of a group, for the first time.
 module _ (j : ℕ) (l : List ℕ) where
+  pub none_past : children (get_or l 0 0) ≤ j → unit_at j l ≡ none
+  unfolding unit_at pick
+  none_past h = rw (le-leb (children (get_or l 0 0)) j h)
+
   pub unit_past : children (get_or l 0 0) ≤ j → unit_of j l ≡ 0
-  unfolding unit_of pick
-  unit_past h = rw (le-leb (children (get_or l 0 0)) j h)
+  unfolding unit_of maybe
+  unit_past h = rw (none_past h)
 
   module _ (h : j < children (get_or l 0 0)) where
+    pub none_inner : is_literal (get_or l (child_at j l) 0) ≡ false → unit_at j l ≡ none
+    unfolding unit_at pick
+    none_inner e = rw (lt-leb (children (get_or l 0 0)) j h, e)
+
     pub unit_inner : is_literal (get_or l (child_at j l) 0) ≡ false → unit_of j l ≡ 0
-    unfolding unit_of pick
-    unit_inner e = rw (lt-leb (children (get_or l 0 0)) j h, e)
+    unfolding unit_of maybe
+    unit_inner e = rw (none_inner e)
 
     module _ (e : is_literal (get_or l (child_at j l) 0) ≡ true) where
+      pub none_again : unit_place (get_or l (child_at j l) 0) j (drop 1 l) < span j (drop 1 l) → unit_at j l ≡ none
+      unfolding unit_at pick among
+      none_again k = rw (lt-leb (children (get_or l 0 0)) j h, e, lt-ltb (unit_place (get_or l (child_at j l) 0) j (drop 1 l)) (span j (drop 1 l)) k)
+
       pub unit_again : unit_place (get_or l (child_at j l) 0) j (drop 1 l) < span j (drop 1 l) → unit_of j l ≡ 0
-      unfolding unit_of pick among
-      unit_again k = rw (lt-leb (children (get_or l 0 0)) j h, e, lt-ltb (unit_place (get_or l (child_at j l) 0) j (drop 1 l)) (span j (drop 1 l)) k)
+      unfolding unit_of maybe
+      unit_again k = rw (none_again k)
+
+      pub some_new : span j (drop 1 l) ≤ unit_place (get_or l (child_at j l) 0) j (drop 1 l) → unit_at j l ≡ some (get_or l (child_at j l) 0)
+      unfolding unit_at pick among
+      some_new k = rw (lt-leb (children (get_or l 0 0)) j h, e, le-ltb (unit_place (get_or l (child_at j l) 0) j (drop 1 l)) (span j (drop 1 l)) k)
 
       pub unit_new : span j (drop 1 l) ≤ unit_place (get_or l (child_at j l) 0) j (drop 1 l) → unit_of j l ≡ get_or l (child_at j l) 0
-      unfolding unit_of pick among
-      unit_new k = rw (lt-leb (children (get_or l 0 0)) j h, e, le-ltb (unit_place (get_or l (child_at j l) 0) j (drop 1 l)) (span j (drop 1 l)) k)
+      unfolding unit_of maybe
+      unit_new k = rw (some_new k)
+
+-- What is found is a literal, and so not 0.
+picked :
+    (past literal again : Bool) {x y : ℕ} →
+    pick past none (pick literal (pick again none (some x)) none) ≡ some y →
+    (literal ≡ true) × (x ≡ y)
+unfolding pick
+picked true b c e = none_some e
+picked false true true e = none_some e
+picked false true false e = (refl, some_inj e)
+picked false false c e = none_some e
+
+literal_some : (x : ℕ) → is_literal x ≡ true → x ≡ 0 → ⊥
+unfolding is_literal kind
+literal_some x e z = true_false (sym e ∙ ap is_literal z)
+
+module _ (j : ℕ) (l : List ℕ) where
+  pub unit_as_none : none ≡ unit_at j l → unit_of j l ≡ 0
+  unfolding unit_of maybe
+  unit_as_none e = rw (sym e)
+
+  pub unit_as_some : {x : ℕ} → some x ≡ unit_at j l → unit_of j l ≡ x
+  unfolding unit_of maybe
+  unit_as_some e = rw (sym e)
+
+  pub unit_not_0 : {x : ℕ} → some x ≡ unit_at j l → unit_of j l ≡ 0 → ⊥
+  unfolding unit_at
+  unit_not_0 {x} e z =
+      let y = get_or l (child_at j l) 0 in
+      let w = picked (leb (children (get_or l 0 0)) j) (is_literal y) (among y j (drop 1 l)) (sym e) in
+      literal_some y w.0 (w.1 ∙ sym (unit_as_some e) ∙ z)
 
 -- A group that shares a number is a conjunction that has it among its children.
 pub shares_group :

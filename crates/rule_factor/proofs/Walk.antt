@@ -1,14 +1,15 @@
 -- Walks over trees on a run of numbers, one tree further at a time.
-use mathlib.Core.Bool.{true, false, ◌&&◌}
+use mathlib.Core.Bool.{Bool, true, false, ◌&&◌}
 use mathlib.Core.List.{List, [], ◌∷◌}
-use mathlib.Core.Path.{◌≡◌, refl, ap, ap₂, ◌∙◌}
+use mathlib.Core.Option.{none, some}
+use mathlib.Core.Path.{◌≡◌, refl, sym, ap, ap₂, ◌∙◌}
 use Prim.Native.Nat.{ℕ, zero, suc, ◌+◌, ◌-◌, ◌≤◌, ◌<◌}
 use native.Mathlib.Omega.{arith}
 use borrow.Author.Tests.{eq-eqb, ne_eqb}
 use lib.Dec.{eqb}
 use lib.ListN.{length, get_or, drop, length-drop, drop_of_length-le}
 use lib.Seq.{drop-drop}
-use Rattle.model.specs.Base.{pick}
+use Rattle.model.specs.Base.{pick, maybe, only_if}
 use Rattle.theory_forms.specs.Logic.{pick_true, pick_false}
 use Rattle.theory_reading.specs.Spans.{span}
 use Rattle.theory_rewriting.specs.Children.{first_left}
@@ -113,7 +114,20 @@ module _ (a n i : ℕ) (l : List ℕ) (h : 0 < n) (k : i < length l) where
   share_further e = share_step a n i l h k ∙ rw e
 
 -- The number of groups where all trees share, and else 0.
+shared_or_0 : (b : Bool) (x : ℕ) → pick b x 0 ≡ maybe 0 (λ y. y) (only_if b x)
+unfolding pick maybe only_if
+shared_or_0 true x = refl
+shared_or_0 false x = refl
+
 module _ (a n : ℕ) (l : List ℕ) where
+  pub sharing_some : {x : ℕ} → some x ≡ only_if (all_share a n l) (groups_in n l) → sharing a n l ≡ x
+  unfolding sharing maybe
+  sharing_some {x} e = shared_or_0 (all_share a n l) (groups_in n l) ∙ rw (sym e)
+
+  pub sharing_none : none ≡ only_if (all_share a n l) (groups_in n l) → sharing a n l ≡ 0
+  unfolding sharing maybe
+  sharing_none e = shared_or_0 (all_share a n l) (groups_in n l) ∙ rw (sym e)
+
   pub sharing_all : all_share a n l ≡ true → sharing a n l ≡ groups_in n l
   unfolding sharing
   sharing_all e = pick_true _ (groups_in n l) 0 e

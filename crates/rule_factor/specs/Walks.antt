@@ -1,6 +1,7 @@
 -- Trees on a run of numbers, one after another: what a walk over them finds, tests and counts.
 use Rattle.std.specs.Prelude.{Bool, true, ◌&&◌, ◌||◌, List, [], ◌∷◌, ℕ, zero, suc, ◌+◌, eqb, leb, ltb, get_or, drop}
-use Rattle.model.specs.Base.{pick}
+use Rattle.std.proofs.Math.Option.{Option, none, some}
+use Rattle.model.specs.Base.{pick, maybe}
 use Rattle.model.specs.Code.{kind, children}
 use Rattle.theory_forms.specs.Scan.{is_literal}
 use Rattle.theory_reading.specs.Spans.{span, child_at}
@@ -23,11 +24,15 @@ unit_place a n l = walk (λ s later. pick (eqb (get_or s 0 0) a) 0 (span 1 s + l
 unfoldable pub among : ℕ → ℕ → List ℕ → Bool
 among a n l = ltb (unit_place a n l) (span n l)
 
--- The number of child j of a group, where it is a literal's that is no earlier child; and else 0.
-unfoldable pub unit_of : ℕ → List ℕ → ℕ
-unit_of j l =
+-- The number of child j of a group, where it is a literal's that is no earlier child.
+unfoldable pub unit_at : ℕ → List ℕ → Option ℕ
+unit_at j l =
     let x = get_or l (child_at j l) 0 in
-    pick (leb (children (get_or l 0 0)) j) 0 (pick (is_literal x) (pick (among x j (drop 1 l)) 0 x) 0)
+    pick (leb (children (get_or l 0 0)) j) none (pick (is_literal x) (pick (among x j (drop 1 l)) none (some x)) none)
+
+-- The same, and else 0.
+unfoldable pub unit_of : ℕ → List ℕ → ℕ
+unit_of j l = maybe 0 (λ x. x) (unit_at j l)
 
 -- The first tree is a literal, or a conjunction that has the number among its children; and so each of so many.
 unfoldable pub shares_here : ℕ → List ℕ → Bool

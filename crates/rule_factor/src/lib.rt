@@ -2,50 +2,48 @@
 #![tactic(auto)]
 
 ghost use Rattle.std.specs.Prelude.{◌≡◌, ◌≤◌, ◌<◌, length, get_or};
-ghost use Rattle.model.specs.Base.{is_some};
+ghost use Rattle.common_lists.specs.Given.{given};
+ghost use Rattle.model.specs.Base.{is_some, only_if};
 ghost use Rattle.model.specs.Limits.{sheet_room};
 ghost use Rattle.model.specs.Code.{children};
 ghost use Rattle.model.specs.Rules.{rewrite};
 ghost use Rattle.theory_reading.specs.Spans.{child_at};
 ghost use Rattle.theory_reading.specs.Stretches.{Stretch, forest_in};
 ghost use Rattle.theory_rewriting.specs.Heads.{Headed};
-ghost use Rattle.rule_factor.specs.Walks.{group_here, sharing, shares_here, unit_of, unit_place};
+ghost use Rattle.rule_factor.specs.Walks.{all_share, group_here, groups_in, shares_here, unit_at, unit_place};
 
-// The place of the first of so many trees that is the literal itself, or the place after them where none is.
+// The place of the first of so many trees that is the literal itself, or the place after them where none is. The place hops over a tree at a
+// time, whose size is read, so that it is counted beside the trees.
 pub fn unit_place(part: &[u16], trees: usize, literal: u16) -> usize
     requires { length part.now ≤ sheet_room }
     ensures { (result ≡ unit_place literal trees part.now) × (result ≤ length part.now) }
 {
     let mut at = 0;
-    let mut left = trees;
-    while 0 < left && at < part.len() {
-        if part[at] == literal {
+    for passed in 0..trees {
+        if at == part.len() || part[at] == literal {
             return at;
         }
         at += common_nodes::span_of(&part[at..], 1);
-        left -= 1;
     }
     at
 }
 
-// The literal that is child j of the group, where no earlier child is the same literal; and else 0.
-pub fn unit_of(part: &[u16], j: usize) -> u16
+// The literal that is child j of the group, where no earlier child is the same literal.
+pub fn unit_of(part: &[u16], j: usize) -> Option<u16>
     requires in_bounds { (1 ≤ length part.now) × (length part.now ≤ sheet_room) }
     requires part_in_bounds { j < children (get_or part.now 0 0) → child_at j part.now < length part.now }
-    ensures { result ≡ unit_of j part.now }
+    ensures { given result ≡ unit_at j part.now }
 {
-    if common_nodes::children_of(common_nodes::wide16(part[0])) <= j {
-        return 0;
+    if common_nodes::children_of(usize::from(part[0])) <= j {
+        return None;
     }
     let before = common_nodes::span_of(&part[1..], j);
     let x = part[1 + before];
-    if !common_nodes::is_literal(common_nodes::wide16(x)) {
-        return 0;
+    if common_nodes::is_literal(usize::from(x)) && before <= unit_place(&part[1..], j, x) {
+        Some(x)
+    } else {
+        None
     }
-    if unit_place(&part[1..], j, x) < before {
-        return 0;
-    }
-    x
 }
 
 // The first tree is a literal, or a conjunction that has the literal among its children.
@@ -53,44 +51,44 @@ fn shares(part: &[u16], literal: u16) -> bool
     requires { (1 ≤ length part.now) × (length part.now ≤ sheet_room) }
     ensures { result ≡ shares_here literal part.now }
 {
-    let x = common_nodes::wide16(part[0]);
-    if common_nodes::is_literal(x) {
-        return true;
-    }
-    if common_nodes::kind_of(x) != 3 {
-        return false;
-    }
-    let m = common_nodes::children_of(x);
-    unit_place(&part[1..], m, literal) < common_nodes::span_of(&part[1..], m)
+    let x = usize::from(part[0]);
+    common_nodes::is_literal(x)
+        || common_nodes::kind_of(x) == 3
+            && {
+                let m = common_nodes::children_of(x);
+                unit_place(&part[1..], m, literal) < common_nodes::span_of(&part[1..], m)
+            }
 }
 
 // One for a group, nothing for a literal.
 fn group_of(x: u16) -> u16
     ensures { (result ≡ group_here x) × (result ≤ 1) }
 {
-    if common_nodes::is_literal(common_nodes::wide16(x)) {
-        return 0;
+    if common_nodes::is_literal(usize::from(x)) {
+        0
+    } else {
+        1
     }
-    1
 }
 
-// The number of groups among so many trees, where each shares the literal; and else 0.
-pub fn sharing_groups(part: &[u16], trees: usize, literal: u16) -> u16
+// The number of groups among so many trees, where each shares the literal.
+pub fn sharing_groups(part: &[u16], trees: usize, literal: u16) -> Option<u16>
     requires { (length part.now ≤ sheet_room) × (trees ≤ sheet_room) }
-    ensures { result ≡ sharing literal trees part.now }
+    ensures { given result ≡ only_if (all_share literal trees part.now) (groups_in trees part.now) }
 {
     let mut groups = 0;
     let mut at = 0;
-    let mut left = trees;
-    while 0 < left && at < part.len() {
+    for passed in 0..trees {
+        if at == part.len() {
+            return Some(groups);
+        }
         if !shares(&part[at..], literal) {
-            return 0;
+            return None;
         }
         groups += group_of(part[at]);
         at += common_nodes::span_of(&part[at..], 1);
-        left -= 1;
     }
-    groups
+    Some(groups)
 }
 
 // Whether the rule applies to the first tree of the stretch, whose head is right for it. Before child i only literals may stand,
@@ -104,13 +102,15 @@ pub fn applies(part: &[u16], i: usize, j: usize, at: usize) -> bool
     if at != 1 + i {
         return false;
     }
-    if common_nodes::kind_of(common_nodes::wide16(part[at])) != 3 {
+    if common_nodes::kind_of(usize::from(part[at])) != 3 {
         return false;
     }
-    let literal = unit_of(&part[at..], j);
-    if literal == 0 {
+    let Some(literal) = unit_of(&part[at..], j) else {
         return false;
+    };
+    let k = common_nodes::children_of(usize::from(part[0]));
+    match sharing_groups(&part[1..], k, literal) {
+        Some(groups) => 2 <= groups,
+        None => false,
     }
-    let k = common_nodes::children_of(common_nodes::wide16(part[0]));
-    2 <= sharing_groups(&part[1..], k, literal)
 }

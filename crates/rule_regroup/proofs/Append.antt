@@ -1,11 +1,12 @@
 -- Numbers written into a list one after another: nothing yet, one more, and more after them.
 use mathlib.Core.List.{List, [], ◌∷◌, ◌++◌, append-nil, append_assoc}
 use mathlib.Core.Path.{◌≡◌, refl, sym, ap, ◌∙◌}
-use Prim.Native.Nat.{ℕ, ◌+◌, ◌≤◌, ◌<◌}
+use Prim.Native.Nat.{ℕ, ◌+◌, ◌-◌, ◌≤◌, ◌<◌}
 use native.Mathlib.Numerals.{add-one}
 use native.Mathlib.Omega.{arith}
-use lib.ListN.{length, get_or, take, set, length-append, length-set}
-use lib.Seq.{take-suc, take-suc-set}
+use borrow.Rule.Slice.PartMut.{put_mid, post_of}
+use lib.ListN.{length, take, set, length-append, length-set}
+use lib.Seq.{take_at, take-suc-set, length-take-le}
 use Rattle.rule_regroup.specs.Regrouped.{Appended}
 
 pub appended_none : (from : ℕ) (l : List ℕ) → Appended [] from l l from
@@ -30,18 +31,18 @@ appended_both {p} {q} {from} {old = old} a b =
 pub appended_as : {p q : List ℕ} {from to : ℕ} {old new : List ℕ} → p ≡ q → Appended p from old new to → Appended q from old new to
 appended_as e a = rw e at a
 
--- One number more of a run that is copied.
-pub appended_more :
-    (src : List ℕ) (i x from : ℕ) {old new : List ℕ} →
-    i < length src →
-    from + i < length new →
-    x ≡ get_or src i 0 →
-    Appended (take i src) from old new (from + i) →
-    Appended (take (i + 1) src) from old (set new (from + i) x) (from + (i + 1))
-appended_more src i x from {old} {new} h k e a =
-    let next : take i src ++ (x ∷ []) ≡ take (i + 1) src = rw (add-one, take-suc src i 0, e) in
-    let far : from + i + 1 ≡ from + (i + 1) = omega arith in
-    rw far at (appended_as next (appended_both a (appended_one x (from + i) new k)))
+-- A run that is put in place of as many numbers.
+pub appended_put :
+    (src : List ℕ) (from : ℕ) (l : List ℕ) →
+    from + length src ≤ length l →
+    Appended src from l (put_mid from (from + length src - from) l src) (from + length src)
+appended_put src from l h =
+    let k = from + length src - from in
+    let long : length (take from l ++ src) ≡ from + length src = omega (arith, length-append (take from l) src, length-take-le from l (omega arith)) in
+    record {
+      end = refl;
+      front = ap (take (from + length src)) (sym (append_assoc (take from l) src (post_of from k l))) ∙ take_at (take from l ++ src) (post_of from k l) (from + length src) long;
+    }
 
 -- Three numbers.
 pub appended_three :

@@ -25,7 +25,7 @@ use Rattle.theory_rewriting.specs.Turns.{family_at, last_at, family_turn}
 use Rattle.rule_factor.specs.Walks.{unit_of, sharing, all_share}
 use Rattle.rule_factor.proofs.TreeNumbers.{code-⊕, code_lit, code_node}
 use Rattle.rule_factor.proofs.WalkedTrees.{share_trees}
-use Rattle.rule_factor.proofs.Asking.{group_numbers, group_fits, unit_first, Applied, applied, sharing_trees, kids_numbers, rule_applies}
+use Rattle.rule_factor.proofs.Asking.{leaf_some, group_numbers, group_fits, unit_first, Applied, applied, sharing_trees, kids_numbers, rule_applies}
 use Rattle.rule_regroup.specs.Regrouped.{factored, tree_after, step_after}
 use Rattle.model.specs.Limits.{kind_factor}
 use Rattle.rule_regroup.proofs.KeptTrees.{units_trees, groups_kept}
@@ -119,6 +119,9 @@ module _ {l : List ℕ} (s : Stretch l) (h : Headed 14 l) where
 
     unit_fitting : fits (leaf p.literal) ≡ true
     unit_fitting = (literal_fits (conjunction_group s h i p.conjunction) j p.there).0
+
+    pub unit_there : unit_of j (drop (child_at i l) l) ≡ 0 → ⊥
+    unit_there z = leaf_some p.literal unit_fitting (sym unit_number ∙ z)
 
     groups_number : sharing (number_of (leaf p.literal)) (size h.children) (drop 1 l) ≡ groups h.children
     groups_number =

@@ -12,18 +12,19 @@ ghost use Rattle.rule_factor.specs.Walks.{among, all_share, shares_here};
 ghost use Rattle.rule_regroup.specs.Regrouped.{Appended, factored, gathered, kept, less_unit, step_after, tree_after};
 
 use common_limits::SHEET_ROOM;
+use rule_table::{FALSE, TRUE};
+
+// The number of a conjunction of two.
+const BOTH: u16 = TRUE + 2;
 
 // Numbers are written into a list from a place on; the place after them.
 fn copy(out: &mut [u16], at: usize, from: &[u16]) -> usize
     requires { at + length from.now ≤ length out.old }
     ensures { Appended from.now at out.old out.new result }
 {
-    let mut i = 0;
-    while i < from.len() {
-        out[at + i] = from[i];
-        i += 1;
-    }
-    at + i
+    let end = at + from.len();
+    out[at..end].copy_from_slice(from);
+    end
 }
 
 // The conjunction without its first child that is the literal.
@@ -34,7 +35,7 @@ fn copy_group(out: &mut [u16], at: usize, part: &[u16], literal: u16) -> usize
     requires part_in_bounds { at + length (less_unit literal part.now) ≤ length out.old }
     ensures { Appended (less_unit literal part.now) at out.old out.new result }
 {
-    let m = common_nodes::children_of(common_nodes::wide16(part[0]));
+    let m = common_nodes::children_of(usize::from(part[0]));
     let p = 1 + rule_factor::unit_place(&part[1..], m, literal);
     let end = common_nodes::child_at(part, m);
     out[at] = part[0] - 1;
@@ -50,17 +51,18 @@ fn copy_tree(out: &mut [u16], at: usize, part: &[u16], literal: u16, groups: boo
     ensures { Appended (kept groups literal part.now) at out.old out.new result }
 {
     let x = part[0];
-    if common_nodes::is_literal(common_nodes::wide16(x)) {
+    if common_nodes::is_literal(usize::from(x)) {
         if groups {
-            return at;
+            at
+        } else {
+            out[at] = x;
+            at + 1
         }
-        out[at] = x;
-        return at + 1;
+    } else if groups {
+        copy_group(out, at, part, literal)
+    } else {
+        at
     }
-    if groups {
-        return copy_group(out, at, part, literal);
-    }
-    at
 }
 
 // The same of so many trees.
@@ -79,17 +81,18 @@ fn copy_trees(
 {
     let mut to = at;
     let mut from = 0;
-    let mut left = trees;
-    while 0 < left && from < part.len() {
+    for passed in 0..trees {
+        if from == part.len() {
+            return to;
+        }
         to = copy_tree(out, to, &part[from..], literal, groups);
         from += common_nodes::span_of(&part[from..], 1);
-        left -= 1;
     }
     to
 }
 
-// The new tree: the literals, then a conjunction of the literal and the disjunction of what is left of the groups. (12290 is the
-// number of a conjunction of two, 16384 that of a disjunction of none, and below 20480 no node is the root.)
+// The new tree: the literals, then a conjunction of the literal and the disjunction of what is left of the groups. (Below 20480 no node
+// is the root.)
 fn build(out: &mut [u16], part: &[u16], trees: usize, literal: u16, groups: u16) -> usize
     requires in_bounds { (1 ≤ length part.now) × (length part.now ≤ sheet_room) }
     requires groups_lt_kind_factor { (groups < kind_factor) × (groups ≤ get_or part.now 0 0) × (get_or part.now 0 0 < 20480) }
@@ -99,9 +102,9 @@ fn build(out: &mut [u16], part: &[u16], trees: usize, literal: u16, groups: u16)
 {
     out[0] = part[0] + 1 - groups;
     let to = copy_trees(out, 1, &part[1..], trees, literal, false);
-    out[to] = 12290;
+    out[to] = BOTH;
     out[to + 1] = literal;
-    out[to + 2] = 16384 + groups;
+    out[to + 2] = FALSE + groups;
     copy_trees(out, to + 3, &part[1..], trees, literal, true)
 }
 
@@ -113,10 +116,10 @@ fn write_tree(out: &mut [u16], part: &[u16], i: usize, j: usize) -> usize
     requires part_in_bounds { length part.now ≤ length out.old }
     ensures { Appended (tree_after i j part.now) 0 out.old out.new result }
 {
-    let k = common_nodes::children_of(common_nodes::wide16(part[0]));
+    let k = common_nodes::children_of(usize::from(part[0]));
     let at = common_nodes::child_at(part, i);
-    let literal = rule_factor::unit_of(&part[at..], j);
-    let groups = rule_factor::sharing_groups(&part[1..], k, literal);
+    let literal = rule_factor::unit_of(&part[at..], j).unwrap();
+    let groups = rule_factor::sharing_groups(&part[1..], k, literal).unwrap();
     build(out, part, k, literal, groups)
 }
 
@@ -129,7 +132,7 @@ fn write_step(out: &mut [u16], part: &[u16], i: usize, j: usize) -> usize
     ensures { Appended (step_after i j part.now) 0 out.old out.new result }
 {
     let to = write_tree(out, part, i, j);
-    let k = common_nodes::children_of(common_nodes::wide16(part[0]));
+    let k = common_nodes::children_of(usize::from(part[0]));
     let end = common_nodes::child_at(part, k);
     let used = sheet_shifts::live_count(part);
     copy(out, to, &part[end..used])

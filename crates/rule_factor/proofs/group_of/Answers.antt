@@ -9,13 +9,13 @@ use Rattle.rule_factor.proofs.group_of.Goals as goal
 use Rattle.rule_factor.proofs.group_of.Goals.{After-is_literal}
 
 seen : (c : goal.After-is_literal) → c.is_literal.result ≡ is_literal c.args.x
-seen c = c.is_literal.ensures ∙ ap is_literal c.wide16.ensures.0
+seen c = c.is_literal.ensures ∙ ap is_literal c.from.ensures
 
 pub returns-then-is_literal : goal.returns-then-is_literal
 unfolding group_here
 returns-then-is_literal c =
     rw (pick_true {A = ℕ} _ 0 1 (sym (seen (goal.at.returns-then-is_literal c).After-is_literal) ∙ c.if-is_literal.true)) (refl, omega arith)
 
-pub returns : goal.returns
+pub returns-else-is_literal : goal.returns-else-is_literal
 unfolding group_here
-returns c = rw (pick_false {A = ℕ} _ 0 1 (sym (seen (goal.at.returns c).After-is_literal) ∙ c.if-is_literal.false)) (refl, omega arith)
+returns-else-is_literal c = rw (pick_false {A = ℕ} _ 0 1 (sym (seen (goal.at.returns-else-is_literal c).After-is_literal) ∙ c.if-is_literal.false)) (refl, omega arith)

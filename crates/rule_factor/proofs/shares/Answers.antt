@@ -1,6 +1,7 @@
 -- `rule_factor::shares` meets its contract, by the tests on the first number and the place of the literal among the children.
 use mathlib.Core.Path.{◌≡◌, sym, ap, ap₂, ◌∙◌}
 use native.Mathlib.Omega.{arith}
+use borrow.Author.Tests.{ne_eqb}
 use lib.Dec.{ltb}
 use lib.ListN.{length, get_or, length-drop}
 use Rattle.common_lists.proofs.Lent.{lent_part}
@@ -13,30 +14,33 @@ use Rattle.rule_factor.proofs.shares.Goals.{After-children_of-m, After-is_litera
 
 -- What is read of the first number.
 literal : (c : goal.After-is_literal) → c.is_literal.result ≡ is_literal (get_or c.args.part.now 0 0)
-literal c = c.is_literal.ensures ∙ ap is_literal c.wide16-x.ensures.0
+literal c = c.is_literal.ensures ∙ ap is_literal c.from-x.ensures
 
 kinded : (c : goal.After-kind_of) → c.kind_of.result ≡ kind (get_or c.args.part.now 0 0)
-kinded c = c.kind_of.ensures ∙ ap kind c.wide16-x.ensures.0
+kinded c = c.kind_of.ensures ∙ ap kind c.from-x.ensures
 
 counted : (c : goal.After-children_of-m) → c.children_of-m.result ≡ children (get_or c.args.part.now 0 0)
-counted c = c.children_of-m.ensures ∙ ap children c.wide16-x.ensures.0
+counted c = c.children_of-m.ensures ∙ ap children c.from-x.ensures
 
 pub returns-then-is_literal : goal.returns-then-is_literal
-returns-then-is_literal c = sym (shares_literal _ _ (sym (literal (goal.at.returns-then-is_literal c).After-is_literal) ∙ c.if-is_literal.true))
+returns-then-is_literal c =
+    c.if-is_literal.true
+    ∙ sym (shares_literal _ _ (sym (literal (goal.at.returns-then-is_literal c).After-is_literal) ∙ c.if-is_literal.true))
 
-pub returns-then-kind_of-ne3 : goal.returns-then-kind_of-ne3
-returns-then-kind_of-ne3 c =
-    sym (shares_not _ _ (sym (literal (goal.at.returns-then-kind_of-ne3 c).After-is_literal) ∙ c.if-is_literal.false)
-    (λ e. c.if-kind_of-ne3.true (kinded (goal.at.returns-then-kind_of-ne3 c).After-kind_of ∙ e)))
+pub returns-else-kind_of-eq3 : goal.returns-else-kind_of-eq3
+returns-else-kind_of-eq3 c =
+    ne_eqb c.kind_of.result 3 c.if-kind_of-eq3.false
+    ∙ sym (shares_not _ _ (sym (literal (goal.at.returns-else-kind_of-eq3 c).After-is_literal) ∙ c.if-is_literal.false)
+    (λ e. c.if-kind_of-eq3.false (kinded (goal.at.returns-else-kind_of-eq3 c).After-kind_of ∙ e)))
 
 pub span_of-requires : goal.span_of-requires
 span_of-requires c =
     let l = c.args.part.now in
     omega (arith, counted (goal.at.span_of-requires c).After-children_of-m, children_small (get_or l 0 0), ap length (lent_part 1 l), length-drop 1 l)
 
-pub returns : goal.returns
-returns c =
+pub returns-then-kind_of-eq3 : goal.returns-then-kind_of-eq3
+returns-then-kind_of-eq3 c =
     let l = c.args.part.now in
-    rw (counted (goal.at.returns c).After-children_of-m, lent_part 1 l) at (ap₂ ltb c.unit_place.ensures.0 c.span_of.ensures.0)
-    ∙ sym (shares_among _ l (sym (literal (goal.at.returns c).After-is_literal) ∙ c.if-is_literal.false)
-    (sym (kinded (goal.at.returns c).After-kind_of) ∙ c.if-kind_of-ne3.false))
+    rw (counted (goal.at.returns-then-kind_of-eq3 c).After-children_of-m, lent_part 1 l) at (ap₂ ltb c.unit_place.ensures.0 c.span_of.ensures.0)
+    ∙ sym (shares_among _ l (sym (literal (goal.at.returns-then-kind_of-eq3 c).After-is_literal) ∙ c.if-is_literal.false)
+    (sym (kinded (goal.at.returns-then-kind_of-eq3 c).After-kind_of) ∙ c.if-kind_of-eq3.true))

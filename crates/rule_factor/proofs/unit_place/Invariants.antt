@@ -1,13 +1,11 @@
 -- `rule_factor::unit_place` meets its contract. Invariant: no tree passed is the literal, so the place is that among the trees left, from the
 -- present place on.
-use Prim.Native.Nat.{◌+◌, ◌≤◌}
+use Prim.Native.Nat.{◌+◌, ◌-◌, ◌≤◌}
 use mathlib.Core.Path.{◌≡◌}
 use lib.ListN.{length, drop}
 use Rattle.rule_factor.specs.Walks.{unit_place}
 use Rattle.rule_factor.proofs.unit_place.Given as goal
 
-abbrev pub invariant-loop-left : goal.invariant-loop-left
-invariant-loop-left l = (l.at ≤ length l.part) × (unit_place l.literal l.trees l.part ≡ l.at + unit_place l.literal l.left (drop l.at l.part))
-
-abbrev pub decreases-loop-left : goal.decreases-loop-left
-decreases-loop-left l = l.left
+abbrev pub invariant-loop-passed : goal.invariant-loop-passed
+invariant-loop-passed l =
+    (l.at ≤ length l.part) × (unit_place l.literal l.trees l.part ≡ l.at + unit_place l.literal (l.trees - l.passed) (drop l.at l.part))

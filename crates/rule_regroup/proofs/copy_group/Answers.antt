@@ -19,7 +19,7 @@ use Rattle.rule_regroup.proofs.copy_group.Goals.{After-child_at-end, After-child
 -- The number of children.
 counted : (c : goal.After-children_of-m) →
     c.children_of-m.result ≡ children (get_or c.args.part.now 0 0)
-counted c = c.children_of-m.ensures ∙ ap children c.wide16.ensures.0
+counted c = c.children_of-m.ensures ∙ ap children c.from.ensures
 
 -- The numbers before the literal, and after it.
 abbrev before_it : goal.After-child_at-end → List ℕ
@@ -38,7 +38,7 @@ parts : (c : goal.After-child_at-end) → let a = c.args in
     less_unit a.literal a.part.now ≡ (get_or a.part.now 0 0 - 1) ∷ (before_it c ++ after_it c)
 parts c =
     let a = c.args in
-    less_unit_parts a.literal a.part.now (c.children_of-m.ensures ∙ ap children c.wide16.ensures.0)
+    less_unit_parts a.literal a.part.now (c.children_of-m.ensures ∙ ap children c.from.ensures)
     (rw (lent_part 1 c.args.part.now) at c.unit_place-p.ensures.0) c.child_at-end.ensures.0
 
 -- There is room for them, and the literal stands before the end.
@@ -51,8 +51,8 @@ inside c =
     let l = c.args.part.now in
     let m = children (get_or l 0 0) in
     let u : c.unit_place-p.result ≡ unit_place c.args.literal m (drop 1 l) =
-    rw (c.children_of-m.ensures ∙ ap children c.wide16.ensures.0) at (rw (lent_part 1 c.args.part.now) at c.unit_place-p.ensures.0) in
-    let e : c.child_at-end.result ≡ child_at m l = rw (c.children_of-m.ensures ∙ ap children c.wide16.ensures.0) at c.child_at-end.ensures.0 in
+    rw (c.children_of-m.ensures ∙ ap children c.from.ensures) at (rw (lent_part 1 c.args.part.now) at c.unit_place-p.ensures.0) in
+    let e : c.child_at-end.result ≡ child_at m l = rw (c.children_of-m.ensures ∙ ap children c.from.ensures) at c.child_at-end.ensures.0 in
     omega (arith, ltb-true (unit_place c.args.literal m (drop 1 l)) (span m (drop 1 l)) c.requires.part_value_2)
 
 pub child_at-end-requires : goal.child_at-end-requires

@@ -15,7 +15,7 @@ use Rattle.rule_regroup.proofs.copy_tree.Goals.{After-is_literal, Else-groups, T
 -- What is read of the first number.
 literal : (c : goal.After-is_literal) →
     c.is_literal.result ≡ is_literal (get_or c.args.part.now 0 0)
-literal c = c.is_literal.ensures ∙ ap is_literal c.wide16.ensures.0
+literal c = c.is_literal.ensures ∙ ap is_literal c.from.ensures
 
 -- What is kept, in the two cases where there is something.
 unit : (c : goal.Else-groups) → let a = c.args in
@@ -23,14 +23,14 @@ unit : (c : goal.Else-groups) → let a = c.args in
 unfolding pick
 unit c =
     let a = c.args in
-    kept_is a.groups a.literal a.part.now (sym (c.is_literal.ensures ∙ ap is_literal c.wide16.ensures.0) ∙ c.if-is_literal.true) c.if-groups.false
+    kept_is a.groups a.literal a.part.now (sym (c.is_literal.ensures ∙ ap is_literal c.from.ensures) ∙ c.if-is_literal.true) c.if-groups.false
 
 group : (c : goal.Then-groups-2) → let a = c.args in
     kept a.groups a.literal a.part.now ≡ less_unit a.literal a.part.now
 unfolding pick
 group c =
     let a = c.args in
-    kept_is a.groups a.literal a.part.now (sym (c.is_literal.ensures ∙ ap is_literal c.wide16.ensures.0) ∙ c.if-is_literal.false) c.if-groups-2.true
+    kept_is a.groups a.literal a.part.now (sym (c.is_literal.ensures ∙ ap is_literal c.from.ensures) ∙ c.if-is_literal.false) c.if-groups-2.true
 
 pub returns-then-groups : goal.returns-then-groups
 unfolding pick
@@ -42,11 +42,11 @@ returns-then-groups c =
 pub bounds-out-at : goal.bounds-out-at
 bounds-out-at c = omega (arith, ap length (unit (goal.at.bounds-out-at c).Else-groups), c.requires.part_in_bounds)
 
-pub returns-then-is_literal : goal.returns-then-is_literal
-returns-then-is_literal c =
+pub returns-else-groups : goal.returns-else-groups
+returns-else-groups c =
     let a = c.args in
-    appended_as (sym (unit (goal.at.returns-then-is_literal c).Else-groups))
-    (appended_one _ a.at a.out.now (omega (arith, ap length (unit (goal.at.returns-then-is_literal c).Else-groups), c.requires.part_in_bounds)))
+    appended_as (sym (unit (goal.at.returns-else-groups c).Else-groups))
+    (appended_one _ a.at a.out.now (omega (arith, ap length (unit (goal.at.returns-else-groups c).Else-groups), c.requires.part_in_bounds)))
 
 pub copy_group-requires : goal.copy_group-requires
 copy_group-requires c =
@@ -62,9 +62,9 @@ copy_group-requires c =
 pub returns-then-groups-2 : goal.returns-then-groups-2
 returns-then-groups-2 c = appended_as (sym (group (goal.at.returns-then-groups-2 c).Then-groups-2)) c.copy_group.ensures
 
-pub returns : goal.returns
+pub returns-else-groups-2 : goal.returns-else-groups-2
 unfolding pick
-returns c =
+returns-else-groups-2 c =
     let a = c.args in
     appended_as (sym (kept_is a.groups a.literal a.part.now
-    (sym (literal (goal.at.returns c).After-is_literal) ∙ c.if-is_literal.false) c.if-groups-2.false)) (appended_none _ _)
+    (sym (literal (goal.at.returns-else-groups-2 c).After-is_literal) ∙ c.if-is_literal.false) c.if-groups-2.false)) (appended_none _ _)

@@ -16,10 +16,10 @@ use Rattle.rule_regroup.proofs.write_step.Goals.{After-child_at-end, After-child
 
 -- The number of children, and where the last one ends.
 counted : (c : goal.After-children_of-k) → c.children_of-k.result ≡ children (get_or c.args.part.now 0 0)
-counted c = c.children_of-k.ensures ∙ ap children c.wide16.ensures.0
+counted c = c.children_of-k.ensures ∙ ap children c.from.ensures
 
 ended : (c : goal.After-child_at-end) → let l = c.args.part.now in c.child_at-end.result ≡ child_at (children (get_or l 0 0)) l
-ended c = rw (c.children_of-k.ensures ∙ ap children c.wide16.ensures.0) at c.child_at-end.ensures.0
+ended c = rw (c.children_of-k.ensures ∙ ap children c.from.ensures) at c.child_at-end.ensures.0
 
 pub bounds-part-0 : goal.bounds-part-0
 bounds-part-0 c = stretch_some c.requires.stretch c.requires.headed

@@ -1,17 +1,27 @@
 -- `rule_regroup::write_tree` meets its contract: the literal and the number of groups are found, and the tree is built of them.
-use mathlib.Core.Path.{◌≡◌, ap, ◌∙◌}
+use Rattle.std.specs.Prelude as P
+use Rattle.std.specs.Option.{IsSome}
+use mathlib.Core.Bool.{true}
+use mathlib.Core.List.{List}
+use mathlib.Core.Path.{◌≡◌, refl, sym, ap, ◌∙◌}
+use Prim.Native.Nat.{ℕ}
 use native.Mathlib.Omega.{arith}
 use lib.ListN.{get_or, drop, length-drop}
+use Rattle.common_lists.specs.Given.{given}
 use Rattle.common_lists.proofs.Lent.{lent_part, lent_at}
+use Rattle.model.specs.Base.{only_if}
 use Rattle.model.specs.Code.{children}
+use Rattle.theory_forms.specs.Logic.{none_some}
 use Rattle.theory_reading.specs.Spans.{child_at}
 use Rattle.theory_rewriting.specs.Children.{Child, applied_child}
-use Rattle.rule_factor.specs.Walks.{unit_of, sharing}
+use Rattle.rule_factor.specs.Walks.{unit_at, unit_of, all_share, groups_in, sharing}
+use Rattle.rule_factor.proofs.Here.{unit_as_none, unit_as_some}
+use Rattle.rule_factor.proofs.Walk.{sharing_some}
 use Rattle.rule_factor.proofs.Asking.{Applied, conjunction_room}
 use Rattle.rule_regroup.specs.Regrouped.{tree_after}
-use Rattle.rule_regroup.proofs.Turning.{rule_found, all_shared, groups_few, tree_room, step_room}
+use Rattle.rule_regroup.proofs.Turning.{rule_found, unit_there, all_shared, groups_few, tree_room, step_room}
 use Rattle.rule_regroup.proofs.write_tree.Goals as goal
-use Rattle.rule_regroup.proofs.write_tree.Goals.{After-children_of-k, After-sharing_groups-groups, After-unit_of-literal, Start}
+use Rattle.rule_regroup.proofs.write_tree.Goals.{After-children_of-k, After-sharing_groups, After-unit_of, After-unwrap-groups, After-unwrap-literal, Start}
 
 -- What the rule asks of the children holds, and child i is there.
 applies : (c : goal.Start) → Applied c.args.i c.args.j c.requires.headed.children
@@ -23,17 +33,39 @@ child c = applied_child c.requires.stretch c.requires.headed c.args.j (omega ari
 -- The number of children, the literal, and the number of groups.
 counted : (c : goal.After-children_of-k) →
     c.children_of-k.result ≡ children (get_or c.args.part.now 0 0)
-counted c = c.children_of-k.ensures ∙ ap children c.wide16.ensures.0
+counted c = c.children_of-k.ensures ∙ ap children c.from.ensures
 
-found : (c : goal.After-unit_of-literal) → let a = c.args in
-    c.unit_of-literal.result ≡ unit_of a.j (drop (child_at a.i a.part.now) a.part.now)
+met : (c : goal.After-unit_of) → let a = c.args in
+    given c.unit_of.result ≡ unit_at a.j (drop (child_at a.i a.part.now) a.part.now)
+met c =
+    let l = c.args.part.now in
+    rw (lent_at c.child_at-at.result l c.child_at-at.ensures.0) at c.unit_of.ensures
+
+found : (c : goal.After-unwrap-literal) → let a = c.args in
+    c.unwrap-literal.result ≡ unit_of a.j (drop (child_at a.i a.part.now) a.part.now)
 found c =
     let l = c.args.part.now in
-    rw (lent_at c.child_at-at.result l c.child_at-at.ensures.0) at c.unit_of-literal.ensures
+    sym (unit_as_some _ _
+    (sym (ap given c.unwrap-literal.ensures) ∙ rw (lent_at c.child_at-at.result l c.child_at-at.ensures.0) at c.unit_of.ensures))
 
-grouped : (c : goal.After-sharing_groups-groups) → let a = c.args in
-    c.sharing_groups-groups.result ≡ sharing c.unit_of-literal.result c.children_of-k.result (drop 1 a.part.now)
-grouped c = rw (lent_part 1 c.args.part.now) at c.sharing_groups-groups.ensures
+told : (c : goal.After-sharing_groups) → let l = drop 1 c.args.part.now in let a = c.unwrap-literal.result in let n = c.children_of-k.result in
+    given c.sharing_groups.result ≡ only_if (all_share a n l) (groups_in n l)
+told c = rw (lent_part 1 c.args.part.now) at c.sharing_groups.ensures
+
+grouped : (c : goal.After-unwrap-groups) → let a = c.args in
+    c.unwrap-groups.result ≡ sharing c.unwrap-literal.result c.children_of-k.result (drop 1 a.part.now)
+grouped c =
+    sym (sharing_some _ _ _ (sym (ap given c.unwrap-groups.ensures) ∙ rw (lent_part 1 c.args.part.now) at c.sharing_groups.ensures))
+
+-- Neither is missing, where the rule applies.
+some_unit : (o : P.Option ℕ) (j : ℕ) (l : List ℕ) → given o ≡ unit_at j l → (unit_of j l ≡ 0 → ⊥) → IsSome o
+some_unit P.None j l e h = absurd (h (unit_as_none j l e))
+some_unit (P.Some x) j l e h = refl
+
+some_groups : (o : P.Option ℕ) (a n : ℕ) (l : List ℕ) → given o ≡ only_if (all_share a n l) (groups_in n l) → all_share a n l ≡ true → IsSome o
+unfolding only_if
+some_groups P.None a n l e h = none_some (rw h at e)
+some_groups (P.Some x) a n l e h = refl
 
 pub bounds-part-0 : goal.bounds-part-0
 bounds-part-0 c = let k = child (goal.at.bounds-part-0 c).Start in omega arith
@@ -41,22 +73,34 @@ bounds-part-0 c = let k = child (goal.at.bounds-part-0 c).Start in omega arith
 pub child_at-at-requires : goal.child_at-at-requires
 child_at-at-requires c = let k = child (goal.at.child_at-at-requires c).Start in omega arith
 
-pub unit_of-literal-requires : goal.unit_of-literal-requires
-unit_of-literal-requires c =
+pub unit_of-requires : goal.unit_of-requires
+unit_of-requires c =
     let l = c.args.part.now in
     let room = conjunction_room c.requires.stretch c.requires.headed c.args.i c.args.j
-    (applies (goal.at.unit_of-literal-requires c).Start).conjunction in
+    (applies (goal.at.unit_of-requires c).Start).conjunction in
     let child_there = c.child_at-at in
     rw (lent_at child_there.result l child_there.ensures.0) (record {
       in_bounds = (room.0, omega (arith, length-drop (child_at c.args.i l) l, c.requires.stretch.short));
       part_in_bounds = room.1;
     })
 
-pub sharing_groups-groups-requires : goal.sharing_groups-groups-requires
-sharing_groups-groups-requires c =
+pub unwrap-literal-requires : goal.unwrap-literal-requires
+unwrap-literal-requires c =
+    some_unit c.unit_of.result _ _ (met (goal.at.unwrap-literal-requires c).After-unit_of)
+    (unit_there c.requires.stretch c.requires.headed (applies (goal.at.unwrap-literal-requires c).Start))
+
+pub unwrap-groups-requires : goal.unwrap-groups-requires
+unwrap-groups-requires c =
     let l = c.args.part.now in
-    let k = child (goal.at.sharing_groups-groups-requires c).Start in
-    rw (lent_part 1 l) (omega (arith, length-drop 1 l), omega (arith, counted (goal.at.sharing_groups-groups-requires c).After-children_of-k))
+    some_groups c.sharing_groups.result _ _ _ (told (goal.at.unwrap-groups-requires c).After-sharing_groups)
+    (rw (found (goal.at.unwrap-groups-requires c).After-unwrap-literal, counted (goal.at.unwrap-groups-requires c).After-children_of-k)
+    (all_shared c.requires.stretch c.requires.headed (applies (goal.at.unwrap-groups-requires c).Start)))
+
+pub sharing_groups-requires : goal.sharing_groups-requires
+sharing_groups-requires c =
+    let l = c.args.part.now in
+    let k = child (goal.at.sharing_groups-requires c).Start in
+    rw (lent_part 1 l) (omega (arith, length-drop 1 l), omega (arith, counted (goal.at.sharing_groups-requires c).After-children_of-k))
 
 pub build-requires : goal.build-requires
 unfolding tree_after
@@ -67,8 +111,8 @@ build-requires c =
     let tree = tree_room c.requires.stretch h p in
     let whole = step_room c.requires.stretch h p in
     rw (
-      grouped (goal.at.build-requires c).After-sharing_groups-groups,
-      found (goal.at.build-requires c).After-unit_of-literal,
+      grouped (goal.at.build-requires c).After-unwrap-groups,
+      found (goal.at.build-requires c).After-unwrap-literal,
       counted (goal.at.build-requires c).After-children_of-k,
     )
     (record {
@@ -82,7 +126,7 @@ pub returns : goal.returns
 unfolding tree_after
 returns c =
     rw (
-      grouped (goal.at.returns c).After-sharing_groups-groups,
-      found (goal.at.returns c).After-unit_of-literal,
+      grouped (goal.at.returns c).After-unwrap-groups,
+      found (goal.at.returns c).After-unwrap-literal,
       counted (goal.at.returns c).After-children_of-k,
     ) at c.build.ensures
