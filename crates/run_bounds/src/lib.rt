@@ -50,11 +50,11 @@ fn try_at(sheet: &[u16], sizes: &[u16], low: &mut [u16], rule: usize, place: usi
     ensures raised { Raised sheet.now sizes.now low.old low.new }
     ensures rule_bound_2 { spot_of rule place result ≡ none → rule < get_or low.new place 0 }
 {
-    if rule < common_nodes::wide16(low[place]) {
+    if rule < usize::from(low[place]) {
         return None;
     }
     let from = 2 + place;
-    let head = common_nodes::wide16(sheet[from]);
+    let head = usize::from(sheet[from]);
     if common_nodes::is_literal(head) {
         low[place] = PAST_ALL;
         return None;
@@ -131,7 +131,7 @@ fn least_place(
     ensures result_value { next_of result ≡ least_place rule (nodes_in sheet.now) }
     ensures come_to_2 { ComeTo (floor_of (rule + 1) result) (place_of result) sheet.now sizes.now low.new }
 {
-    let used = common_nodes::wide16(sheet[1]);
+    let used = usize::from(sheet[1]);
     let mut place = first_waiting(low, rule, start, used);
     while place < used {
         if let Some(spot) = try_at(sheet, sizes, low, rule, place) {
@@ -184,7 +184,7 @@ fn least_rule(sheet: &[u16], sizes: &[u16], place: usize, start: usize, limit: u
         × ((s : ℕ) → start ≤ s → s < result → none ≡ least_i s place (decode (drop place (nodes_in sheet.now)))) }
 {
     let from = 2 + place;
-    let head = common_nodes::wide16(sheet[from]);
+    let head = usize::from(sheet[from]);
     if common_nodes::is_literal(head) {
         return limit;
     }
@@ -210,7 +210,7 @@ fn raise(sheet: &[u16], sizes: &[u16], low: &mut [u16], place: usize, limit: usi
         × (result ≤ get_or low.new place 0) }
     ensures raised { Raised sheet.now sizes.now low.old low.new }
 {
-    let start = common_nodes::wide16(low[place]);
+    let start = usize::from(low[place]);
     if limit <= start {
         return limit;
     }

@@ -2,6 +2,7 @@
 use mathlib.Core.Bool.{Bool, true, false}
 use mathlib.Core.List.{List}
 use mathlib.Core.Logic.{⊎_elim}
+use mathlib.Core.Option.{some, none}
 use mathlib.Core.Path.{◌≡◌, sym, ap, subst, ◌∙◌}
 use Prim.Native.Nat.{ℕ, ◌+◌, ◌≤◌, ◌<◌}
 use native.Mathlib.Omega.{arith}
@@ -21,7 +22,7 @@ use Rattle.theory_reading.specs.Flat.{spell, Fits, fits_lit, fits_tree}
 use Rattle.theory_reading.specs.Stretches.{Stretch, forest_in}
 use Rattle.theory_rewriting.specs.Heads.{Headed}
 use Rattle.theory_rewriting.specs.Children.{headed_group, group_children, first_left, child_stands, child_fits}
-use Rattle.search_sizes.specs.FirstApplying.{FirstInner, first_here, first_past}
+use Rattle.search_sizes.specs.FirstApplying.{FirstInner}
 use Rattle.rule_factor.specs.Walks.{unit_place, unit_of, sharing}
 use Rattle.rule_factor.proofs.Here.{unit_past, unit_inner, unit_again, unit_new}
 use Rattle.rule_factor.proofs.Asking.{applies_nothing, applies_other, applies_shared, conjunction_there, conjunction_room}
@@ -128,6 +129,11 @@ module _ {l : List ℕ} (s : Stretch l) (h : Headed 14 l) (i : ℕ) (there : (i 
   pub past_none : (j : ℕ) → children (get_or l (1 + i) 0) ≤ j → is_some (rewrite 14 i j (forest_in l)) ≡ false
   past_none j past = fails_if (is_some (rewrite 14 i j (forest_in l))) (λ t. omega (arith, (common j t).within))
 
+  pub past_arity : (j : ℕ) → arity (get_or l (1 + i) 0) ≤ j → is_some (rewrite 14 i j (forest_in l)) ≡ false
+  past_arity j past =
+      fails_if (is_some (rewrite 14 i j (forest_in l)))
+      (λ t. let w = common j t in omega (arith, w.within, conjunction_arity (get_or l (1 + i) 0) w.conjunction))
+
   module _ (groups : ℕ) (held : List ℕ) (filter : Filter groups l held) (j : ℕ) where
     pub few_none : groups < 2 → is_some (rewrite 14 i j (forest_in l)) ≡ false
     few_none few =
@@ -159,15 +165,20 @@ module _ {l : List ℕ} (s : Stretch l) (h : Headed 14 l) (i : ℕ) (there : (i 
           let room = conjunction_room s h i j (conjunction_there s h i j there.0 conj).1 in
           omega (arith, room.1 (rw (first_left at l) within), length-drop at l)
 
-  -- The answer: an inner child with which the rule applies, or one more than there are.
+  -- The answer: an inner child with which the rule applies, of those that the number of child i announces, or none.
   module _ {m : ℕ} (counted : m ≡ arity (get_or l (1 + i) 0)) where
     pub found_first :
         (j : ℕ) →
-        j ≤ m →
+        j < m →
         is_some (rewrite 14 i j (forest_in l)) ≡ true →
         ((k : ℕ) → k < j → is_some (rewrite 14 i k (forest_in l)) ≡ false) →
-        FirstInner 14 i j l
-    found_first j few t none = first_here (omega (arith, child_arity s h i there.0 there.1)) none t
+        FirstInner 14 i (some j) l
+    found_first j few t none_before = (omega (arith, child_arity s h i there.0 there.1), record { before = none_before; there = t })
 
-    pub found_none : ((k : ℕ) → k < m + 1 → is_some (rewrite 14 i k (forest_in l)) ≡ false) → FirstInner 14 i (m + 1) l
-    found_none none = first_past (omega (arith, child_arity s h i there.0 there.1)) none
+    -- With those past the last it never does.
+    pub found_none : ((k : ℕ) → k < m → is_some (rewrite 14 i k (forest_in l)) ≡ false) → FirstInner 14 i none l
+    found_none none_below k few =
+        ⊎_elim
+        (λ e. none_below k (ltb-true k m e))
+        (λ e. past_arity k (omega (arith, counted, ltb-false k m e)))
+        (either (ltb k m))

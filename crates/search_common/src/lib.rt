@@ -2,6 +2,7 @@
 #![tactic(auto)]
 
 ghost use Rattle.std.specs.Prelude.{◌≡◌, ◌+◌, ◌≤◌, ◌<◌, length, get_or, drop};
+ghost use Rattle.common_lists.specs.Given.{given};
 ghost use Rattle.model.specs.Limits.{sheet_room};
 ghost use Rattle.model.specs.Code.{children};
 ghost use Rattle.theory_reading.specs.Spans.{child_at};
@@ -23,12 +24,11 @@ fn note(held: &mut [u16], x: usize, groups: u16)
         × (groups ≤ sheet_room) }
     ensures { Noted x groups held.old held.new }
 {
-    if !common_nodes::is_literal(x) {
-        return;
-    }
-    let k = x - KIND_FACTOR;
-    if held[k] == groups {
-        held[k] = groups + 1;
+    if common_nodes::is_literal(x) {
+        let k = x - KIND_FACTOR;
+        if held[k] == groups {
+            held[k] = groups + 1;
+        }
     }
 }
 
@@ -42,16 +42,17 @@ fn hold(part: &[u16], sizes: &[u16], at: usize, groups: u16, held: &mut [u16]) -
     ensures value { result ≡ groups + group_here (get_or part.now at 0) }
     ensures carried { Carried groups result (drop at part.now) held.old held.new }
 {
-    let head = common_nodes::wide16(part[at]);
+    let head = usize::from(part[at]);
     if common_nodes::is_literal(head) {
         return groups;
     }
-    let mut left = common_nodes::children_of(head);
     let mut from = at + 1;
-    while 0 < left && from < part.len() {
-        note(held, common_nodes::wide16(part[from]), groups);
-        from += common_nodes::wide16(sizes[from]);
-        left -= 1;
+    for _ in 0..common_nodes::children_of(head) {
+        if from == part.len() {
+            break;
+        }
+        note(held, usize::from(part[from]), groups);
+        from += usize::from(sizes[from]);
     }
     groups + 1
 }
@@ -66,14 +67,15 @@ fn hold_all(part: &[u16], sizes: &[u16], held: &mut [u16]) -> u16
 {
     let mut groups = 0;
     let mut at = 1;
-    let mut left = common_nodes::children_of(common_nodes::wide16(part[0]));
-    while 0 < left && at < part.len() {
-        if 3 < common_nodes::kind_of(common_nodes::wide16(part[at])) {
+    for _ in 0..common_nodes::children_of(usize::from(part[0])) {
+        if at == part.len() {
+            break;
+        }
+        if 3 < common_nodes::kind_of(usize::from(part[at])) {
             return 0;
         }
         groups = hold(part, sizes, at, groups, held);
-        at += common_nodes::wide16(sizes[at]);
-        left -= 1;
+        at += usize::from(sizes[at]);
     }
     groups
 }
@@ -87,7 +89,7 @@ fn may_share(held: &[u16], x: usize, groups: u16) -> bool
 }
 
 // The first literal with which the rule applies, where only those are tried that the table leaves.
-fn first_sifted(part: &[u16], sizes: &[u16], i: usize, held: &[u16], groups: u16) -> usize
+fn first_sifted(part: &[u16], sizes: &[u16], i: usize, held: &[u16], groups: u16) -> Option<usize>
     requires stretch { Stretch part.now }
     requires headed { Headed 14 part.now }
     requires i_bound { (i < children (get_or part.now 0 0))
@@ -95,35 +97,32 @@ fn first_sifted(part: &[u16], sizes: &[u16], i: usize, held: &[u16], groups: u16
     requires sizes_of { SizesOf part.now sizes.now }
     requires held_len { (length held.now ≡ literal_numbers)
         × Filter groups part.now held.now }
-    ensures { FirstInner 14 i result part.now }
+    ensures { FirstInner 14 i (given result) part.now }
 {
     let at = 1 + i;
-    let head = common_nodes::wide16(part[at]);
-    let m = common_nodes::arity_of(head);
+    let head = usize::from(part[at]);
     if groups < 2 || common_nodes::kind_of(head) != 3 {
-        return m + 1;
+        return None;
     }
-    let mut j = 0;
     let mut from = at + 1;
-    while j < m {
-        let x = common_nodes::wide16(part[from]);
+    for j in 0..common_nodes::children_of(head) {
+        let x = usize::from(part[from]);
         if may_share(held, x, groups) && rule_factor::applies(part, i, j, at) {
-            return j;
+            return Some(j);
         }
-        from += common_nodes::wide16(sizes[from]);
-        j += 1;
+        from += usize::from(sizes[from]);
     }
-    m + 1
+    None
 }
 
 // The same with a table of its own: for each literal, how many conjunctions from the first on hold it.
-fn first_held(part: &[u16], sizes: &[u16], i: usize) -> usize
+fn first_held(part: &[u16], sizes: &[u16], i: usize) -> Option<usize>
     requires stretch { Stretch part.now }
     requires headed { Headed 14 part.now }
     requires i_bound { (i < children (get_or part.now 0 0))
         × (1 + i ≡ child_at i part.now) }
     requires sizes_of { SizesOf part.now sizes.now }
-    ensures { FirstInner 14 i result part.now }
+    ensures { FirstInner 14 i (given result) part.now }
 {
     let mut held = [0u16; LITERAL_NUMBERS];
     let groups = hold_all(part, sizes, &mut held);
@@ -131,36 +130,33 @@ fn first_held(part: &[u16], sizes: &[u16], i: usize) -> usize
 }
 
 // The first literal with which the rule applies, where each is tried.
-fn first_tried(part: &[u16], i: usize) -> usize
+fn first_tried(part: &[u16], i: usize) -> Option<usize>
     requires stretch { Stretch part.now }
     requires headed { Headed 14 part.now }
     requires i_bound { (i < children (get_or part.now 0 0))
         × (1 + i ≡ child_at i part.now) }
-    ensures { FirstInner 14 i result part.now }
+    ensures { FirstInner 14 i (given result) part.now }
 {
-    let m = common_nodes::arity_of(common_nodes::wide16(part[1 + i]));
-    let mut j = 0;
-    while j <= m {
+    for j in 0..common_nodes::arity_of(usize::from(part[1 + i])) {
         if rule_factor::applies(part, i, j, 1 + i) {
-            return j;
+            return Some(j);
         }
-        j += 1;
     }
-    m + 1
+    None
 }
 
-// The first inner child of child i with which the rule applies, where each child before child i is one number; one more than there
-// are where there is none. A table costs more than it saves where the tree is small, or where child i has no children.
-pub fn first_common(part: &[u16], sizes: &[u16], i: usize) -> usize
+// The first inner child of child i with which the rule applies, where each child before child i is one number. A table costs more than it saves where the tree is small, or where child i has no children.
+pub fn first_common(part: &[u16], sizes: &[u16], i: usize) -> Option<usize>
     requires stretch { Stretch part.now }
     requires headed { Headed 14 part.now }
     requires i_bound { (i < children (get_or part.now 0 0))
         × (1 + i ≡ child_at i part.now) }
     requires sizes_of { SizesOf part.now sizes.now }
-    ensures { FirstInner 14 i result part.now }
+    ensures { FirstInner 14 i (given result) part.now }
 {
     if sizes[0] < 64 || sizes[1 + i] < 2 {
-        return first_tried(part, i);
+        first_tried(part, i)
+    } else {
+        first_held(part, sizes, i)
     }
-    first_held(part, sizes, i)
 }

@@ -18,7 +18,7 @@ use Rattle.model.specs.Rules.{rewrite}
 use Rattle.model.specs.Strategy.{redex, least_j, least_i}
 use Rattle.theory_forms.specs.Logic.{true_false, and_split, fails_if, is_some_of}
 use Rattle.theory_forms.specs.Scan.{is_literal}
-use Rattle.theory_reading.specs.Spans.{arity, arity_literal, span, span_none, span_more, child_at}
+use Rattle.theory_reading.specs.Spans.{arity_literal, span, span_none, span_more, child_at}
 use Rattle.theory_reading.specs.Stretches.{Stretch, forest_in}
 use Rattle.theory_rewriting.specs.Heads.{Headed, headed_least}
 use Rattle.theory_rewriting.specs.Bounds.{node_alone}
@@ -30,8 +30,7 @@ use Rattle.rule_least.proofs.Dropping.{drops_constant}
 use Rattle.rule_lift.specs.Asked.{others_literal}
 use Rattle.rule_lift.proofs.Lifting.{conjunction_there, applies_others}
 use Rattle.rule_factor.proofs.Asking.{applies_late}
-use Rattle.search_common.proofs.FactorChildren.{child_arity}
-use Rattle.search_sizes.specs.FirstApplying.{FirstChild, FirstInner, first_here, first_past}
+use Rattle.search_sizes.specs.FirstApplying.{FirstChild, FirstInner}
 use Rattle.search_place.proofs.SearchLevels.{j_found, j_none, i_found, i_none, i_never}
 use Rattle.search_place.proofs.InnerSearch.{Beside, flat_found, flat_none}
 use Rattle.search_place.specs.Sought.{Sought}
@@ -46,31 +45,35 @@ module _ {r : ℕ} {l : List ℕ} (s : Stretch l) (h : Headed r l) where
   children_counted = rw h.forest (group_children (headed_group s h))
 
   -- A rule that looks at the children and into none of them.
-  module _ (low : Beside r) {i : ℕ} (w : FirstChild r i l) where
-    pub first_found : i < children (get_or l 0 0) → (p : ℕ) → some (redex r p i 0) ≡ least_i r p (forest_in l)
-    first_found lt p =
-        i_found r p (forest_in l) i (omega (arith, children_counted)) (flat_found s h i (inl low) (w.there lt) p)
-        (λ k m. flat_none s h k (inl low) (w.before k m) p)
+  module _ (low : Beside r) where
+    pub first_found : {i : ℕ} → FirstChild r (some i) l → (p : ℕ) → some (redex r p i 0) ≡ least_i r p (forest_in l)
+    first_found {i} w p =
+        i_found r p (forest_in l) i (omega (arith, w.0, children_counted)) (flat_found s h i (inl low) w.1.there p)
+        (λ k m. flat_none s h k (inl low) (w.1.before k m) p)
 
-    pub first_none : children (get_or l 0 0) ≤ i → (p : ℕ) → none ≡ least_i r p (forest_in l)
-    first_none le p =
-        i_none r p (forest_in l) (early low) (λ k m. flat_none s h k (inl low) (w.before k (omega (arith, children_counted))) p)
+    pub first_none : FirstChild r none l → (p : ℕ) → none ≡ least_i r p (forest_in l)
+    first_none w p =
+        i_none r p (forest_in l) (early low) (λ k m. flat_none s h k (inl low) (w k (omega (arith, children_counted))) p)
       where
         early : Beside r → r ≤ 15
         early (inl h) = omega arith
         early (inr h) = omega arith
 
   -- Rules 7 and 8: a single child.
-  pub single_first : 7 ≤ r → r ≤ 8 → children (get_or l 0 0) ≡ 1 → FirstChild r 0 l
+  pub single_first : 7 ≤ r → r ≤ 8 → children (get_or l 0 0) ≡ 1 → FirstChild r (some 0) l
   single_first a b e =
-      let count = group_children (headed_group s h) in
-      first_here (omega arith) (λ k m. absurd (omega arith))
-      (sym (applies_single s h 0 0 a b refl (omega (arith, count))) ∙ eq-eqb (size h.children) 1 (sym count ∙ e))
+      let count = group_children (headed_group s h) in (
+        omega arith,
+        record {
+          before = λ k m. absurd (omega arith);
+          there = sym (applies_single s h 0 0 a b refl (omega (arith, count))) ∙ eq-eqb (size h.children) 1 (sym count ∙ e);
+        },
+      )
 
-  pub single_none : 7 ≤ r → r ≤ 8 → {n : ℕ} → n ≡ children (get_or l 0 0) → (n ≡ 1 → ⊥) → FirstChild r n l
-  single_none a b c n =
+  pub single_none : 7 ≤ r → r ≤ 8 → (children (get_or l 0 0) ≡ 1 → ⊥) → FirstChild r none l
+  single_none a b n k m =
       let count = group_children (headed_group s h) in
-      first_past c (λ k m. sym (applies_single s h k 0 a b refl (omega (arith, count))) ∙ ne_eqb (size h.children) 1 (λ e. n (c ∙ count ∙ e)))
+      sym (applies_single s h k 0 a b refl (omega (arith, count))) ∙ ne_eqb (size h.children) 1 (λ e. n (count ∙ e))
 
   -- Rules 1 to 6: child i is the constant that the rule looks for.
   pub constant_asked : r ≤ 6 → {x : ℕ} → x ≡ constant_for r → Sought r x x l
@@ -107,14 +110,11 @@ module _ {l : List ℕ} (s : Stretch l) (h : Headed 14 l) (i : ℕ) {at : ℕ} (
   late_none n p =
       j_none 14 p (forest_in l) i (λ j m. sym (applies_late s h i j there (λ q. n (e ∙ q))))
 
-  module _ {j : ℕ} (w : FirstInner 14 i j l) {m : ℕ} (count : m ≡ arity (get_or l at 0)) where
-    pub inner_found : j ≤ m → (p : ℕ) → some (redex 14 p i j) ≡ least_j 14 p i (forest_in l)
-    inner_found le p =
-        j_found 14 p (forest_in l) i j (w.there (omega (arith, count, child_arity s h i there e))) w.before
+  pub inner_found : {j : ℕ} → FirstInner 14 i (some j) l → (p : ℕ) → some (redex 14 p i j) ≡ least_j 14 p i (forest_in l)
+  inner_found {j} w p = j_found 14 p (forest_in l) i j w.1.there w.1.before
 
-    pub inner_over : m < j → (p : ℕ) → none ≡ least_j 14 p i (forest_in l)
-    inner_over lt p =
-        j_none 14 p (forest_in l) i (λ k q. w.before k (omega (arith, count, child_arity s h i there e)))
+  pub inner_none : FirstInner 14 i none l → (p : ℕ) → none ≡ least_j 14 p i (forest_in l)
+  inner_none w p = j_none 14 p (forest_in l) i w
 
 -- Rule 13: so many trees as there are numbers, where these are literals.
 span_literals : (i : ℕ) (xs : List ℕ) → i ≤ length xs → all is_literal (take i xs) ≡ true → span i xs ≡ i

@@ -2,6 +2,7 @@
 #![tactic(auto)]
 
 ghost use Rattle.std.specs.Prelude.{◌≡◌, ◌⊎◌, ℕ, ◌≤◌, ◌<◌, length, get_or, drop};
+ghost use Rattle.common_lists.specs.Given.{given};
 ghost use Rattle.model.specs.Limits.{last_rule};
 ghost use Rattle.model.specs.Code.{decode, children};
 ghost use Rattle.model.specs.Strategy.{least_j, least_i};
@@ -40,19 +41,16 @@ fn least_lifted(part: &[u16], sizes: &[u16], rule: usize, i: usize, at: usize) -
     requires sizes_of { SizesOf part.now sizes.now }
     ensures { (p : ℕ) → spot_of rule p result ≡ least_j rule p i (forest_in part.now) }
 {
-    let head = common_nodes::wide16(part[at]);
+    let head = usize::from(part[at]);
     if common_nodes::kind_of(head) != 3 {
         return None;
     }
-    let m = common_nodes::children_of(head);
-    let mut j = 0;
     let mut from = at + 1;
-    while j < m {
-        if common_nodes::is_literal(common_nodes::wide16(part[from])) {
-            return Some(Spot { i: i, j: j });
+    for j in 0..common_nodes::children_of(head) {
+        if common_nodes::is_literal(usize::from(part[from])) {
+            return Some(Spot { i, j });
         }
-        from += common_nodes::wide16(sizes[from]);
-        j += 1;
+        from += usize::from(sizes[from]);
     }
     None
 }
@@ -65,13 +63,11 @@ fn least_merged(part: &[u16], i: usize, at: usize) -> Option<Spot>
         × (at ≡ child_at i part.now) }
     ensures { (p : ℕ) → spot_of 13 p result ≡ least_j 13 p i (forest_in part.now) }
 {
-    if at != 1 + i {
-        return None;
+    if at == 1 + i && rule_lift::applies(part, 13, i, 0, at) {
+        Some(Spot { i, j: 0 })
+    } else {
+        None
     }
-    if rule_lift::applies(part, 13, i, 0, at) {
-        return Some(Spot { i: i, j: 0 });
-    }
-    None
 }
 
 // The least inner child for rule 14, before whose child i too only literals may stand.
@@ -86,11 +82,8 @@ fn least_factored(part: &[u16], sizes: &[u16], i: usize, at: usize) -> Option<Sp
     if at != 1 + i {
         return None;
     }
-    let j = search_common::first_common(part, sizes, i);
-    if common_nodes::arity_of(common_nodes::wide16(part[at])) < j {
-        return None;
-    }
-    Some(Spot { i: i, j: j })
+    let j = search_common::first_common(part, sizes, i)?;
+    Some(Spot { i, j })
 }
 
 // The least inner child for child i and a rule that looks into it.
@@ -118,62 +111,56 @@ fn least_inside(part: &[u16], sizes: &[u16], rule: usize) -> Option<Spot>
     requires sizes_of { SizesOf part.now sizes.now }
     ensures { (p : ℕ) → spot_of rule p result ≡ least_i rule p (forest_in part.now) }
 {
-    let k = common_nodes::children_of(common_nodes::wide16(part[0]));
-    let mut i = 0;
     let mut at = 1;
-    while i < k {
+    for i in 0..common_nodes::children_of(usize::from(part[0])) {
         if let Some(spot) = least_inner(part, sizes, rule, i, at) {
             return Some(spot);
         }
-        at += common_nodes::wide16(sizes[at]);
-        i += 1;
+        at += usize::from(sizes[at]);
     }
     None
 }
 
-// The first child that is one of the constants which a rule looks for; as many as there are children where there is none.
-fn first_constant(part: &[u16], sizes: &[u16], rule: usize, one: u16, other: u16) -> usize
+// The first child that is one of the constants which a rule looks for.
+fn first_constant(part: &[u16], sizes: &[u16], rule: usize, one: u16, other: u16) -> Option<usize>
     requires stretch { Stretch part.now }
     requires headed { Headed rule part.now }
     requires sizes_of { SizesOf part.now sizes.now }
     requires sought { Sought rule one other part.now }
-    ensures { FirstChild rule result part.now }
+    ensures { FirstChild rule (given result) part.now }
 {
-    let k = common_nodes::children_of(common_nodes::wide16(part[0]));
-    let mut i = 0;
     let mut at = 1;
-    while i < k {
+    for i in 0..common_nodes::children_of(usize::from(part[0])) {
         let x = part[at];
         if x == one || x == other {
-            return i;
+            return Some(i);
         }
-        at += common_nodes::wide16(sizes[at]);
-        i += 1;
+        at += usize::from(sizes[at]);
     }
-    k
+    None
 }
 
 // The first child for rules 7 and 8, which apply to a single child.
-fn only_child(part: &[u16], rule: usize) -> usize
+fn only_child(part: &[u16], rule: usize) -> Option<usize>
     requires le_rule { (7 ≤ rule) × (rule ≤ 8) }
     requires stretch { Stretch part.now }
     requires headed { Headed rule part.now }
-    ensures { FirstChild rule result part.now }
+    ensures { FirstChild rule (given result) part.now }
 {
-    let k = common_nodes::children_of(common_nodes::wide16(part[0]));
-    if k == 1 {
-        return 0;
+    if common_nodes::children_of(usize::from(part[0])) == 1 {
+        Some(0)
+    } else {
+        None
     }
-    k
 }
 
 // The first child with which a rule of 1 to 10 or 15 applies, which looks at its children and into none of them.
-fn first_beside(part: &[u16], sizes: &[u16], rule: usize) -> usize
+fn first_beside(part: &[u16], sizes: &[u16], rule: usize) -> Option<usize>
     requires le_rule { (1 ≤ rule) × ((rule ≤ 10) ⊎ (rule ≡ 15)) }
     requires stretch { Stretch part.now }
     requires headed { Headed rule part.now }
     requires sizes_of { SizesOf part.now sizes.now }
-    ensures { FirstChild rule result part.now }
+    ensures { FirstChild rule (given result) part.now }
 {
     match rule {
         1..=6 => {
@@ -194,9 +181,10 @@ fn least_ended(part: &[u16], rule: usize) -> Option<Spot>
     ensures { (p : ℕ) → spot_of rule p result ≡ least_i rule p (forest_in part.now) }
 {
     if rule_least::ends(part, rule, 0, 0) {
-        return Some(Spot { i: 0, j: 0 });
+        Some(Spot { i: 0, j: 0 })
+    } else {
+        None
     }
-    None
 }
 
 // The least child and inner child for a rule at the first tree of a stretch.
@@ -215,11 +203,8 @@ pub fn least_child(part: &[u16], sizes: &[u16], rule: usize) -> Option<Spot>
         11..=14 => least_inside(part, sizes, rule),
         16..=17 => least_ended(part, rule),
         _ => {
-            let i = first_beside(part, sizes, rule);
-            if i < common_nodes::children_of(common_nodes::wide16(part[0])) {
-                return Some(Spot { i: i, j: 0 });
-            }
-            None
+            let i = first_beside(part, sizes, rule)?;
+            Some(Spot { i, j: 0 })
         }
     }
 }

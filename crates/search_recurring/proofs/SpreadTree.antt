@@ -1,5 +1,6 @@
 -- The first tree of a stretch whose head is right for rule 9 or 10: where it ends, and with which children the rule applies.
 use mathlib.Core.List.{List}
+use mathlib.Core.Option.{Option}
 use mathlib.Core.Path.{◌≡◌, refl, ap, ◌∙◌}
 use Prim.Native.Nat.{ℕ, ◌≤◌, ◌<◌}
 use native.Mathlib.Omega.{arith}
@@ -51,5 +52,5 @@ module _ {r : ℕ} {l : List ℕ} (s : Stretch l) (h : Headed r l) where
       applies : (i : ℕ) → i < children (get_or l 0 0) → spreads_from (child_at i l) end l ≡ is_some (rewrite r i 0 (forest_in l))
       applies i m = rw end_place (applies_around s h i 0 lo hi refl (omega (arith, group_children group)))
 
-      pub again_applies : {i : ℕ} → FirstAgain end i l → FirstChild r i l
+      pub again_applies : (o : Option ℕ) → FirstAgain end o l → FirstChild r o l
       again_applies = first_same applies

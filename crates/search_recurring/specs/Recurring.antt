@@ -1,5 +1,6 @@
 -- Literals whose option occurs again in the first tree of a list of numbers, and how often options occur.
 use Rattle.std.specs.Prelude.{Bool, List, [], ◌∷◌, ◌≡◌, ℕ, zero, suc, ◌≤◌, ◌<◌, length, get_or}
+use Rattle.std.proofs.Math.Option.{Option}
 use Rattle.std.proofs.Math.Seq.{slice}
 use Rattle.model.specs.Base.{pick}
 use Rattle.model.specs.Limits.{kind_factor, sheet_room}
@@ -15,9 +16,9 @@ pub record EndsAt (end : ℕ) (l : List ℕ) : Type 0 where
   pub short : length l ≤ sheet_room
   pub children : (i : ℕ) → i < children (get_or l 0 0) → child_at i l < end
 
--- The first child that is a literal whose option occurs again before the end; as many as there are children where there is none.
-abbrev pub FirstAgain : ℕ → ℕ → List ℕ → Type 0
-FirstAgain end i l = FirstOf (λ k. spreads_from (child_at k l) end l) (children (get_or l 0 0)) i
+-- The first child that is a literal whose option occurs again before the end.
+abbrev pub FirstAgain : ℕ → Option ℕ → List ℕ → Type 0
+FirstAgain end o l = FirstOf (λ k. spreads_from (child_at k l) end l) (children (get_or l 0 0)) o
 
 -- One more, where nothing past two is told apart.
 unfoldable pub up : ℕ → ℕ

@@ -1,16 +1,16 @@
--- A table of sizes, entry by entry, the table of a part, and the nearest place whose tree reaches past another.
+-- A table of sizes, entry by entry, and the table of a part.
 use mathlib.Core.List.{List}
 use mathlib.Core.Logic.{⊎_elim}
-use mathlib.Core.Path.{◌≡◌, sym, ap, subst, ◌∙◌}
-use Prim.Native.Nat.{ℕ, ◌+◌, ◌-◌, ◌≤◌, ◌<◌}
+use mathlib.Core.Path.{◌≡◌, sym, ap, ◌∙◌}
+use Prim.Native.Nat.{ℕ, ◌+◌, ◌≤◌, ◌<◌}
 use native.Mathlib.Omega.{arith}
-use borrow.Author.Tests.{eqb-true, eqb-false, ltb-true, ltb-false}
-use lib.Dec.{eqb, ltb}
+use borrow.Author.Tests.{eqb-true, eqb-false}
+use lib.Dec.{eqb}
 use lib.ListN.{length, get_or, drop, set, length-drop}
 use lib.Seq.{drop-drop, get_or-set_other, get_or-set_same, get_or-drop}
 use Rattle.theory_forms.specs.Logic.{either}
 use Rattle.theory_reading.specs.Spans.{span}
-use Rattle.search_sizes.specs.SizeTables.{SizesFrom, NonePast, SizesOf, Measured}
+use Rattle.search_sizes.specs.SizeTables.{SizesFrom, SizesOf, Measured}
 
 -- One entry more, before those that are right.
 pub sized_more :
@@ -38,19 +38,3 @@ sizes_part p l t within w =
 
 pub sheet_sizes : {s t : List ℕ} → Measured s t → SizesOf (drop 2 s) t
 sheet_sizes {s} w = record { long = omega (arith, w.long, w.sheet.whole, length-drop 2 s); each = w.each }
-
--- The nearest place before a bound whose tree reaches past another place.
-module _ (t : List ℕ) (below place from : ℕ) (none_later : NonePast place from below t) where
-  pub nearest : (q : ℕ) → q < below → place < q + get_or t q 0 → q ≤ from - 1
-  nearest q l h =
-      ⊎_elim
-      (λ e. let lt = ltb-true q from e in omega arith)
-      (λ e. absurd (none_later q (ltb-false q from e) l h))
-      (either (ltb q from))
-
-  pub one_more : (place < from - 1 + get_or t (from - 1) 0 → ⊥) → NonePast place (from - 1) below t
-  one_more short k le l h =
-      ⊎_elim
-      (λ e. let same : k ≡ from - 1 = omega (arith, ltb-true k from e) in short (subst (λ x. place < x + get_or t x 0) same h))
-      (λ e. none_later k (ltb-false k from e) l h)
-      (either (ltb k from))

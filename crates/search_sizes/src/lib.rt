@@ -19,15 +19,16 @@ fn end_at(s: &[u16], sizes: &[u16], place: usize) -> usize
     ensures { (result ≡ place + span 1 (drop place s.now))
         × (result ≤ sheet_room) }
 {
-    let node = common_nodes::wide16(s[place]);
+    let node = usize::from(s[place]);
     let mut next = place + 1;
     if common_nodes::is_literal(node) || common_nodes::value_of(node) == 0 {
         return next;
     }
-    let mut pending = common_nodes::children_of(node);
-    while 0 < pending && next < s.len() {
-        next += common_nodes::wide16(sizes[next]);
-        pending -= 1;
+    for _ in 0..common_nodes::children_of(node) {
+        if next == s.len() {
+            break;
+        }
+        next += usize::from(sizes[next]);
     }
     next
 }
@@ -42,9 +43,7 @@ pub fn refill(s: &[u16], sizes: &mut [u16], from: usize, to: usize)
     ensures sizes_from_2 { SizesFrom from s.now sizes.new }
     ensures by_index { (q : ℕ) → q < from → get_or sizes.new q 0 ≡ get_or sizes.old q 0 }
 {
-    let mut place = to;
-    while from < place {
-        place -= 1;
+    for place in (from..to).rev() {
         sizes[place] = (end_at(s, sizes, place) - place) as u16;
     }
 }
@@ -68,15 +67,14 @@ fn some_reaching(sizes: &[u16], from: usize, place: usize) -> bool
 {
     let gap = (place - from) as u16;
     let mut some = false;
-    let mut k = 0;
-    while k < BLOCK {
-        some = some | (gap - (k as u16) < sizes[from + k]);
-        k += 1;
+    for k in 0..BLOCK {
+        some |= gap - (k as u16) < sizes[from + k];
     }
     some
 }
 
-// Back from one place, block by block over those of which no tree reaches past a later place: the first place of these blocks.
+// Back from one place, block by block over those of which no tree reaches past a later place: the first place of these blocks. A
+// `while`, since each turn hops by a block.
 fn before_blocks(sizes: &[u16], below: usize, place: usize) -> usize
     requires { (below ≤ length sizes.now)
         × (below ≤ place)
@@ -101,10 +99,8 @@ pub fn holder(sizes: &[u16], below: usize, place: usize) -> usize
         × (result < below → place < result + get_or sizes.now result 0) }
     ensures by_index { (q : ℕ) → q < below → place < q + get_or sizes.now q 0 → (result < below) × (q ≤ result) }
 {
-    let mut q = before_blocks(sizes, below, place);
-    while 0 < q {
-        q -= 1;
-        if place < q + common_nodes::wide16(sizes[q]) {
+    for q in (0..before_blocks(sizes, below, place)).rev() {
+        if place < q + usize::from(sizes[q]) {
             return q;
         }
     }

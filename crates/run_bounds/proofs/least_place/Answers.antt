@@ -7,10 +7,10 @@ use Rattle.search_place.proofs.SearchLevels.{p_found, p_none}
 use Rattle.run_bounds.specs.BoundTables.{ComeTo}
 use Rattle.run_bounds.proofs.RisingBounds.{high_rises, high_more, come_further, none_before}
 use Rattle.run_bounds.proofs.least_place.Goals as goal
-use Rattle.run_bounds.proofs.least_place.Goals.{After-wide16-used, At-loop-place, In_default, Start}
+use Rattle.run_bounds.proofs.least_place.Goals.{After-from-used, At-loop-place, In_default, Start}
 
-counted : (c : goal.After-wide16-used) → c.wide16-used.result ≡ used_in c.args.sheet.now
-counted c = c.wide16-used.ensures.0 ∙ sym (used_here c.args.sheet.now)
+counted : (c : goal.After-from-used) → c.from-used.result ≡ used_in c.args.sheet.now
+counted c = c.from-used.ensures ∙ sym (used_here c.args.sheet.now)
 
 -- What has come of the place that was tried: the rule does not apply there.
 passed :
@@ -29,7 +29,7 @@ passed c =
       some_rule = i.some_rule;
       past_all = i.past_all;
       high = high_rises c.loop-place.low new rises i.high;
-      within = omega (arith, c.wide16-used.ensures.0 ∙ sym (used_here c.args.sheet.now));
+      within = omega (arith, c.from-used.ensures ∙ sym (used_here c.args.sheet.now));
       past = high_more c.loop-place.place new (high_rises c.loop-place.low new rises i.past) (omega arith);
     }
 
@@ -38,18 +38,18 @@ first_waiting-place-requires c =
     let p = c.requires in
     let w = p.come_to in
     let few = w.tables.measured.sheet.used in
-    let used = counted (goal.at.first_waiting-place-requires c).After-wide16-used in
+    let used = counted (goal.at.first_waiting-place-requires c).After-from-used in
     record { from_le_to = (omega (arith, w.within), omega (arith, w.tables.long), omega arith); rule_le_no_rule = omega (arith, p.rule_le_last_rule) }
 
 pub loop-place-init : goal.loop-place-init
 loop-place-init c =
     let w = c.first_waiting-place.ensures in
-    come_further c.requires.come_to (omega (arith, w.1, counted (goal.at.loop-place-init c).After-wide16-used)) w.2
+    come_further c.requires.come_to (omega (arith, w.1, counted (goal.at.loop-place-init c).After-from-used)) w.2
 
 pub try_at-requires : goal.try_at-requires
 try_at-requires c =
     let i = c.loop-place.invariant in
-    let within : c.loop-place.place < used_in c.args.sheet.now = omega (arith, counted (goal.at.try_at-requires c).After-wide16-used) in
+    let within : c.loop-place.place < used_in c.args.sheet.now = omega (arith, counted (goal.at.try_at-requires c).After-from-used) in
     record {
       le_rule = (i.some_rule, c.requires.rule_le_last_rule);
       tabled = i.tables;
@@ -65,7 +65,7 @@ returns-in-Some c =
     let new = c.try_at.new.low in
     let rises = e.raised.rises in
     let found = c.in-Some.ensures.result_value in
-    let used = counted (goal.at.returns-in-Some c).After-wide16-used in
+    let used = counted (goal.at.returns-in-Some c).After-from-used in
     let few = i.tables.measured.sheet.count in
     record {
       result_value = p_found a.rule (nodes_in a.sheet.now) c.loop-place.place (omega arith) found (none_before i);
@@ -81,13 +81,13 @@ returns-in-Some c =
 
 pub overflow_add-place : goal.overflow_add-place
 overflow_add-place c =
-    omega (arith, counted (goal.at.overflow_add-place c).After-wide16-used, c.loop-place.invariant.tables.measured.sheet.used)
+    omega (arith, counted (goal.at.overflow_add-place c).After-from-used, c.loop-place.invariant.tables.measured.sheet.used)
 
 pub first_waiting-place-requires-in-loop-place : goal.first_waiting-place-requires-in-loop-place
 first_waiting-place-requires-in-loop-place c =
     let w = passed (goal.at.first_waiting-place-requires-in-loop-place c).In_default in
     let few = w.tables.measured.sheet.used in
-    let used = counted (goal.at.first_waiting-place-requires-in-loop-place c).After-wide16-used in
+    let used = counted (goal.at.first_waiting-place-requires-in-loop-place c).After-from-used in
     record {
       from_le_to = (omega (arith, w.within), omega (arith, w.tables.long), omega arith);
       rule_le_no_rule = omega (arith, c.requires.rule_le_last_rule);
@@ -97,13 +97,13 @@ pub loop-place-preserved : goal.loop-place-preserved
 loop-place-preserved c =
     let w = c.first_waiting-place-in-loop-place.ensures in
     come_further (passed (goal.at.loop-place-preserved c).In_default)
-    (omega (arith, w.1, counted (goal.at.loop-place-preserved c).After-wide16-used)) w.2
+    (omega (arith, w.1, counted (goal.at.loop-place-preserved c).After-from-used)) w.2
 
 pub returns : goal.returns
 returns c =
     let a = c.args in
     let i = c.loop-place.invariant in
-    let used = counted (goal.at.returns c).After-wide16-used in
+    let used = counted (goal.at.returns c).After-from-used in
     let few = i.tables.measured.sheet.count in
     record {
       result_value = p_none a.rule (nodes_in a.sheet.now) (λ q l. none_before i q (omega arith));
@@ -111,7 +111,7 @@ returns c =
         tables = i.tables;
         some_rule = omega arith;
         past_all = omega (arith, c.requires.rule_le_last_rule);
-        high = λ q from to. i.past q from (omega (arith, counted (goal.at.returns c).After-wide16-used));
+        high = λ q from to. i.past q from (omega (arith, counted (goal.at.returns c).After-from-used));
         within = omega arith;
         past = λ q from to. absurd (omega arith);
       };

@@ -40,7 +40,7 @@ returns-then-is_literal c =
     let p = c.requires in
     let a = c.args in
     let it : is_literal (get_or a.sheet.now (2 + a.place) 0) ≡ true =
-    sym (c.is_literal.ensures ∙ ap is_literal c.wide16-head.ensures.0) ∙ c.if-is_literal.true in
+    sym (c.is_literal.ensures ∙ ap is_literal c.from-head.ensures) ∙ c.if-is_literal.true in
     (p.le_start.1, omega arith, λ s l m. literal_none p.measured.sheet a.place p.place_bound it s)
 
 pub loop-rule-preserved : goal.loop-rule-preserved
@@ -51,6 +51,6 @@ loop-rule-preserved c =
       | else-kind_for-kind-via-then-kind_for-kind+else-is_some w ↦
           sym (no_spot c.loop-rule.rule a.place w.least_at.result (sym w.is_some.ensures ∙ w.if-is_some.false)) ∙ w.least_at.ensures
       | else-kind_for-kind-via-else-kind_for-kind w ↦ kind_none c.requires.measured.sheet a.place c.requires.place_bound c.loop-rule.rule
-          (λ e. w.if-kind_for-kind.false (c.kind_for.ensures ∙ e ∙ ap kind (sym c.wide16-head.ensures.0) ∙ sym c.kind_of-kind.ensures))
+          (λ e. w.if-kind_for-kind.false (c.kind_for.ensures ∙ e ∙ ap kind (sym c.from-head.ensures) ∙ sym c.kind_of-kind.ensures))
     ] in
     range_more P c.loop-rule.rule c.loop-rule.invariant here

@@ -2,7 +2,7 @@
 -- before it.
 use mathlib.Core.Bool.{false}
 use mathlib.Core.Path.{◌≡◌}
-use Prim.Native.Nat.{◌+◌, ◌-◌, ◌≤◌}
+use Prim.Native.Nat.{◌+◌}
 use Rattle.model.specs.Base.{is_some}
 use Rattle.model.specs.Rules.{rewrite}
 use Rattle.theory_reading.specs.Stretches.{forest_in}
@@ -10,7 +10,4 @@ use Rattle.search_sizes.specs.TreeHops.{Passed}
 use Rattle.search_common.proofs.first_sifted.Given as goal
 
 abbrev pub invariant-loop-j : goal.invariant-loop-j
-invariant-loop-j l = (l.j ≤ l.m) × Passed (λ k. is_some (rewrite 14 l.i k (forest_in l.part)) ≡ false) (1 + l.i + 1) l.part l.j l.from
-
-abbrev pub decreases-loop-j : goal.decreases-loop-j
-decreases-loop-j l = l.m - l.j
+invariant-loop-j l = Passed (λ k. is_some (rewrite 14 l.i k (forest_in l.part)) ≡ false) (1 + l.i + 1) l.part l.j l.from

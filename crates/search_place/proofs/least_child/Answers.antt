@@ -1,9 +1,7 @@
 -- `search_place::least_child` meets its contract: the head is right for the rule, or the rule does not apply.
 use mathlib.Core.Logic.{inl, inr}
-use mathlib.Core.Path.{◌≡◌, sym, ap, ◌∙◌}
+use mathlib.Core.Path.{sym, ◌∙◌}
 use native.Mathlib.Omega.{arith}
-use lib.ListN.{get_or}
-use Rattle.model.specs.Code.{children}
 use Rattle.theory_reading.specs.Stretches.{forest_in}
 use Rattle.theory_rewriting.specs.Heads.{Headed}
 use Rattle.rule_table.proofs.HeadTests.{head_right, head_wrong}
@@ -11,7 +9,7 @@ use Rattle.search_place.proofs.SearchLevels.{i_never}
 use Rattle.search_place.proofs.InnerSearch.{Beside}
 use Rattle.search_place.proofs.FirstChildren.{first_found, first_none}
 use Rattle.search_place.proofs.least_child.Goals as goal
-use Rattle.search_place.proofs.least_child.Goals.{After-children_of, Else-not-is_headed, In_default}
+use Rattle.search_place.proofs.least_child.Goals.{Else-not-is_headed, In_default}
 use Rattle.search_place.proofs.least_child.Goals.{in_default-via-then-rule-lt11, in_default-via-else-rule-lt11+else-rule-lt15+then-rule-lt16}
 use Rattle.search_place.proofs.least_child.Goals.{in_default-via-else-rule-lt11+else-rule-lt15+else-rule-lt16+else-rule-lt18}
 
@@ -27,12 +25,6 @@ beside c = elim c.in_default.branch [
   | in_default-via-else-rule-lt11+else-rule-lt15+then-rule-lt16 w ↦ inr (omega arith)
   | in_default-via-else-rule-lt11+else-rule-lt15+else-rule-lt16+else-rule-lt18 w ↦ absurd (omega arith)
 ]
-
--- What the first child with which the rule applies is to the search, by the number of the children.
-counted :
-    (c : goal.After-children_of) →
-    c.children_of.result ≡ children (get_or c.args.part.now 0 0)
-counted c = c.children_of.ensures ∙ ap children c.wide16.ensures.0
 
 pub returns-then-not-is_headed : goal.returns-then-not-is_headed
 returns-then-not-is_headed c =
@@ -53,24 +45,23 @@ pub least_ended-requires : goal.least_ended-requires
 least_ended-requires c =
     record { le_rule = (omega arith, omega arith); stretch = c.requires.stretch; headed = right (goal.at.least_ended-requires c).Else-not-is_headed }
 
-pub first_beside-i-requires : goal.first_beside-i-requires
-first_beside-i-requires c =
+pub first_beside-requires : goal.first_beside-requires
+first_beside-requires c =
     let p = c.requires in
     record {
-      le_rule = (p.le_rule.0, beside (goal.at.first_beside-i-requires c).In_default);
+      le_rule = (p.le_rule.0, beside (goal.at.first_beside-requires c).In_default);
       stretch = p.stretch;
-      headed = right (goal.at.first_beside-i-requires c).Else-not-is_headed;
+      headed = right (goal.at.first_beside-requires c).Else-not-is_headed;
       sizes_of = p.sizes_of;
     }
 
-pub returns-then-i-children_of : goal.returns-then-i-children_of
-returns-then-i-children_of c =
-    first_found c.requires.stretch (right (goal.at.returns-then-i-children_of c).Else-not-is_headed)
-    (beside (goal.at.returns-then-i-children_of c).In_default) c.first_beside-i.ensures
-    (omega (arith, counted (goal.at.returns-then-i-children_of c).After-children_of))
+pub returns-in_ok-i-in_default : goal.returns-in_ok-i-in_default
+returns-in_ok-i-in_default c =
+    first_found c.requires.stretch (right (goal.at.returns-in_ok-i-in_default c).Else-not-is_headed)
+    (beside (goal.at.returns-in_ok-i-in_default c).In_default) c.in_ok-i-in_default.ensures
 
-pub returns-else-i-children_of : goal.returns-else-i-children_of
-returns-else-i-children_of c =
-    first_none c.requires.stretch (right (goal.at.returns-else-i-children_of c).Else-not-is_headed)
-    (beside (goal.at.returns-else-i-children_of c).In_default) c.first_beside-i.ensures
-    (omega (arith, counted (goal.at.returns-else-i-children_of c).After-children_of))
+pub returns-in_err-i-in_default : goal.returns-in_err-i-in_default
+returns-in_err-i-in_default c =
+    rw c.from_residual.ensures
+    (first_none c.requires.stretch (right (goal.at.returns-in_err-i-in_default c).Else-not-is_headed)
+    (beside (goal.at.returns-in_err-i-in_default c).In_default) c.in_err-i-in_default.ensures)

@@ -7,6 +7,6 @@ pub returns-then-ends : goal.returns-then-ends
 returns-then-ends c =
     ended_found c.args.part.now c.requires.le_rule.0 (sym c.ends.ensures ∙ c.if-ends.true)
 
-pub returns : goal.returns
-returns c =
+pub returns-else-ends : goal.returns-else-ends
+returns-else-ends c =
     ended_none c.args.part.now c.requires.le_rule.0 (sym c.ends.ensures ∙ c.if-ends.false)

@@ -10,13 +10,13 @@ use Rattle.search_sizes.specs.TreeHops.{passed_first, hop_within, passed_more}
 use Rattle.search_place.proofs.SearchLevels.{i_found, i_none}
 use Rattle.search_place.proofs.FirstChildren.{children_counted}
 use Rattle.search_place.proofs.least_inside.Goals as goal
-use Rattle.search_place.proofs.least_inside.Goals.{After-children_of-k, In-loop-i}
+use Rattle.search_place.proofs.least_inside.Goals.{After-children_of-i-end, In-loop-i}
 
 counted :
-    (c : goal.After-children_of-k) →
+    (c : goal.After-children_of-i-end) →
     let a = c.args in
-    c.children_of-k.result ≡ children (get_or a.part.now 0 0)
-counted c = c.children_of-k.ensures ∙ ap children c.wide16.ensures.0
+    c.children_of-i-end.result ≡ children (get_or a.part.now 0 0)
+counted c = c.children_of-i-end.ensures ∙ ap children c.from.ensures
 
 -- Child i begins within the stretch.
 inside :
@@ -25,7 +25,7 @@ inside :
     (c.loop-i.at < length a.part.now) × (length a.part.now ≤ sheet_room)
 inside c =
     let p = c.requires in
-    let w = counted_child p.stretch p.headed (omega (arith, (c.children_of-k.ensures ∙ ap children c.wide16.ensures.0)), c.loop-i.invariant.here) in
+    let w = counted_child p.stretch p.headed (omega (arith, (c.children_of-i-end.ensures ∙ ap children c.from.ensures)), c.loop-i.invariant.here) in
     (w.1, w.2)
 
 pub bounds-part-0 : goal.bounds-part-0
@@ -42,7 +42,7 @@ least_inner-requires c =
       le_rule = p.le_rule;
       stretch = p.stretch;
       headed = p.headed;
-      i_bound = (omega (arith, counted (goal.at.least_inner-requires c).After-children_of-k), c.loop-i.invariant.here);
+      i_bound = (omega (arith, counted (goal.at.least_inner-requires c).After-children_of-i-end), c.loop-i.invariant.here);
       sizes_of = p.sizes_of;
     }
 
@@ -50,7 +50,7 @@ pub returns-in-Some : goal.returns-in-Some
 returns-in-Some c =
     let a = c.args in
     λ p. i_found a.rule p (forest_in a.part.now) c.loop-i.i
-    (omega (arith, counted (goal.at.returns-in-Some c).After-children_of-k, children_counted c.requires.stretch c.requires.headed))
+    (omega (arith, counted (goal.at.returns-in-Some c).After-children_of-i-end, children_counted c.requires.stretch c.requires.headed))
     (c.in-Some.ensures p) (λ q l. c.loop-i.invariant.before q l p)
 
 pub offset_bounds-sizes-at : goal.offset_bounds-sizes-at
@@ -63,16 +63,16 @@ bounds-sizes-at c =
 pub overflow_add-at : goal.overflow_add-at
 overflow_add-at c =
     let w = inside (goal.at.overflow_add-at c).In-loop-i in
-    omega (arith, hop_within c.requires.sizes_of w.0 c.wide16-at.ensures.0)
+    omega (arith, hop_within c.requires.sizes_of w.0 c.from-at.ensures)
 
 pub loop-i-preserved : goal.loop-i-preserved
 loop-i-preserved c =
     let rule = c.args.rule in
-    passed_more c.requires.sizes_of (inside (goal.at.loop-i-preserved c).In-loop-i).0 c.wide16-at.ensures.0 c.loop-i.invariant c.in_default.ensures
+    passed_more c.requires.sizes_of (inside (goal.at.loop-i-preserved c).In-loop-i).0 c.from-at.ensures c.loop-i.invariant c.in_default.ensures
 
 pub returns : goal.returns
 returns c =
     let a = c.args in
     λ p. i_none a.rule p (forest_in a.part.now) (omega (arith, c.requires.le_rule.1))
     (λ q l. c.loop-i.invariant.before q
-    (omega (arith, counted (goal.at.returns c).After-children_of-k, children_counted c.requires.stretch c.requires.headed)) p)
+    (omega (arith, counted (goal.at.returns c).After-children_of-i-end, children_counted c.requires.stretch c.requires.headed)) p)

@@ -13,7 +13,7 @@ use Rattle.search_sizes.specs.TreeHops.{inner_at, passed_first, hop_within, pass
 use Rattle.search_place.proofs.SearchLevels.{j_found}
 use Rattle.search_place.proofs.InnerSearch.{lifts_nothing, inner_room, inner_test, inner_none}
 use Rattle.search_place.proofs.least_lifted.Goals as goal
-use Rattle.search_place.proofs.least_lifted.Goals.{After-children_of-m, After-is_literal, At-loop-j, Else-kind_of-ne3, In-loop-j, Start}
+use Rattle.search_place.proofs.least_lifted.Goals.{After-children_of-j-end, After-is_literal, At-loop-j, Else-kind_of-ne3, In-loop-j, Start}
 
 -- Child i begins within the stretch.
 child : (c : goal.Start) → (c.args.at < length c.args.part.now) × (length c.args.part.now ≤ sheet_room)
@@ -24,13 +24,13 @@ conjunction :
     (c : goal.Else-kind_of-ne3) →
     let a = c.args in
     kind (get_or a.part.now a.at 0) ≡ 3
-conjunction c = sym (c.kind_of.ensures ∙ ap kind c.wide16-head.ensures.0) ∙ c.if-kind_of-ne3.false
+conjunction c = sym (c.kind_of.ensures ∙ ap kind c.from-head.ensures) ∙ c.if-kind_of-ne3.false
 
 counted :
-    (c : goal.After-children_of-m) →
+    (c : goal.After-children_of-j-end) →
     let a = c.args in
-    c.children_of-m.result ≡ children (get_or a.part.now a.at 0)
-counted c = c.children_of-m.ensures ∙ ap children c.wide16-head.ensures.0
+    c.children_of-j-end.result ≡ children (get_or a.part.now a.at 0)
+counted c = c.children_of-j-end.ensures ∙ ap children c.from-head.ensures
 
 -- The place of inner child j is within the stretch, and its number says what the rule asks.
 inside :
@@ -40,8 +40,8 @@ inside :
 inside c =
     let p = c.requires in
     let a = c.args in
-    let conjunction = sym (c.kind_of.ensures ∙ ap kind c.wide16-head.ensures.0) ∙ c.if-kind_of-ne3.false in
-    let counted = c.children_of-m.ensures ∙ ap children c.wide16-head.ensures.0 in
+    let conjunction = sym (c.kind_of.ensures ∙ ap kind c.from-head.ensures) ∙ c.if-kind_of-ne3.false in
+    let counted = c.children_of-j-end.ensures ∙ ap children c.from-head.ensures in
     let room = inner_room p.stretch p.headed a.i p.le_rule.0 p.le_rule.1 p.i_bound.0 p.i_bound.1 conjunction c.loop-j.j (omega (arith, counted)) in
     let placed = c.loop-j.invariant.here ∙ sym (inner_at a.at c.loop-j.j a.part.now) in
     (omega (arith, room, placed), (counted_child p.stretch p.headed p.i_bound).2)
@@ -54,12 +54,12 @@ tested c =
     let p = c.requires in
     let a = c.args in
     let placed = c.loop-j.invariant.here ∙ sym (inner_at a.at c.loop-j.j a.part.now) in
-    let read = c.is_literal.ensures ∙ ap is_literal (c.wide16.ensures.0 ∙ ap (λ k. get_or a.part.now k 0) placed) in
+    let read = c.is_literal.ensures ∙ ap is_literal (c.from.ensures ∙ ap (λ k. get_or a.part.now k 0) placed) in
     read
     ∙
     inner_test p.stretch p.headed c.args.i p.le_rule.0 p.le_rule.1 p.i_bound.0 p.i_bound.1
-    (sym (c.kind_of.ensures ∙ ap kind c.wide16-head.ensures.0) ∙ c.if-kind_of-ne3.false) c.loop-j.j
-    (omega (arith, (c.children_of-m.ensures ∙ ap children c.wide16-head.ensures.0)))
+    (sym (c.kind_of.ensures ∙ ap kind c.from-head.ensures) ∙ c.if-kind_of-ne3.false) c.loop-j.j
+    (omega (arith, (c.children_of-j-end.ensures ∙ ap children c.from-head.ensures)))
 
 pub offset_bounds-part-at : goal.offset_bounds-part-at
 offset_bounds-part-at c = let w = child (goal.at.offset_bounds-part-at c).Start in omega arith
@@ -70,7 +70,7 @@ bounds-part-at c = (child (goal.at.bounds-part-at c).Start).0
 pub returns-then-kind_of-ne3 : goal.returns-then-kind_of-ne3
 returns-then-kind_of-ne3 c =
     let p = c.requires in
-    let read = c.kind_of.ensures ∙ ap kind c.wide16-head.ensures.0 in
+    let read = c.kind_of.ensures ∙ ap kind c.from-head.ensures in
     lifts_nothing p.stretch p.headed c.args.i p.le_rule.0 p.le_rule.1 p.i_bound.0 p.i_bound.1 (λ e. c.if-kind_of-ne3.true (read ∙ e))
 
 pub overflow_add-from : goal.overflow_add-from
@@ -101,15 +101,15 @@ bounds-sizes-from c =
 pub overflow_add-from-in-loop-j : goal.overflow_add-from-in-loop-j
 overflow_add-from-in-loop-j c =
     let w = inside (goal.at.overflow_add-from-in-loop-j c).In-loop-j in
-    omega (arith, hop_within c.requires.sizes_of w.0 c.wide16-from.ensures.0)
+    omega (arith, hop_within c.requires.sizes_of w.0 c.from-from.ensures)
 
 pub loop-j-preserved : goal.loop-j-preserved
 loop-j-preserved c =
     let none_here = sym (tested (goal.at.loop-j-preserved c).After-is_literal) ∙ c.if-is_literal.false in
-    passed_more c.requires.sizes_of (inside (goal.at.loop-j-preserved c).In-loop-j).0 c.wide16-from.ensures.0 c.loop-j.invariant none_here
+    passed_more c.requires.sizes_of (inside (goal.at.loop-j-preserved c).In-loop-j).0 c.from-from.ensures c.loop-j.invariant none_here
 
 pub returns : goal.returns
 returns c =
     let p = c.requires in
     inner_none p.stretch p.headed c.args.i p.le_rule.0 p.le_rule.1 p.i_bound.0 p.i_bound.1 (conjunction (goal.at.returns c).Else-kind_of-ne3)
-    (λ j l. c.loop-j.invariant.before j (omega (arith, counted (goal.at.returns c).After-children_of-m)))
+    (λ j l. c.loop-j.invariant.before j (omega (arith, counted (goal.at.returns c).After-children_of-j-end)))

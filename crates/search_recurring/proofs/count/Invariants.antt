@@ -4,7 +4,4 @@ use Rattle.search_recurring.specs.Recurring.{Tallied}
 use Rattle.search_recurring.proofs.count.Given as goal
 
 abbrev pub invariant-loop-q : goal.invariant-loop-q
-invariant-loop-q l = (1 ≤ l.q) × (l.q ≤ l.end) × Tallied l.q l.end l.part l.tally
-
-abbrev pub decreases-loop-q : goal.decreases-loop-q
-decreases-loop-q l = l.q
+invariant-loop-q l = (1 ≤ l.q) × Tallied l.q l.end l.part l.tally

@@ -15,10 +15,8 @@ loop-k-preserved c =
     let q = a.from + c.loop-k.k in
     let x = get_or a.sizes.now q 0 in
     let y = a.place - a.from - c.loop-k.k in
-    let sum : q + 1 ≡ a.from + (c.loop-k.k + 1) = omega arith in (
-      omega arith,
-      λ e. let both = or_neither c.loop-k.some (ltb y x) e in
-          subst (λ to. NonePast a.place a.from to a.sizes.now) sum
-          (range_more (λ m. a.place < m + get_or a.sizes.now m 0 → ⊥) q (c.loop-k.invariant.1 both.0)
-          (λ h. omega (arith, ltb-false y x both.1, c.requires.1))),
-    )
+    let sum : q + 1 ≡ a.from + (c.loop-k.k + 1) = omega arith in
+    λ e. let both = or_neither c.loop-k.some (ltb y x) e in
+    subst (λ to. NonePast a.place a.from to a.sizes.now) sum
+    (range_more (λ m. a.place < m + get_or a.sizes.now m 0 → ⊥) q (c.loop-k.invariant both.0)
+    (λ h. omega (arith, ltb-false y x both.1, c.requires.1)))
