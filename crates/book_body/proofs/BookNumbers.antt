@@ -1,11 +1,11 @@
 -- Numbers and entries at a place of their bytes: what is left of them from a place on, and after one more.
 use mathlib.Core.Bool.{true, ◌&&◌}
-use mathlib.Core.List.{List, ◌∷◌}
-use mathlib.Core.Path.{◌≡◌, sym, ◌∙◌}
+use mathlib.Core.List.{List, [], ◌∷◌}
+use mathlib.Core.Path.{◌≡◌, refl, sym, ap, ◌∙◌}
 use Prim.Native.Nat.{ℕ, zero, suc, ◌+◌, ◌*◌, ◌-◌, ◌≤◌, ◌<◌}
 use native.Mathlib.Omega.{arith}
 use lib.Dec.{eqb, leb}
-use lib.ListN.{drop}
+use lib.ListN.{length, take, drop}
 use lib.Seq.{drop-drop}
 use Rattle.model.specs.Book.{word, words, Entry, entries, in_line}
 use Rattle.theory_formats.specs.Bytes.{Bytes, word_drop}
@@ -41,6 +41,16 @@ entries_at m i b h =
     let here : 4 * i + 0 ≡ 4 * i = omega arith in
     let next : 4 * i + 4 ≡ 4 * (i + 1) = omega arith in
     rw (left, word_drop (4 * i) 0 b, word_drop (4 * i) 2 b, drop-drop 4 (4 * i) b, here, next)
+
+-- Numbers read from just their own bytes.
+pub words_taken : (n : ℕ) (b : List ℕ) → 2 * n ≤ length b → words n (take (2 * n) b) ≡ words n b
+unfolding words word
+words_taken zero b h = refl
+words_taken (suc n) [] h = absurd (omega arith)
+words_taken (suc n) (x ∷ []) h = absurd (omega arith)
+words_taken (suc n) (x ∷ y ∷ b) h =
+    let twice : 2 * suc n ≡ suc (suc (2 * n)) = omega arith in
+    rw twice (ap (λ xs. (x + 256 * y) ∷ xs) (words_taken n b (omega arith)))
 
 -- The numbers after the first k.
 pub drop_words : (k n : ℕ) (b : List ℕ) → drop k (words n b) ≡ words_from n k b

@@ -31,17 +31,7 @@ fn is_body(s: &[u8], count: usize, n: usize) -> bool
     requires { (count ≤ most_nodes) × (2 * count ≤ length s.now) × (n ≤ most_options) }
     ensures { result ≡ body_ok n (words count s.now) }
 {
-    let mut trees = 0;
-    let mut i = count;
-    while 0 < i {
-        i -= 1;
-        let from = 2 * i;
-        let Some(joined) = common_members::join_book(&s[from..], count - i, n, trees) else {
-            return false;
-        };
-        trees = joined;
-    }
-    trees == 1
+    common_members::count_trees(&s[..2 * count], n) == Some(1)
 }
 
 // Every body is one tree, its members in their seats. The contents are in line, so that the bodies lie within the nodes.

@@ -2,10 +2,10 @@
 // says whether a member named it, so nothing is lent or cleared from one node to the next.
 #![tactic(auto)]
 
-ghost use Rattle.std.specs.Prelude.{◌≡◌, true, ◌||◌, not, [], ◌∷◌, map, ◌*◌, ◌-◌, ◌<◌, ◌≤◌, eqb, length, take, drop};
+ghost use Rattle.std.specs.Prelude.{◌≡◌, true, ◌||◌, not, List, [], ◌∷◌, map, ℕ, ◌+◌, ◌/◌, ◌<◌, ◌≤◌, eqb, length, get_or, take, drop};
 ghost use Rattle.std.proofs.Math.Option.{some};
 ghost use Rattle.model.specs.Base.{all};
-ghost use Rattle.model.specs.Limits.{most_options, most_nodes, sheet_room};
+ghost use Rattle.model.specs.Limits.{most_options, sheet_room};
 ghost use Rattle.model.specs.Code.{node_of};
 ghost use Rattle.model.specs.Sheet.{body_node};
 ghost use Rattle.model.specs.Book.{words};
@@ -15,6 +15,44 @@ ghost use Rattle.common_members.specs.Marks.{marked, mark_words, Marks, admitted
 ghost use Rattle.common_members.specs.Tested.{tested};
 
 use common_limits::{KIND_FACTOR, MOST_OPTIONS};
+
+// Numbers one after the other: those of a sheet, or those of a book, each in two bytes.
+pub trait Numbers: Copy {
+    ghost numbers: { Self → List ℕ };
+
+    fn count(self) -> usize
+        ensures { result ≡ length (numbers self) };
+
+    fn number(self, i: usize) -> usize
+        requires { i < length (numbers self) }
+        ensures { result ≡ get_or (numbers self) i 0 };
+}
+
+impl<'a> Numbers for &'a [u16] {
+    ghost numbers = { λ s. s.now };
+
+    fn count(self) -> usize {
+        self.len()
+    }
+
+    fn number(self, i: usize) -> usize {
+        usize::from(self[i])
+    }
+}
+
+impl<'a> Numbers for &'a [u8] {
+    ghost numbers = { λ s. words (length s.now / 2) s.now };
+
+    #[tactic(auto, using(theory_formats::specs::Bytes::length_words))]
+    fn count(self) -> usize {
+        self.len() / 2
+    }
+
+    #[tactic(auto, using(theory_formats::specs::Bytes::length_words, theory_formats::specs::Bytes::word_among))]
+    fn number(self, i: usize) -> usize {
+        common_nodes::word_at(self, 2 * i)
+    }
+}
 
 // The kind that asks for some of its members.
 const LEAST_KIND: usize = 6;
@@ -52,65 +90,44 @@ fn is_member(x: usize, marks: &mut [usize; WORDS]) -> bool
     x == 3 * KIND_FACTOR || x == 4 * KIND_FACTOR
 }
 
-// Whether the first so many numbers, which are nodes of a body, are members: read from the last, as the definition has it.
-fn are_members(s: &[u16], count: usize) -> bool
-    requires count_in_bounds { count ≤ length s.now }
-    requires s_value { all (body_node most_options) (take count s.now) ≡ true }
-    ensures { result ≡ apart (map node_of (take count s.now)) }
+// Whether so many numbers from a place on, which are nodes of a body, are members: read from the last, as the definition has it.
+fn are_members<N: Numbers>(numbers: N, from: usize, count: usize) -> bool
+    requires in_bounds { (from + count ≤ length (N.numbers numbers)) × (from + count ≤ sheet_room) }
+    requires nodes { all (body_node most_options) (take count (drop from (N.numbers numbers))) ≡ true }
+    ensures { result ≡ apart (map node_of (take count (drop from (N.numbers numbers)))) }
 {
     let mut marks = [0; WORDS];
-    let mut i = count;
-    while 0 < i {
-        i -= 1;
-        if !is_member(usize::from(s[i]), &mut marks) {
+    for i in (0..count).rev() {
+        if !is_member(numbers.number(from + i), &mut marks) {
             return false;
         }
     }
     true
 }
 
-// The same of numbers in bytes.
-fn are_members_in_bytes(s: &[u8], count: usize) -> bool
-    requires count_in_bounds { 2 * count ≤ length s.now }
-    requires s_value { all (body_node most_options) (words count s.now) ≡ true }
-    ensures { result ≡ apart (map node_of (words count s.now)) }
+// One node more before numbers that spell so many trees: the number at a place, where the trees of the numbers after it are known. Members
+// that are none are refused like a node that lacks children.
+fn join<N: Numbers>(numbers: N, i: usize, n: usize, t: usize) -> Option<usize>
+    requires in_bounds { (i < length (N.numbers numbers)) × (length (N.numbers numbers) ≤ sheet_room) × (n ≤ most_options) }
+    requires rest { tested n (drop (i + 1) (N.numbers numbers)) ≡ some t }
+    ensures { given result ≡ tested n (drop i (N.numbers numbers)) }
 {
-    let mut marks = [0; WORDS];
-    let mut left = count;
-    while 0 < left {
-        left -= 1;
-        if !is_member(common_nodes::word_at(s, 2 * left), &mut marks) {
-            return false;
-        }
-    }
-    true
-}
-
-// One node more before numbers that spell so many trees: the first of these numbers, where the trees of the rest are known. Members that
-// are none are refused like a node that lacks children.
-pub fn join_sheet(s: &[u16], n: usize, t: usize) -> Option<usize>
-    requires in_bounds { (1 ≤ length s.now) × (length s.now ≤ sheet_room) × (n ≤ most_options) }
-    requires s_value { tested n (drop 1 s.now) ≡ some t }
-    ensures { given result ≡ tested n s.now }
-{
-    let x = usize::from(s[0]);
+    let x = numbers.number(i);
     let u = common_nodes::join(x, n, t)?;
     if common_nodes::kind_of(x) != LEAST_KIND {
         return Some(u);
     }
-    are_members(&s[1..], common_nodes::children_of(x)).then_some(u)
+    are_members(numbers, i + 1, common_nodes::children_of(x)).then_some(u)
 }
 
-// The same of so many numbers in bytes.
-pub fn join_book(s: &[u8], count: usize, n: usize, t: usize) -> Option<usize>
-    requires le_count { (1 ≤ count) × (count ≤ most_nodes) × (2 * count ≤ length s.now) × (n ≤ most_options) }
-    requires s_value { tested n (words (count - 1) (drop 2 s.now)) ≡ some t }
-    ensures { given result ≡ tested n (words count s.now) }
+// How many trees the numbers spell, for n options: none where they spell none, or where some members are not in their seats.
+pub fn count_trees<N: Numbers>(numbers: N, n: usize) -> Option<usize>
+    requires { (length (N.numbers numbers) ≤ sheet_room) × (n ≤ most_options) }
+    ensures { given result ≡ tested n (N.numbers numbers) }
 {
-    let x = common_nodes::word_at(s, 0);
-    let u = common_nodes::join(x, n, t)?;
-    if common_nodes::kind_of(x) != LEAST_KIND {
-        return Some(u);
+    let mut trees = 0;
+    for i in (0..numbers.count()).rev() {
+        trees = join(numbers, i, n, trees)?;
     }
-    are_members_in_bytes(&s[2..], common_nodes::children_of(x)).then_some(u)
+    Some(trees)
 }

@@ -22,19 +22,8 @@ fn is_rooted_tree(s: &[u16], used: usize, n: usize) -> bool
         && all_seated (decode (map node_of (take used s.now)))) }
 {
     let head = usize::from(s[0]);
-    if common_nodes::kind_of(head) != 5 {
-        return false;
-    }
-    let mut trees = 0;
-    let mut i = used;
-    while 1 < i {
-        i -= 1;
-        let Some(joined) = common_members::join_sheet(&s[i..used], n, trees) else {
-            return false;
-        };
-        trees = joined;
-    }
-    trees == common_nodes::children_of(head)
+    common_nodes::kind_of(head) == 5
+        && common_members::count_trees(&s[1..used], n) == Some(common_nodes::children_of(head))
 }
 
 // Every number is zero. All are read, with no way out before the last, so that the machine can take many at a time.
