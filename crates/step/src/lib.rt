@@ -27,7 +27,7 @@ pub fn applies_headed(part: &[u16], rule: usize, i: usize, j: usize, at: usize) 
         1..=8 => rule_simplify::applies(part, rule, i, j, at),
         9..=10 => rule_spread::applies(part, rule, i, j, at),
         11..=13 => rule_lift::applies(part, rule, i, j, at),
-        14..=14 => rule_factor::applies(part, i, j, at),
+        14 => rule_factor::applies(part, i, j, at),
         _ => rule_least::drops(part, i, j, at),
     }
 }
@@ -44,8 +44,8 @@ pub fn turn(part: &mut [u16], rule: usize, i: usize, j: usize)
         1..=8 => rule_simplify::turn(part, rule, i, j),
         9..=10 => rule_spread::turn(part, rule, i, j),
         11..=13 => rule_lift::turn(part, rule, i, j),
-        14..=14 => rule_regroup::turn(part, i, j),
-        15..=15 => rule_least::drop_member(part, i, j),
+        14 => rule_regroup::turn(part, i, j),
+        15 => rule_least::drop_member(part, i, j),
         _ => rule_least::end(part, rule, i, j),
     }
 }
@@ -62,7 +62,7 @@ pub fn applies(part: &[u16], rule: usize, i: u64, j: u64) -> bool
     if 15 < rule {
         return rule_least::ends(part, rule, i as usize, j as usize);
     }
-    let k = common_nodes::children_of(common_nodes::wide16(part[0]));
+    let k = common_nodes::children_of(usize::from(part[0]));
     if k as u64 <= i {
         return false;
     }
@@ -81,8 +81,7 @@ pub fn apply(sheet: &mut [u16], rule: usize, place: usize, i: usize, j: usize)
     let from = 2 + place;
     turn(&mut sheet[from..], rule, i, j);
     match rule {
-        9..=12 => {}
-        17..=17 => {}
+        9..=12 | 17 => {}
         _ => sheet[1] = sheet_shifts::live_count(&sheet[2..]) as u16,
     }
 }
@@ -96,10 +95,11 @@ pub fn apply_by(sheet: &mut [u16], rule: usize, place: usize, i: usize, j: usize
     ensures { sheet.new ≡ stepped sheet.old rule place i j }
 {
     let from = 2 + place;
-    let used = common_nodes::wide16(sheet[1]);
+    let used = usize::from(sheet[1]);
     turn(&mut sheet[from..], rule, i, j);
-    match rule {
-        14..=14 => sheet[1] = sheet_shifts::live_count(&sheet[2..]) as u16,
-        _ => sheet[1] = (used - fewer) as u16,
+    if rule == 14 {
+        sheet[1] = sheet_shifts::live_count(&sheet[2..]) as u16;
+    } else {
+        sheet[1] = (used - fewer) as u16;
     }
 }

@@ -16,7 +16,7 @@ right c = head_right c.args.rule c.requires.stretch (sym c.is_headed.ensures ∙
 counted :
     (c : goal.After-children_of-k) →
     c.children_of-k.result ≡ children (get_or c.args.part.now 0 0)
-counted c = c.children_of-k.ensures ∙ ap children c.wide16.ensures.0
+counted c = c.children_of-k.ensures ∙ ap children c.from.ensures
 
 pub returns-then-not-is_headed : goal.returns-then-not-is_headed
 returns-then-not-is_headed c =

@@ -63,13 +63,13 @@ overflow_cast-sheet c =
 pub bounds-sheet-1 : goal.bounds-sheet-1
 bounds-sheet-1 c = omega (arith, long (goal.at.bounds-sheet-1 c).After-turn)
 
-pub returns-in-17 : goal.returns-in-17
-returns-in-17 c =
+pub returns : goal.returns
+returns c =
     let a = c.args in
     back_level a.sheet.now c.requires.formed a.rule a.place a.i a.j c.requires.sheet_value c.turn.ensures (inr (omega arith))
 
-pub returns-in-9-to-12 : goal.returns-in-9-to-12
-returns-in-9-to-12 c =
+pub returns-then-rule-lt13 : goal.returns-then-rule-lt13
+returns-then-rule-lt13 c =
     let a = c.args in
     back_level a.sheet.now c.requires.formed a.rule a.place a.i a.j c.requires.sheet_value c.turn.ensures (inl (omega arith, omega arith))
 

@@ -12,7 +12,7 @@ use Rattle.theory_rewriting.specs.SheetPlaces.{used_here}
 use Rattle.common_lists.proofs.Lent.{lent_part}
 use Rattle.step.proofs.SheetSteps.{Ready, ready, back_long, back_sheet, back_count}
 use Rattle.step.proofs.apply_by.Goals as goal
-use Rattle.step.proofs.apply_by.Goals.{After-turn, In_default, Start}
+use Rattle.step.proofs.apply_by.Goals.{After-turn, Else-rule-eq14, Start}
 
 -- What holds of the stretch from the place on.
 known : (c : goal.Start) → let a = c.args in Ready a.sheet.now a.rule a.place a.i a.j
@@ -26,10 +26,10 @@ long c =
     back_long a.sheet.now c.requires.formed a.rule a.place a.i a.j c.requires.sheet_value c.turn.ensures c.turn.auto.part
 
 -- The used count to come, where the rule is not 14.
-to_come : (c : goal.In_default) → let a = c.args in
-    used_in (stepped a.sheet.now a.rule a.place a.i a.j) + a.fewer ≡ c.wide16-used.result
+to_come : (c : goal.Else-rule-eq14) → let a = c.args in
+    used_in (stepped a.sheet.now a.rule a.place a.i a.j) + a.fewer ≡ c.from-used.result
 to_come c =
-    c.requires.fewer_value (λ e. omega arith) ∙ used_here c.args.sheet.now ∙ sym c.wide16-used.ensures.0
+    c.requires.fewer_value (λ e. omega arith) ∙ used_here c.args.sheet.now ∙ sym c.from-used.ensures
 
 pub overflow_add-from : goal.overflow_add-from
 overflow_add-from c = let k = known (goal.at.overflow_add-from c).Start in omega (arith, k.within)
@@ -63,16 +63,16 @@ overflow_cast-sheet c =
     )
 
 pub overflow_sub-sheet : goal.overflow_sub-sheet
-overflow_sub-sheet c = omega (arith, to_come (goal.at.overflow_sub-sheet c).In_default)
+overflow_sub-sheet c = omega (arith, to_come (goal.at.overflow_sub-sheet c).Else-rule-eq14)
 
-pub returns-in-14 : goal.returns-in-14
-returns-in-14 c =
+pub returns-then-rule-eq14 : goal.returns-then-rule-eq14
+returns-then-rule-eq14 c =
     let a = c.args in
     rw c.live_count.ensures
     (back_sheet a.sheet.now c.requires.formed a.rule a.place a.i a.j c.requires.sheet_value c.turn.ensures)
 
-pub returns-in_default : goal.returns-in_default
-returns-in_default c =
+pub returns-else-rule-eq14 : goal.returns-else-rule-eq14
+returns-else-rule-eq14 c =
     let a = c.args in
-    back_count a.sheet.now c.requires.formed a.rule a.place a.i a.j c.requires.sheet_value c.turn.ensures (c.wide16-used.result - a.fewer)
-    (omega (arith, to_come (goal.at.returns-in_default c).In_default)) (omega (arith, long (goal.at.returns-in_default c).After-turn))
+    back_count a.sheet.now c.requires.formed a.rule a.place a.i a.j c.requires.sheet_value c.turn.ensures (c.from-used.result - a.fewer)
+    (omega (arith, to_come (goal.at.returns-else-rule-eq14 c).Else-rule-eq14)) (omega (arith, long (goal.at.returns-else-rule-eq14 c).After-turn))
