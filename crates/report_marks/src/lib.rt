@@ -74,12 +74,7 @@ fn all_marked(failed: &[u8; MOST_LITERALS], named: &[u8; NAMED_LENGTH], n: usize
     ensures { result
         ≡ all (λ v. not (is_noted named.now v) || is_marked failed.now v) (count_from 0 n) }
 {
-    for v in 0..n {
-        if is_missing(failed, named, v) {
-            return false;
-        }
-    }
-    true
+    (0..n).all(|v| !is_missing(failed, named, v))
 }
 
 // What a report of a sheet says, whether it is contradictory, and what it writes.

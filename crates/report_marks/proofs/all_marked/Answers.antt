@@ -1,46 +1,62 @@
-use mathlib.Core.Bool.{Bool, true, false, not, ◌&&◌, ◌||◌}
-use mathlib.Core.List.{List}
-use mathlib.Core.Path.{◌≡◌, sym, ◌∙◌}
-use Prim.Native.Nat.{ℕ, suc, ◌+◌, ◌-◌, ◌<◌}
+-- `report_marks::all_marked` meets its contract: what holds of each number below n, or fails of one, is what the definition counts through.
+use mathlib.Core.Bool.{Bool, true, false, not, ◌&&◌, ◌||◌, and-false}
+use mathlib.Core.List.{List, [], ◌∷◌}
+use mathlib.Core.Path.{◌≡◌, refl, sym, ap, ◌∙◌}
+use Prim.Native.Nat.{ℕ, zero, suc, ◌<◌}
 use native.Mathlib.Numerals.{add-one}
 use native.Mathlib.Omega.{arith}
+use borrow.Author.Tests.{tests}
+use lib.ListN.{length}
+use Rattle.std.proofs.Common.{rules}
+use Rattle.std.specs.Bool.{MatchBool}
+use Rattle.std.specs.List.{range_with_len, AllWithin, HoldsAt}
+use Rattle.std.proofs.lemmas.Iterator.{YieldsList-from_range, cases_from_all}
 use Rattle.model.specs.Base.{all}
 use Rattle.model.specs.Propagation.{count_from}
 use Rattle.theory_meaning.specs.FailedLiterals.{is_marked}
 use Rattle.report_marks.specs.Noted.{is_noted}
 use Rattle.report_marks.proofs.all_marked.Goals as goal
-use Rattle.report_marks.proofs.all_marked.Invariants.{left, settled}
 
--- Which is to say that it is not missing.
-not_missing : (a b : Bool) {r c : Bool} → r ≡ (a && not b) → r ≡ c → (not a || b) ≡ not c
-not_missing true true p e = rw (sym e ∙ p)
-not_missing true false p e = rw (sym e ∙ p)
-not_missing false b p e = rw (sym e ∙ p)
+counted : (a n : ℕ) → range_with_len a n ≡ count_from a n
+unfolding count_from
+counted a zero = refl
+counted a (suc n) = ap (λ xs. a ∷ xs) (rw (add-one a) (counted (suc a) n))
 
-module _ (t named : List ℕ) (n v : ℕ) (h : v < n) where
-  more : {r c : Bool} → r ≡ (is_noted named v && not (is_marked t v)) → r ≡ c → left t named n v ≡ (not c && left t named n (v + 1))
-  unfolding all count_from
-  more p q = let e : n - v ≡ suc (n - (v + 1)) = omega arith in rw (e, add-one, not_missing (is_noted named v) (is_marked t v) p q)
+module _ (p : ℕ → Bool) where
+  all_hold : (xs : List ℕ) → AllWithin (λ v. p v ≡ true) xs 0 (length xs) → all p xs ≡ true
+  unfolding all
+  all_hold [] h = refl
+  all_hold (x ∷ xs) h = rw (h 0 0 (omega arith) (omega arith)) (all_hold xs (λ k d a b. h (suc k) d (omega arith) (omega arith)))
 
--- All options are those from 0 on.
-whole : (t named : List ℕ) (n : ℕ) → all (settled t named) (count_from 0 n) ≡ left t named n 0
-whole t named n = let e : n - 0 ≡ n = omega arith in rw e
+  one_fails : (xs : List ℕ) (k : ℕ) → k < length xs → HoldsAt (λ v. p v ≡ false) xs k → all p xs ≡ false
+  unfolding all
+  one_fails [] k l h = absurd (omega arith)
+  one_fails (x ∷ xs) zero l h = rw (h 0)
+  one_fails (x ∷ xs) (suc k) l h = rw (one_fails xs k (omega arith) h) (and-false (p x))
 
-pub returns-then-is_missing : goal.returns-then-is_missing
-returns-then-is_missing c =
-    let a = c.args in
-    let l = c.loop-v-test.true in
-    sym (whole _ _ a.n ∙ c.loop-v.invariant ∙ more _ _ a.n c.loop-v.v l c.is_missing.ensures c.if-is_missing.true)
+  told : (xs : List ℕ) (r : Bool) →
+      MatchBool r (AllWithin (λ v. p v ≡ true) xs 0 (length xs)) ((k : ℕ) × (k < length xs) × HoldsAt (λ v. p v ≡ false) xs k) → r ≡ all p xs
+  told xs true h = sym (all_hold xs h)
+  told xs false h = sym (one_fails xs h.0 h.1 h.2)
 
-pub loop-v-preserved : goal.loop-v-preserved
-loop-v-preserved c =
-    let a = c.args in
-    let l = c.loop-v-test.true in
-    c.loop-v.invariant ∙ more _ _ a.n c.loop-v.v l c.is_missing.ensures c.if-is_missing.false
+-- An option is not named or is in or out: which is to say that it is not missing.
+not_missing : (a b : Bool) → (not a || b) ≡ not (a && not b)
+not_missing true true = refl
+not_missing true false = refl
+not_missing false b = refl
 
 pub returns : goal.returns
-unfolding all count_from
 returns c =
-    let a = c.args in
-    let e : a.n - c.loop-v.v ≡ 0 = omega arith in
-    sym (whole _ _ a.n ∙ c.loop-v.invariant ∙ rw e)
+    let t = c.args.failed.now in
+    let named = c.args.named.now in
+    let n = c.args.n in
+    let settled : ℕ → Bool = λ v. not (is_noted named v) || is_marked t v in
+    let h = cases_from_all _ _ _ (λ v. settled v ≡ true) (λ v. settled v ≡ false)
+    c.all.ensures.ran (YieldsList-from_range 0 n n refl (omega arith))
+    (λ x q k.
+    let w : (q ≡ (c.args.failed, c.args.named)) × (not (is_noted named x && not (is_marked t x)) ≡ true) = search (rules, tests) in
+    (w.0, not_missing (is_noted named x) (is_marked t x) ∙ w.1))
+    (λ x q k.
+    let w : not (is_noted named x && not (is_marked t x)) ≡ false = search (rules, tests) in
+    not_missing (is_noted named x) (is_marked t x) ∙ w) in
+    told settled (range_with_len 0 n) c.all.result h ∙ ap (all settled) (counted 0 n)
