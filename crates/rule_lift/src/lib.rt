@@ -13,8 +13,6 @@ ghost use Rattle.theory_reading.specs.Stretches.{Stretch, forest_in};
 ghost use Rattle.theory_rewriting.specs.Heads.{Headed, rewritten_to};
 ghost use Rattle.rule_lift.specs.Asked.{literal_child, others_literal};
 
-use common_limits::KIND_FACTOR_16;
-
 // Every number from one place up to another is a literal.
 fn are_literals(part: &[u16], from: usize, to: usize) -> bool
     requires { (from ≤ to) × (to ≤ length part.now) }
