@@ -1,6 +1,6 @@
 -- A table of bounds: for each place a number below which no rule applies there.
 use Rattle.std.specs.Prelude.{List, ◌≡◌, ℕ, ◌+◌, ◌≤◌, ◌<◌, length, get_or, drop}
-use Rattle.std.proofs.Math.Option.{none}
+use Rattle.std.proofs.Math.Option.{Option, none, some}
 use Rattle.model.specs.Code.{Node, decode}
 use Rattle.model.specs.Limits.{sheet_room, no_rule}
 use Rattle.model.specs.Sheet.{used_in, nodes_in}
@@ -14,6 +14,11 @@ Bounds ns t = (q r : ℕ) → q < length ns → 1 ≤ r → r < get_or t q 0 →
 -- Those from one place up to another are so high at least.
 abbrev pub High : ℕ → ℕ → ℕ → List ℕ → Type 0
 High r from to t = (q : ℕ) → from ≤ q → q < to → r ≤ get_or t q 0
+
+-- The first place from one on, and before another, whose bound is not so high, where there is one.
+abbrev pub FirstWaiting : ℕ → ℕ → ℕ → List ℕ → Option ℕ → Type 0
+FirstWaiting r from to t (some place) = (from ≤ place) × (place < to) × High r from place t
+FirstWaiting r from to t none = High r from to t
 
 -- Bounds only rise.
 abbrev pub Rises : List ℕ → List ℕ → Type 0

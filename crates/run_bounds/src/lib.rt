@@ -4,6 +4,7 @@
 
 ghost use Rattle.std.specs.Prelude.{◌≡◌, false, ℕ, ◌+◌, ◌≤◌, ◌<◌, length, get_or, drop};
 ghost use Rattle.std.proofs.Math.Option.{none};
+ghost use Rattle.common_lists.specs.Given.{given};
 ghost use Rattle.model.specs.Limits.{sheet_room, last_rule, no_rule};
 ghost use Rattle.model.specs.Code.{decode};
 ghost use Rattle.model.specs.Strategy.{least_i, least_place, next};
@@ -12,10 +13,10 @@ ghost use Rattle.rule_table.specs.Columns.{kind_for};
 ghost use Rattle.search_sizes.specs.Ranges.{block};
 ghost use Rattle.search_sizes.specs.SizeTables.{Measured};
 ghost use Rattle.search_place.specs.Redexes.{spot_of, next_of};
-ghost use Rattle.run_bounds.specs.BoundTables.{High, Tabled, Raised, ComeTo};
+ghost use Rattle.run_bounds.specs.BoundTables.{High, FirstWaiting, Tabled, Raised, ComeTo};
 ghost use Rattle.run_bounds.specs.Floors.{floor_of, place_of};
 
-use common_limits::{LAST_RULE, NO_RULE};
+use common_limits::NO_RULE;
 use search_place::{Redex, Spot};
 use search_sizes::BLOCK;
 
@@ -29,14 +30,12 @@ fn next_for(kind: usize, rule: usize) -> usize
         × (result ≤ no_rule)
         × ((s : ℕ) → rule < s → s < result → kind_for s ≡ kind → ⊥) }
 {
-    let mut next = rule + 1;
-    while next <= LAST_RULE {
+    for next in rule + 1..NO_RULE {
         if rule_table::kind_for(next) == kind {
             return next;
         }
-        next += 1;
     }
-    next
+    NO_RULE
 }
 
 // Where the rule applies at a place whose bound has come to the rule; where the rule does not apply the bound rises to the next rule for
@@ -73,15 +72,14 @@ fn some_waiting(low: &[u16], rule: u16, from: usize) -> bool
     ensures { result ≡ false → High (rule + 1) from (from + block) low.now }
 {
     let mut some = false;
-    let mut k = 0;
-    while k < BLOCK {
-        some = some | (low[from + k] <= rule);
-        k += 1;
+    for k in 0..BLOCK {
+        some |= low[from + k] <= rule;
     }
     some
 }
 
-// From one place on, and up to another, block by block over those in which all bounds are past a rule: the place after these blocks.
+// From one place on, and up to another, block by block over those in which all bounds are past a rule: the place after these blocks. A
+// `while`, since each turn hops by a block.
 fn past_blocks(low: &[u16], rule: u16, from: usize, to: usize) -> usize
     requires { (from ≤ to)
         × (to ≤ length low.now)
@@ -97,25 +95,21 @@ fn past_blocks(low: &[u16], rule: u16, from: usize, to: usize) -> usize
     place
 }
 
-// The first place from one on, and before another, whose bound is not past a rule; that other where all are.
-fn first_waiting(low: &[u16], rule: usize, from: usize, to: usize) -> usize
+// The first place from one on, and before another, whose bound is not past a rule.
+fn first_waiting(low: &[u16], rule: usize, from: usize, to: usize) -> Option<usize>
     requires from_le_to { (from ≤ to)
         × (to ≤ length low.now)
         × (to ≤ sheet_room) }
     requires rule_le_no_rule { rule ≤ no_rule }
-    ensures { (from ≤ result)
-        × (result ≤ to)
-        × High (rule + 1) from result low.now }
+    ensures { FirstWaiting (rule + 1) from to low.now (given result) }
 {
     let narrow = rule as u16;
-    let mut place = past_blocks(low, narrow, from, to);
-    while place < to {
+    for place in past_blocks(low, narrow, from, to)..to {
         if low[place] <= narrow {
-            return place;
+            return Some(place);
         }
-        place += 1;
     }
-    place
+    None
 }
 
 // The least place for a rule that all bounds have come to, from a start on before which all are past it.
@@ -132,17 +126,17 @@ fn least_place(
     ensures come_to_2 { ComeTo (floor_of (rule + 1) result) (place_of result) sheet.now sizes.now low.new }
 {
     let used = usize::from(sheet[1]);
-    let mut place = first_waiting(low, rule, start, used);
-    while place < used {
+    let mut from = start;
+    while let Some(place) = first_waiting(low, rule, from, used) {
         if let Some(spot) = try_at(sheet, sizes, low, rule, place) {
             return Some(Redex {
-                rule: rule,
-                place: place,
+                rule,
+                place,
                 i: spot.i,
                 j: spot.j,
             });
         }
-        place = first_waiting(low, rule, place + 1, used);
+        from = place + 1;
     }
     None
 }
@@ -159,13 +153,11 @@ pub fn next_redex(
     ensures result_value { next_of result ≡ next (nodes_in sheet.now) }
     ensures come_to { ComeTo (floor_of no_rule result) (place_of result) sheet.now sizes.now low.new }
 {
-    let mut rule = floor;
     let mut start = cursor;
-    while rule <= LAST_RULE {
+    for rule in floor..NO_RULE {
         if let Some(redex) = least_place(sheet, sizes, low, rule, start) {
             return Some(redex);
         }
-        rule += 1;
         start = 0;
     }
     None
@@ -238,10 +230,10 @@ pub fn raise_all(
     ensures raised { Raised sheet.now sizes.now low.old low.new }
 {
     let mut floor = limit;
-    let mut place = first_waiting(low, floor - 1, from, to);
-    while place < to {
+    let mut start = from;
+    while let Some(place) = first_waiting(low, floor - 1, start, to) {
         floor = raise(sheet, sizes, low, place, floor);
-        place = first_waiting(low, floor - 1, place + 1, to);
+        start = place + 1;
     }
     floor
 }

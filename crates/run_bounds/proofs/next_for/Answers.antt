@@ -8,9 +8,5 @@ use Rattle.run_bounds.proofs.next_for.Goals as goal
 pub loop-next-preserved : goal.loop-next-preserved
 loop-next-preserved c =
     let a = c.args in
-    let i = c.loop-next.invariant in (
-      omega (arith, i.0),
-      omega arith,
-      λ s l m. range_more (λ k. kind_for k ≡ a.kind → ⊥) {from = a.rule + 1} c.loop-next.next (λ k l m. i.2 k (omega arith) m)
-          (λ e. c.if-kind_for-kind.false (c.kind_for.ensures ∙ e)) s (omega arith) m,
-    )
+    λ s l m. range_more (λ k. kind_for k ≡ a.kind → ⊥) {from = a.rule + 1} c.loop-next.next
+    (λ k l m. c.loop-next.invariant k (omega arith) m) (λ e. c.if-kind_for-kind.false (c.kind_for.ensures ∙ e)) s (omega arith) m

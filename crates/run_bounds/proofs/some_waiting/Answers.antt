@@ -12,10 +12,8 @@ use Rattle.run_bounds.proofs.some_waiting.Goals as goal
 pub loop-k-preserved : goal.loop-k-preserved
 loop-k-preserved c =
     let a = c.args in
-    let x = get_or a.low.now (a.from + c.loop-k.k) 0 in (
-      omega arith,
-      λ e. let both = or_neither c.loop-k.some (leb x a.rule) e in
-          let sum : a.from + c.loop-k.k + 1 ≡ a.from + (c.loop-k.k + 1) = omega arith in
-          subst (λ k. High (a.rule + 1) a.from k a.low.now) sum
-          (high_more (a.from + c.loop-k.k) a.low.now (c.loop-k.invariant.1 both.0) (omega (arith, leb-false x a.rule both.1))),
-    )
+    let x = get_or a.low.now (a.from + c.loop-k.k) 0 in
+    let sum : a.from + c.loop-k.k + 1 ≡ a.from + (c.loop-k.k + 1) = omega arith in
+    λ e. let both = or_neither c.loop-k.some (leb x a.rule) e in
+    subst (λ k. High (a.rule + 1) a.from k a.low.now) sum
+    (high_more (a.from + c.loop-k.k) a.low.now (c.loop-k.invariant both.0) (omega (arith, leb-false x a.rule both.1)))
