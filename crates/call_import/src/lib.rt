@@ -10,6 +10,7 @@ ghost use Rattle.call_import.specs.Sizes.{over_limits, Small};
 use call_answers::{Found, Refusal};
 use common_limits::{CODE_LENGTH, HEAD_LENGTH, MOST_NODES, MOST_OPTIONS, MOST_RULES};
 use common_weight::MOST_WEIGHT;
+use import_clauses::Shape;
 use import_judge::Judged;
 
 // Whether so many options, told by their digits, clauses and marks are too many for a book. The nodes are known to be few before a
@@ -42,12 +43,17 @@ fn put_file(text: &[u8], options: usize, judged: Judged, out: &mut [u8]) -> Foun
 {
     let rules = judged.clauses;
     let nodes = rules + judged.marks;
-    let body = judged.body;
     let long = HEAD_LENGTH + CODE_LENGTH * options + 4 * rules + 2 * nodes;
     if out.len() < long {
         return Found::Refused(Refusal::Output);
     }
-    import_clauses::put_book(text, body, options, rules, nodes, out);
+    let shape = Shape {
+        body: judged.body,
+        options,
+        rules,
+        nodes,
+    };
+    import_clauses::put_book(text, shape, out);
     Found::Value(long)
 }
 

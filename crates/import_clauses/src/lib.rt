@@ -18,6 +18,15 @@ ghost use Rattle.import_clauses.specs.FileFrom.{clauses_from, file_from, JudgedG
 
 use common_limits::{CODE_LENGTH, HEAD_LENGTH, KIND_FACTOR};
 
+// What a judged text gives its book: where its words begin, and how many options, rules and nodes there are.
+#[derive(Clone, Copy)]
+pub struct Shape {
+    pub body: usize,
+    pub options: usize,
+    pub rules: usize,
+    pub nodes: usize,
+}
+
 // A mark, and the place after its word.
 #[derive(Clone, Copy)]
 struct Mark {
@@ -86,20 +95,20 @@ fn read_mark(text: &[u8], at: usize) -> Mark
     }
 }
 
-// The clauses from a place on, in one pass over their words: marks as they come, and at each 0 the rule that ends there.
-fn put_clauses(text: &[u8], body: usize, options: usize, rules: usize, out: &mut [u8])
-    requires judged_good { JudgedGood text.now body options rules }
-    requires body_in_bounds { length (book_of_file (file_from options text.now body)) ≤ length out.old }
-    ensures { let contents = head_length + code_length * options in
-        let clauses = clauses_from options text.now body in
-        out.new ≡ drafted contents (contents + 4 * rules) 0 0 1 clauses out.old }
+// The clauses of a judged text, in one pass over their words: marks as they come, and at each 0 the rule that ends there.
+fn put_clauses(text: &[u8], shape: Shape, out: &mut [u8])
+    requires judged_good { JudgedGood text.now shape.body shape.options shape.rules }
+    requires body_in_bounds { length (book_of_file (file_from shape.options text.now shape.body)) ≤ length out.old }
+    ensures { let contents = head_length + code_length * shape.options in
+        let clauses = clauses_from shape.options text.now shape.body in
+        out.new ≡ drafted contents (contents + 4 * shape.rules) 0 0 1 clauses out.old }
 {
-    let contents = HEAD_LENGTH + CODE_LENGTH * options;
-    let bodies = contents + 4 * rules;
+    let contents = HEAD_LENGTH + CODE_LENGTH * shape.options;
+    let bodies = contents + 4 * shape.rules;
     let mut k = 0;
     let mut first = 0;
     let mut next = 1;
-    let mut at = import_bytes::past_blanks(text, body);
+    let mut at = import_bytes::past_blanks(text, shape.body);
     // Each turn hops over a word, whose end is read.
     while at < text.len() {
         if text[at] == b'0' {
@@ -117,21 +126,14 @@ fn put_clauses(text: &[u8], body: usize, options: usize, rules: usize, out: &mut
     }
 }
 
-// The book of a judged file: its head, its codes, and its clauses.
-pub fn put_book(
-    text: &[u8],
-    body: usize,
-    options: usize,
-    rules: usize,
-    nodes: usize,
-    out: &mut [u8],
-)
-    requires judged_good { JudgedGood text.now body options rules }
-    requires nodes_value { nodes ≡ length (nodes_of_file (file_from options text.now body)) }
-    requires body_in_bounds { length (book_of_file (file_from options text.now body)) ≤ length out.old }
-    ensures { out.new ≡ placed (book_of_file (file_from options text.now body)) out.old }
+// The book of a judged text: its head, its codes, and its clauses.
+pub fn put_book(text: &[u8], shape: Shape, out: &mut [u8])
+    requires judged_good { JudgedGood text.now shape.body shape.options shape.rules }
+    requires nodes_value { shape.nodes ≡ length (nodes_of_file (file_from shape.options text.now shape.body)) }
+    requires body_in_bounds { length (book_of_file (file_from shape.options text.now shape.body)) ≤ length out.old }
+    ensures { out.new ≡ placed (book_of_file (file_from shape.options text.now shape.body)) out.old }
 {
-    book_bytes::put_head(out, options, rules, nodes);
-    import_codes::put_codes(options, &mut out[HEAD_LENGTH..]);
-    put_clauses(text, body, options, rules, out);
+    book_bytes::put_head(out, shape.options, shape.rules, shape.nodes);
+    import_codes::put_codes(shape.options, &mut out[HEAD_LENGTH..]);
+    put_clauses(text, shape, out);
 }

@@ -31,5 +31,5 @@ returns c =
     let head = c.put_head in
     let s = c in
     c.put_clauses.ensures
-    ∙ book_written s.args.out.now s.requires.judged_good s.requires.body_in_bounds s.args.nodes _ _ s.requires.nodes_value head.ensures
+    ∙ book_written s.args.out.now s.requires.judged_good s.requires.body_in_bounds s.args.shape.nodes _ _ s.requires.nodes_value head.ensures
     head.auto.out codes.ensures
