@@ -2,7 +2,7 @@
 // the literals that failed, in order; for each part it is noted how long the trail was when the part was last looked at.
 #![tactic(auto)]
 
-ghost use Rattle.std.specs.Prelude.{◌≡◌, ℕ, ◌+◌, ◌<◌, length, get_or, set, replicate, MatchOption, MatchResult};
+ghost use Rattle.std.specs.Prelude.{◌≡◌, true, false, ℕ, ◌+◌, ◌<◌, length, get_or, set, replicate, MatchOption, MatchResult};
 ghost use Rattle.model.specs.Base.{pick};
 ghost use Rattle.model.specs.Limits.{sheet_length, most_literals};
 ghost use Rattle.model.specs.Sheet.{report_in};
@@ -42,6 +42,13 @@ pub enum Forced {
     Nothing,
     Fails,
     Untold,
+}
+
+// What a pass over a part writes in; what it holds before does not matter.
+#[derive(Clone, Copy)]
+struct Scratch {
+    places: [u16; SHEET_ROOM],
+    stack: [u16; SHEET_ROOM],
 }
 
 // The sheet has fallen: a part fails under what is known.
@@ -117,8 +124,7 @@ fn look_inside(
     failed: &mut [u8; MOST_LITERALS],
     trail: &mut [u16; MOST_LITERALS],
     known: usize,
-    places: &mut [u16; SHEET_ROOM],
-    stack: &mut [u16; SHEET_ROOM],
+    scratch: &mut Scratch,
 ) -> Result<usize, Fallen>
     requires formed { Formed sheet.now }
     requires part { Part sheet.now part.from part.to }
@@ -127,11 +133,15 @@ fn look_inside(
         (Looked sheet.now part.from part.to failed.old trail.old known failed.new trail.new)
         (λ _. HasFallen sheet.now failed.new) }
 {
-    let n = report_breaking::breaking(&sheet[part.from..part.to], failed, places, stack).ok_or(
-        Fallen,
-    )?;
+    let n = report_breaking::breaking(
+        &sheet[part.from..part.to],
+        failed,
+        &mut scratch.places,
+        &mut scratch.stack,
+    )
+    .ok_or(Fallen)?;
     let mut grown = known;
-    for place in &places[..n] {
+    for place in &scratch.places[..n] {
         grown = learn(usize::from(*place), failed, trail, grown);
     }
     Ok(grown)
@@ -144,8 +154,7 @@ fn look(
     failed: &mut [u8; MOST_LITERALS],
     trail: &mut [u16; MOST_LITERALS],
     known: usize,
-    places: &mut [u16; SHEET_ROOM],
-    stack: &mut [u16; SHEET_ROOM],
+    scratch: &mut Scratch,
 ) -> Result<usize, Fallen>
     requires formed { Formed sheet.now }
     requires part { Part sheet.now part.from part.to }
@@ -158,7 +167,7 @@ fn look(
         Forced::Only(place) => Ok(learn(place, failed, trail, known)),
         Forced::Nothing => Ok(known),
         Forced::Fails => Err(Fallen),
-        Forced::Untold => look_inside(sheet, part, failed, trail, known, places, stack),
+        Forced::Untold => look_inside(sheet, part, failed, trail, known, scratch),
     }
 }
 
@@ -169,8 +178,7 @@ fn look_at_all(
     seen: &mut [u16; SHEET_LENGTH],
     failed: &mut [u8; MOST_LITERALS],
     trail: &mut [u16; MOST_LITERALS],
-    places: &mut [u16; SHEET_ROOM],
-    stack: &mut [u16; SHEET_ROOM],
+    scratch: &mut Scratch,
 ) -> Result<usize, Fallen>
     requires formed { Formed sheet.now }
     requires part_ends { PartEnds sheet.now ends.now }
@@ -184,15 +192,7 @@ fn look_at_all(
         let to = usize::from(*end);
         if 0 < to {
             seen[from] = known as u16;
-            known = look(
-                sheet,
-                Extent { from, to },
-                failed,
-                trail,
-                known,
-                places,
-                stack,
-            )?;
+            known = look(sheet, Extent { from, to }, failed, trail, known, scratch)?;
         }
     }
     Ok(known)
@@ -259,7 +259,59 @@ fn next_due(
 }
 
 // Looks at each part, and then again at the parts that hold a literal of the trail, until its end: at small parts first, and at all
-// where no small one is left. Whether the sheet is contradictory.
+// where no small one is left.
+fn settle(
+    sheet: &[u16],
+    ends: &[u16; SHEET_LENGTH],
+    homes: &[u16; SHEET_LENGTH],
+    links: &[u16; LINKS_LENGTH],
+    seen: &mut [u16; SHEET_LENGTH],
+    failed: &mut [u8; MOST_LITERALS],
+    trail: &mut [u16; MOST_LITERALS],
+) -> Result<(), Fallen>
+    requires formed { Formed sheet.now }
+    requires parted { Parted sheet.now ends.now homes.now }
+    requires linked { Linked sheet.now links.now }
+    requires seen_value { seen.old ≡ replicate sheet_length 0 }
+    requires failed_value { failed.old ≡ replicate most_literals 0 }
+    requires trail_len { length trail.old ≡ most_literals }
+    ensures has_report { HasReport sheet.now failed.new }
+    ensures value { MatchResult result
+        (λ _. false ≡ (report_in sheet.now).contradictory)
+        (λ _. true ≡ (report_in sheet.now).contradictory) }
+{
+    let mut scratch = Scratch {
+        places: [0; SHEET_ROOM],
+        stack: [0; SHEET_ROOM],
+    };
+    let mut known = look_at_all(sheet, ends, seen, failed, trail, &mut scratch)?;
+    let mut small = 0;
+    let mut large = 0;
+    // No part is below the first turn's limit, so that it ends at once.
+    let mut turn = Turn {
+        index: 0,
+        place: 0,
+        limit: 0,
+    };
+    loop {
+        if let Some(n) = next_due(ends, homes, links, seen, turn) {
+            let part = part_at(ends, homes, n);
+            seen[part.from] = known as u16;
+            known = look(sheet, part, failed, trail, known, &mut scratch)?;
+            turn.place = n;
+        } else if small < known {
+            turn = turn_of(trail, small, SMALL_PART);
+            small += 1;
+        } else if large < known {
+            turn = turn_of(trail, large, SHEET_LENGTH);
+            large += 1;
+        } else {
+            return Ok(());
+        }
+    }
+}
+
+// Settles the sheet's parts. Whether the sheet is contradictory.
 pub fn follow(
     sheet: &[u16],
     ends: &[u16; SHEET_LENGTH],
@@ -278,38 +330,5 @@ pub fn follow(
     ensures has_report { HasReport sheet.now failed.new }
     ensures value { result ≡ (report_in sheet.now).contradictory }
 {
-    let mut places = [0u16; SHEET_ROOM];
-    let mut stack = [0u16; SHEET_ROOM];
-    let start = look_at_all(sheet, ends, seen, failed, trail, &mut places, &mut stack);
-    let Ok(mut known) = start else {
-        return true;
-    };
-    let mut small = 0;
-    let mut large = 0;
-    // No part is below the first turn's limit, so that it ends at once.
-    let mut turn = Turn {
-        index: 0,
-        place: 0,
-        limit: 0,
-    };
-    loop {
-        if let Some(n) = next_due(ends, homes, links, seen, turn) {
-            let part = part_at(ends, homes, n);
-            seen[part.from] = known as u16;
-            let outcome = look(sheet, part, failed, trail, known, &mut places, &mut stack);
-            let Ok(more) = outcome else {
-                return true;
-            };
-            known = more;
-            turn.place = n;
-        } else if small < known {
-            turn = turn_of(trail, small, SMALL_PART);
-            small += 1;
-        } else if large < known {
-            turn = turn_of(trail, large, SHEET_LENGTH);
-            large += 1;
-        } else {
-            return false;
-        }
-    }
+    settle(sheet, ends, homes, links, seen, failed, trail).is_err()
 }

@@ -1,11 +1,11 @@
--- `report_propagation::follow` meets its contract. Invariant: the literals of the trail were followed so far. Each turn of the loop goes
+-- `report_propagation::settle` meets its contract. Invariant: the literals of the trail were followed so far. Each turn of the loop goes
 -- down a chain or begins the next literal's, and the trail never has more literals than there are.
 use Prim.Native.Nat.{◌+◌, ◌*◌, ◌-◌, ◌≤◌}
 use Rattle.model.specs.Limits.{most_literals}
 use Rattle.theory_forms.specs.Sheets.{Formed}
 use Rattle.report_parts.specs.Parts.{Parted, Linked}
 use Rattle.report_propagation.proofs.Following.{Following}
-use Rattle.report_propagation.proofs.follow.Given as goal
+use Rattle.report_propagation.proofs.settle.Given as goal
 
 abbrev pub invariant-loop-n : goal.invariant-loop-n
 invariant-loop-n l =
