@@ -1,2 +1,3 @@
 pub mod CodesFrom
 pub mod Pieces
+pub mod Listing

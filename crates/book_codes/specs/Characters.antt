@@ -1,8 +1,7 @@
--- The characters of codes as a table: 1 at each byte that is one.
-use Rattle.std.specs.Prelude.{List, map, ℕ}
-use Rattle.model.specs.Base.{pick}
+-- Which bytes are characters, as a table: whether each byte is one.
+use Rattle.std.specs.Prelude.{Bool, List, map}
 use Rattle.model.specs.Propagation.{count_from}
 use Rattle.model.specs.Book.{character}
 
-unfoldable pub character_table : List ℕ
-character_table = map (λ x. pick (character x) 1 0) (count_from 0 256)
+unfoldable pub character_table : List Bool
+character_table = map character (count_from 0 256)

@@ -1,14 +1,7 @@
--- What a place among the codes is in the definitions, and the codes from a place on.
+-- The codes from a place on.
 use Rattle.std.specs.Prelude.{List, ℕ, ◌-◌, ◌*◌, length, take, drop}
-use Rattle.std.proofs.Math.Option.{Option, none, some}
 use Rattle.model.specs.Limits.{code_length}
 use Rattle.model.specs.Book.{pieces}
-use Rattle.book_codes.specs.declared.Place.{Place}
-use Rattle.book_codes.specs.declared.Place.TheVariants.{Index, Nowhere}
-
-abbrev pub place_of : Place → Option ℕ
-place_of (Index i) = some i
-place_of Nowhere = none
 
 -- The bytes from code i on, as they are lent; that code; those of n codes that come after it; it and those after it.
 abbrev pub lent_from : List ℕ → ℕ → List ℕ

@@ -20,25 +20,20 @@ fn is_repeated(s: &[u8], n: usize) -> bool
     ensures { let l = s.now in
         result ≡ any (same_code (take code_length l)) (pieces code_length (n - 1) (drop code_length l)) }
 {
-    let mut i = 1;
-    while i < n {
-        let at = CODE_LENGTH * i;
-        if book_codes::is_same(s, &s[at..]) {
+    for i in 1..n {
+        if book_codes::is_same(s, &s[CODE_LENGTH * i..]) {
             return true;
         }
-        i += 1;
     }
     false
 }
 
 // Four bytes from a place on as one number.
-fn quad_at(s: &[u8], k: usize) -> usize
+fn quad_at(s: &[u8], k: usize) -> u32
     requires { k + 4 ≤ length s.now }
-    ensures { (result ≡ quad s.now k) × (result < 4294967296) }
+    ensures { result ≡ quad s.now k }
 {
-    let low = common_nodes::wide(s[k]) + 256 * common_nodes::wide(s[k + 1]);
-    let high = common_nodes::wide(s[k + 2]) + 256 * common_nodes::wide(s[k + 3]);
-    low + 65536 * high
+    u32::from_le_bytes([s[k], s[k + 1], s[k + 2], s[k + 3]])
 }
 
 // The hash of the first code: ten bits to which each of its 13 bytes contributes. The factors are odd and have no meaning; they
@@ -47,8 +42,8 @@ fn hash_of(s: &[u8]) -> usize
     requires { code_length ≤ length s.now }
     ensures { (result ≡ hash (take code_length s.now)) × (result < buckets) }
 {
-    let start = 590689913 * quad_at(s, 0) + 886825557 * quad_at(s, 4);
-    let end = 694313169 * quad_at(s, 8) + 932360273 * common_nodes::wide(s[12]);
+    let start = 590689913 * quad_at(s, 0) as usize + 886825557 * quad_at(s, 4) as usize;
+    let end = 694313169 * quad_at(s, 8) as usize + 932360273 * usize::from(s[12]);
     (start + end) / 4194304 % BUCKETS
 }
 
@@ -57,36 +52,34 @@ fn comes_again(s: &[u8], n: usize, i: usize, next: &[u16; MOST_OPTIONS], from: u
     requires { Walk n s.now i next.now from }
     ensures { result ≡ comes_after n s.now i }
 {
-    let at = CODE_LENGTH * i;
+    let code = &s[CODE_LENGTH * i..];
     let mut q = from;
+    // The places are those that `next` leads to: no range goes over them.
     while q < n {
-        let there = CODE_LENGTH * q;
-        if book_codes::is_same(&s[at..], &s[there..]) {
+        if book_codes::is_same(code, &s[CODE_LENGTH * q..]) {
             return true;
         }
-        q = common_nodes::wide16(next[q]);
+        q = usize::from(next[q]);
     }
     false
 }
 
 // Each of n codes, no more than the tables hold, is well-formed and equals no other. The codes are entered from the last on:
 // `first` has for a hash the first code entered so far, `next` for a code the next one of its hash, and 65535 stands for none.
-fn are_few_codes(s: &[u8], n: usize, characters: &[u8; BYTES]) -> bool
+fn are_few_codes(s: &[u8], n: usize, characters: &[bool; BYTES]) -> bool
     requires { (n ≤ most_options) × (code_length * n ≤ length s.now) × (characters.now ≡ character_table) }
     ensures { result ≡ codes_ok (pieces code_length n s.now) }
 {
     let mut first = [65535u16; BUCKETS];
     let mut next = [65535u16; MOST_OPTIONS];
-    let mut i = n;
-    while 0 < i {
-        i -= 1;
-        let at = CODE_LENGTH * i;
-        if !book_codes::is_code(&s[at..], characters) {
+    for i in (0..n).rev() {
+        let code = &s[CODE_LENGTH * i..];
+        if !book_codes::is_code(code, characters) {
             return false;
         }
-        let h = hash_of(&s[at..]);
+        let h = hash_of(code);
         let p = first[h];
-        if comes_again(s, n, i, &next, common_nodes::wide16(p)) {
+        if comes_again(s, n, i, &next, usize::from(p)) {
             return false;
         }
         next[i] = p;
@@ -101,17 +94,12 @@ pub fn are_codes(s: &[u8], n: usize) -> bool
     ensures { result ≡ codes_ok (pieces code_length n s.now) }
 {
     let characters = book_codes::character_table();
-    let mut i = 0;
-    while MOST_OPTIONS < n - i {
-        let at = CODE_LENGTH * i;
-        if !book_codes::is_code(&s[at..], &characters) {
+    let more = n.saturating_sub(MOST_OPTIONS);
+    for i in 0..more {
+        let codes = &s[CODE_LENGTH * i..];
+        if !book_codes::is_code(codes, &characters) || is_repeated(codes, n - i) {
             return false;
         }
-        if is_repeated(&s[at..], n - i) {
-            return false;
-        }
-        i += 1;
     }
-    let rest = CODE_LENGTH * i;
-    are_few_codes(&s[rest..], n - i, &characters)
+    are_few_codes(&s[CODE_LENGTH * more..], n - more, &characters)
 }

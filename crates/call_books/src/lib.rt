@@ -9,7 +9,6 @@ ghost use Rattle.calls.specs.Chains.{part_refusal};
 ghost use Rattle.call_laws.specs.Books.{GoodHead};
 ghost use Rattle.call_answers.specs.AnswerMeaning.{done_of, due_of, found_of};
 
-use book_codes::Place;
 use call_answers::{Done, Found, Refusal};
 use common_limits::{CODE_LENGTH, HEAD_LENGTH, MOST_NODES, MOST_OPTIONS, MOST_RULES};
 use common_weight::MOST_WEIGHT;
@@ -82,8 +81,8 @@ pub fn lookup(book: &[u8], code: &[u8]) -> Found
     }
     let n = common_nodes::word_at(book, 0);
     let place = book_codes::find(&book[HEAD_LENGTH..], n, code);
-    if let Place::Index(v) = place {
-        return Found::Value(v);
+    match place {
+        Some(v) => Found::Value(v),
+        None => Found::Refused(Refusal::Unknown),
     }
-    Found::Refused(Refusal::Unknown)
 }

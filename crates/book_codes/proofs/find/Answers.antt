@@ -15,27 +15,27 @@ use Rattle.book_codes.proofs.find.Goals.{In-loop-i}
 
 -- The same, told by code i and those after it.
 abbrev found_by : List ℕ → ℕ → List ℕ → ℕ → Option ℕ
-found_by given n s i = pick (same_code given (characters (code_at s i))) (some i) (found_from given n s (i + 1))
+found_by wanted n s i = pick (same_code wanted (characters (code_at s i))) (some i) (found_from wanted n s (i + 1))
 
-more : (given : List ℕ) (n : ℕ) (s : List ℕ) (i : ℕ) → i < n → found_from given n s i ≡ found_by given n s i
+more : (wanted : List ℕ) (n : ℕ) (s : List ℕ) (i : ℕ) → i < n → found_from wanted n s i ≡ found_by wanted n s i
 unfolding option_of_code
-more given n s i h = rw (from_cons n s i h, from_next n s i, add-one i)
+more wanted n s i h = rw (from_cons n s i h, from_next n s i, add-one i)
 
-nowhere : (given : List ℕ) (n : ℕ) (s : List ℕ) (i : ℕ) → n ≤ i → found_from given n s i ≡ none
+nowhere : (wanted : List ℕ) (n : ℕ) (s : List ℕ) (i : ℕ) → n ≤ i → found_from wanted n s i ≡ none
 unfolding option_of_code
-nowhere given n s i h = rw (from_past n s i h)
+nowhere wanted n s i h = rw (from_past n s i h)
 
 turn :
     (c : goal.In-loop-i) →
     let a = c.args in
-    option_of_code a.given.now 0 (pieces code_length a.n a.s.now)
-    ≡ found_by a.given.now a.n a.s.now c.loop-i.i
-turn c = let n = c in let a = n.args in n.loop-i.invariant.1 ∙ more a.given.now a.n a.s.now n.loop-i.i (omega arith)
+    option_of_code a.wanted.now 0 (pieces code_length a.n a.s.now)
+    ≡ found_by a.wanted.now a.n a.s.now c.loop-i.i
+turn c = let n = c in let a = n.args in n.loop-i.invariant ∙ more a.wanted.now a.n a.s.now n.loop-i.i (omega arith)
 
 pub loop-i-init : goal.loop-i-init
 loop-i-init c =
     let a = c.args in
-    (omega arith, rw (from_first a.n a.s.now))
+    rw (from_first a.n a.s.now)
 
 pub returns-then-is_spelled : goal.returns-then-is_spelled
 unfolding pick
@@ -43,10 +43,10 @@ returns-then-is_spelled c = let m = c in sym (turn (goal.at.returns-then-is_spel
 
 pub loop-i-preserved : goal.loop-i-preserved
 unfolding pick
-loop-i-preserved c = let m = c in (omega arith, turn (goal.at.loop-i-preserved c).In-loop-i ∙ rw (← m.is_spelled.ensures, c.if-is_spelled.false))
+loop-i-preserved c = let m = c in turn (goal.at.loop-i-preserved c).In-loop-i ∙ rw (← m.is_spelled.ensures, c.if-is_spelled.false)
 
 pub returns : goal.returns
 returns c =
     let n = c in
     let a = n.args in
-    sym (n.loop-i.invariant.1 ∙ nowhere a.given.now a.n a.s.now n.loop-i.i (omega arith))
+    sym (n.loop-i.invariant ∙ nowhere a.wanted.now a.n a.s.now n.loop-i.i (omega arith))

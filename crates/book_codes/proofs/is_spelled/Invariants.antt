@@ -1,5 +1,5 @@
 -- `book_codes::is_spelled` meets its contract. Invariant: the bytes passed are characters and agree, so that those left decide.
-use Prim.Native.Nat.{◌-◌, ◌≤◌, ℕ}
+use Prim.Native.Nat.{ℕ}
 use mathlib.Core.Path.{◌≡◌}
 use lib.ListN.{take, drop}
 use Rattle.model.specs.Limits.{code_length}
@@ -10,12 +10,9 @@ use lib.Seq.{slice}
 use Rattle.model.specs.Base.{same_list}
 use Rattle.book_codes.proofs.is_spelled.Given as goal
 
--- The characters given are those of the code from place j on.
+-- The characters wanted are those of the code from place j on.
 abbrev pub agree_from : List ℕ → List ℕ → ℕ → Bool
-agree_from s given j = same_list (drop j given) (characters (slice j code_length s))
+agree_from s wanted j = same_list (drop j wanted) (characters (slice j code_length s))
 
 abbrev pub invariant-loop-j : goal.invariant-loop-j
-invariant-loop-j l = (l.j ≤ l.n) × (same_code l.given (characters (take code_length l.s)) ≡ agree_from l.s l.given l.j)
-
-abbrev pub decreases-loop-j : goal.decreases-loop-j
-decreases-loop-j l = l.n - l.j
+invariant-loop-j l = same_code l.wanted (characters (take code_length l.s)) ≡ agree_from l.s l.wanted l.j

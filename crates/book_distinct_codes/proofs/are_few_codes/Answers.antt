@@ -23,7 +23,7 @@ comes_again-requires c =
     let g = c in
     let n = g in
     walk (entered_before (omega arith) n.loop-i.invariant) (omega arith) g.hash_of-h.result g.hash_of-h.ensures.1 g.hash_of-h.ensures.0
-    (omega arith) c.wide16.ensures.0
+    (omega arith) c.from.ensures
 
 pub returns-then-comes_again : goal.returns-then-comes_again
 returns-then-comes_again c =

@@ -4,6 +4,3 @@ use Rattle.book_distinct_codes.proofs.are_few_codes.Given as goal
 
 abbrev pub invariant-loop-i : goal.invariant-loop-i
 invariant-loop-i l = Entered l.n l.s l.first l.next l.i
-
-abbrev pub decreases-loop-i : goal.decreases-loop-i
-decreases-loop-i l = l.i

@@ -46,13 +46,13 @@ pub loop-q-smaller : goal.loop-q-smaller
 loop-q-smaller c =
     let n = c in
     let k = link n.requires n.loop-q.invariant (omega arith) in
-    omega (arith, k.on, c.wide16-q.ensures.0)
+    omega (arith, k.on, c.from-q.ensures)
 
 pub loop-q-preserved : goal.loop-q-preserved
 loop-q-preserved c =
     let m = c in
     let n = m in
-    on n.requires n.loop-q.invariant (omega arith) (sym m.is_same.ensures ∙ c.if-is_same.false) c.wide16-q.ensures.0
+    on n.requires n.loop-q.invariant (omega arith) (sym m.is_same.ensures ∙ c.if-is_same.false) c.from-q.ensures
 
 pub returns : goal.returns
 returns c =

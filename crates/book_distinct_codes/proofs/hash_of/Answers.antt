@@ -11,4 +11,4 @@ returns c =
     let q = c in
     let p = q in
     let a = p in
-    (sym (hash_take a.args.s.now ∙ rw (← a.quad_at.ensures.0, ← p.quad_at-2.ensures.0, ← q.quad_at-3.ensures.0, ← c.wide.ensures.0)), omega arith)
+    (sym (hash_take a.args.s.now ∙ rw (← a.quad_at.ensures, ← p.quad_at-2.ensures, ← q.quad_at-3.ensures, ← c.from.ensures)), omega arith)

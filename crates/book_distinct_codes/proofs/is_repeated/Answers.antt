@@ -19,19 +19,19 @@ turn :
     let a = n.args in
     again a.n a.s.now
     ≡ same_code (take code_length a.s.now) (code_at a.s.now n.loop-i.i) || comes_from (take code_length a.s.now) a.n a.s.now (n.loop-i.i + 1)
-turn c = let n = c in let a = n.args in n.loop-i.invariant.1 ∙ comes_more a.n a.s.now (take code_length a.s.now) n.loop-i.i (omega arith)
+turn c = let n = c in let a = n.args in n.loop-i.invariant ∙ comes_more a.n a.s.now (take code_length a.s.now) n.loop-i.i (omega arith)
 
 pub loop-i-init : goal.loop-i-init
-loop-i-init c = (omega arith, rw (part_to_end c.args.s.now code_length))
+loop-i-init c = rw (part_to_end c.args.s.now code_length)
 
 pub returns-then-is_same : goal.returns-then-is_same
 returns-then-is_same c = let m = c in sym (turn (goal.at.returns-then-is_same c).In-loop-i ∙ rw (← m.is_same.ensures, c.if-is_same.true))
 
 pub loop-i-preserved : goal.loop-i-preserved
-loop-i-preserved c = let m = c in (omega arith, turn (goal.at.loop-i-preserved c).In-loop-i ∙ rw (← m.is_same.ensures, c.if-is_same.false))
+loop-i-preserved c = let m = c in turn (goal.at.loop-i-preserved c).In-loop-i ∙ rw (← m.is_same.ensures, c.if-is_same.false)
 
 pub returns : goal.returns
 returns c =
     let n = c in
     let a = n.args in
-    sym (n.loop-i.invariant.1 ∙ comes_past a.n a.s.now (take code_length a.s.now) n.loop-i.i (omega arith))
+    sym (n.loop-i.invariant ∙ comes_past a.n a.s.now (take code_length a.s.now) n.loop-i.i (omega arith))

@@ -1,5 +1,5 @@
 -- `book_distinct_codes::is_repeated` meets its contract. Invariant: no code passed is the first one, so that those left decide.
-use Prim.Native.Nat.{◌-◌, ◌≤◌, ℕ}
+use Prim.Native.Nat.{◌-◌, ℕ}
 use mathlib.Core.Path.{◌≡◌}
 use lib.ListN.{take, drop}
 use Rattle.model.specs.Limits.{code_length}
@@ -15,7 +15,4 @@ abbrev pub again : ℕ → List ℕ → Bool
 again n s = any (same_code (take code_length s)) (pieces code_length (n - 1) (drop code_length s))
 
 abbrev pub invariant-loop-i : goal.invariant-loop-i
-invariant-loop-i l = (l.i ≤ l.n) × (again l.n l.s ≡ comes_from (take code_length l.s) l.n l.s l.i)
-
-abbrev pub decreases-loop-i : goal.decreases-loop-i
-decreases-loop-i l = l.n - l.i
+invariant-loop-i l = again l.n l.s ≡ comes_from (take code_length l.s) l.n l.s l.i

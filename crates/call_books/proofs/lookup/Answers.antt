@@ -1,22 +1,14 @@
 -- `call_books::lookup` meets its contract: the book's refusal first, and then what was found among the codes.
 use mathlib.Core.Option.{none}
 use mathlib.Core.Path.{◌≡◌, refl, ap, ◌∙◌, sym}
-use Prim.Native.Nat.{ℕ}
 use native.Mathlib.Omega.{arith}
 use borrow.Author.Rules.{part_to_end}
 use lib.ListN.{length-drop}
-use Rattle.book_codes.specs.declared.Place.{Place}
-use Rattle.book_codes.specs.declared.Place.TheVariants.{Index, Nowhere}
-use Rattle.book_codes.specs.CodePlaces.{place_of}
+use Rattle.common_lists.specs.Given.{given}
 use Rattle.calls.specs.Chains.{book_refusal}
 use Rattle.call_books.proofs.BookTests.{good_book, only_accepted, codes_room, lookup_refused, lookup_found, lookup_missing, found_code}
 use Rattle.call_books.proofs.lookup.Goals as goal
 use Rattle.call_books.proofs.lookup.Goals.{In_default}
-
--- What is found at no place.
-nowhere : (x : Place) → ((v : ℕ) → x ≡ Index v → ⊥) → place_of x ≡ none
-nowhere (Index v) h = absurd (h v refl)
-nowhere Nowhere h = refl
 
 good : (c : goal.In_default) → book_refusal c.args.book.now ≡ none
 good c = good_book _ _ c.check-checked.ensures (only_accepted _ c.in_default.not-Refused)
@@ -38,12 +30,12 @@ find-place-requires c =
     let b = c.args.book.now in
     rw (part_to_end b 8, length-drop 8 b) (omega (arith, codes_room b _ (good (goal.at.find-place-requires c).In_default) c.word_at-n.ensures))
 
-pub returns-in-Index : goal.returns-in-Index
-returns-in-Index c =
-    lookup_found _ _ (good (goal.at.returns-in-Index c).In_default) _
-    (found_code _ _ _ c.word_at-n.ensures (ap place_of (sym c.in-Index.is) ∙ c.find-place.ensures))
+pub returns-in-Some : goal.returns-in-Some
+returns-in-Some c =
+    lookup_found _ _ (good (goal.at.returns-in-Some c).In_default) _
+    (found_code _ _ _ c.word_at-n.ensures (ap given (sym c.in-Some.is) ∙ c.find-place.ensures))
 
-pub returns : goal.returns
-returns c =
-    lookup_missing _ _ (good (goal.at.returns c).In_default)
-    (found_code _ _ _ c.word_at-n.ensures (sym (nowhere _ c.in_default-place.not-Index) ∙ c.find-place.ensures))
+pub returns-in-None : goal.returns-in-None
+returns-in-None c =
+    lookup_missing _ _ (good (goal.at.returns-in-None c).In_default)
+    (found_code _ _ _ c.word_at-n.ensures (ap given (sym c.in-None.is) ∙ c.find-place.ensures))
