@@ -6,3 +6,4 @@ pub mod Sizing
 pub mod SizesMoved
 pub mod Stepping
 pub mod Moving
+pub mod MinMax

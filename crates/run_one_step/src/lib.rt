@@ -16,30 +16,6 @@ ghost use Rattle.run_one_step.specs.MovedOn.{MovedOn};
 use run_bounds_after::{Plan, Zone};
 use search_place::Redex;
 
-// The greater of two numbers.
-fn greater(a: usize, b: usize) -> usize
-    ensures { (a ≤ result)
-        × (b ≤ result)
-        × ((result ≡ a) ⊎ (result ≡ b)) }
-{
-    if a < b {
-        return b;
-    }
-    a
-}
-
-// The lesser of two numbers.
-fn lesser(a: usize, b: usize) -> usize
-    ensures { (result ≤ a)
-        × (result ≤ b)
-        × ((result ≡ a) ⊎ (result ≡ b)) }
-{
-    if a < b {
-        return a;
-    }
-    b
-}
-
 // The sizes after a step of a rule at a place. Rules 9 and 10 keep every size, rules 11, 12 and 17 those outside the zone; rule 14 keeps
 // those past all nodes, old and new. After any other rule those behind the zone move with their nodes, those of the trees that hold the
 // place fall, and those of the zone, two at most, are made anew.
@@ -50,9 +26,9 @@ fn resize(sheet: &[u16], sizes: &mut [u16], rule: usize, place: usize, zone: Zon
     match rule {
         9..=10 => {}
         11..=12 | 17 => search_sizes::refill(&sheet[2..], sizes, zone.from, zone.new),
-        14..=14 => search_sizes::refill(&sheet[2..], sizes, 0, most),
+        14 => search_sizes::refill(&sheet[2..], sizes, 0, most),
         _ => {
-            let to = lesser(zone.from, place + 1);
+            let to = zone.from.min(place + 1);
             run_bounds_after::resize_by(sizes, to, place, zone.new, zone.old);
             search_sizes::refill(&sheet[2..], sizes, zone.from, zone.new);
         }
@@ -70,10 +46,10 @@ fn look_ahead(sheet: &[u16], sizes: &[u16], redex: Redex) -> Plan
     let outer = search_sizes::holder(sizes, inner, place);
     let zone = run_bounds_after::zone_of(sheet, sizes, redex);
     Plan {
-        zone: zone,
-        place: place,
-        inner: inner,
-        outer: outer,
+        zone,
+        place,
+        inner,
+        outer,
     }
 }
 
@@ -91,22 +67,14 @@ fn follow(sheet: &[u16], sizes: &[u16], low: &mut [u16], rule: usize, plan: Plan
 {
     match rule {
         9..=10 => {
-            let place = plan.place;
-            let old = plan.zone.old;
-            let new = plan.zone.new;
+            let Zone { old, new, .. } = plan.zone;
             let none = Zone {
                 from: new,
-                old: old,
-                new: new,
+                old,
+                new,
             };
-            let rest = Plan {
-                zone: none,
-                place: place,
-                inner: plan.inner,
-                outer: plan.outer,
-            };
-            run_bounds_after::renew(low, rest);
-            run_bounds_after::set_back(sheet, sizes, low, place + 1, new);
+            run_bounds_after::renew(low, Plan { zone: none, ..plan });
+            run_bounds_after::set_back(sheet, sizes, low, plan.place + 1, new);
         }
         _ => run_bounds_after::renew(low, plan),
     }
@@ -130,15 +98,14 @@ fn move_on(sheet: &mut [u16], sizes: &mut [u16], low: &mut [u16], redex: Redex) 
     let place = redex.place;
     let plan = look_ahead(sheet, sizes, redex);
     let zone = plan.zone;
-    let before = common_nodes::wide16(sheet[1]);
+    let before = usize::from(sheet[1]);
     step::apply_by(sheet, rule, place, redex.i, redex.j, zone.old - zone.new);
-    let most = greater(before, common_nodes::wide16(sheet[1]));
+    let most = before.max(usize::from(sheet[1]));
     resize(sheet, sizes, rule, place, zone, most);
     follow(sheet, sizes, low, rule, plan);
-    let to = greater(place + 1, zone.new);
     Reach {
         from: plan.outer,
-        to: to,
+        to: zone.new.max(place + 1),
     }
 }
 
@@ -157,12 +124,12 @@ pub fn advance(sheet: &mut [u16], sizes: &mut [u16], low: &mut [u16], redex: Red
     ensures come_to_2 { ComeTo result.floor result.cursor sheet.new sizes.new low.new }
 {
     let reach = move_on(sheet, sizes, low, redex);
-    let used = common_nodes::wide16(sheet[1]);
-    let to = lesser(reach.to, used);
-    let from = lesser(reach.from, to);
+    let used = usize::from(sheet[1]);
+    let to = reach.to.min(used);
+    let from = reach.from.min(to);
     let floor = run_bounds::raise_all(sheet, sizes, low, from, to, redex.rule);
     Ahead {
-        floor: floor,
+        floor,
         cursor: from,
     }
 }

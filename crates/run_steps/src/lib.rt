@@ -9,6 +9,7 @@ ghost use Rattle.search_place.specs.Redexes.{next_of};
 ghost use Rattle.run_bounds.specs.BoundTables.{ComeTo};
 
 use common_limits::SHEET_ROOM;
+use run_one_step::Ahead;
 
 // What a run ends with: whether no rule applies any more, and the number of steps done.
 #[derive(Clone, Copy)]
@@ -22,26 +23,24 @@ fn run_by(sheet: &mut [u16], sizes: &mut [u16], low: &mut [u16], budget: u64) ->
     requires { ComeTo 1 0 sheet.old sizes.old low.old }
     ensures { Ends sheet.old budget result.settled result.count sheet.new }
 {
-    let mut floor = 1;
-    let mut cursor = 0;
-    let mut count = 0;
-    while count < budget {
-        let next = run_bounds::next_redex(sheet, sizes, low, floor, cursor);
+    let mut ahead = Ahead {
+        floor: 1,
+        cursor: 0,
+    };
+    for count in 0..budget {
+        let next = run_bounds::next_redex(sheet, sizes, low, ahead.floor, ahead.cursor);
         let Some(redex) = next else {
             return Ended {
                 settled: true,
-                count: count,
+                count,
             };
         };
-        let ahead = run_one_step::advance(sheet, sizes, low, redex);
-        floor = ahead.floor;
-        cursor = ahead.cursor;
-        count += 1;
+        ahead = run_one_step::advance(sheet, sizes, low, redex);
     }
-    let last = run_bounds::next_redex(sheet, sizes, low, floor, cursor);
+    let last = run_bounds::next_redex(sheet, sizes, low, ahead.floor, ahead.cursor);
     Ended {
         settled: last.is_none(),
-        count: count,
+        count: budget,
     }
 }
 

@@ -4,24 +4,24 @@ use mathlib.Core.Path.{◌≡◌, sym, subst, ◌∙◌}
 use native.Mathlib.Omega.{arith}
 use Rattle.model.specs.Sheet.{used_in}
 use Rattle.theory_rewriting.specs.SheetPlaces.{used_here}
+use Rattle.run_one_step.proofs.MinMax.{lesser}
 use Rattle.run_one_step.proofs.Bounding.{high_all, high_ahead}
 use Rattle.run_one_step.proofs.advance.Goals as goal
-use Rattle.run_one_step.proofs.advance.Goals.{After-move_on-reach, After-wide16-used}
+use Rattle.run_one_step.proofs.advance.Goals.{After-move_on-reach, After-from-used}
 
-counted : (c : goal.After-wide16-used) → c.wide16-used.result ≡ used_in c.move_on-reach.new.sheet
+counted : (c : goal.After-from-used) → c.from-used.result ≡ used_in c.move_on-reach.new.sheet
 counted c =
-    c.wide16-used.ensures.0 ∙ sym (used_here c.move_on-reach.new.sheet)
+    c.from-used.ensures ∙ sym (used_here c.move_on-reach.new.sheet)
 
 pub raise_all-floor-requires : goal.raise_all-floor-requires
 raise_all-floor-requires c =
     let p = c.requires in
     let after = c.move_on-reach.ensures.moved_on in
-    let to = c.lesser-to.ensures.1 in
     record {
       le_limit = (p.come_to.some_rule, p.come_to.past_all);
       tabled = after.tables;
-      from_le_to = (c.lesser-from.ensures.1, omega (arith, to, counted (goal.at.raise_all-floor-requires c).After-wide16-used));
-      high = λ q from upto. after.ones q (omega arith) (omega (arith, to, counted (goal.at.raise_all-floor-requires c).After-wide16-used));
+      from_le_to = (omega (arith, c.min-from.ensures), omega (arith, c.min-to.ensures, counted (goal.at.raise_all-floor-requires c).After-from-used));
+      high = λ q from upto. after.ones q (omega arith) (omega (arith, c.min-to.ensures, counted (goal.at.raise_all-floor-requires c).After-from-used));
     }
 
 pub returns : goal.returns
@@ -31,11 +31,11 @@ returns c =
     let old = c.move_on-reach.new.low in
     let new = c.raise_all-floor.new.low in
     let after = c.move_on-reach.ensures.moved_on in
-    let from = c.lesser-from.ensures in
-    let to = c.lesser-to.ensures in
+    let from = lesser reach.from c.min-to.result c.min-from.ensures in
+    let to = lesser reach.to c.from-used.result c.min-to.ensures in
     let floor = c.raise_all-floor.ensures.lower_bound in
     let up = c.raise_all-floor.ensures.raised in
-    let ends = subst (λ k. (c.lesser-to.result ≡ reach.to) ⊎ (c.lesser-to.result ≡ k)) (counted (goal.at.returns c).After-wide16-used) to.2 in
+    let ends = subst (λ k. (c.min-to.result ≡ reach.to) ⊎ (c.min-to.result ≡ k)) (counted (goal.at.returns c).After-from-used) to.2 in
     record {
       sheet_after = c.move_on-reach.ensures.sheet_after;
       come_to_2 = record {
@@ -43,9 +43,9 @@ returns c =
         some_rule = floor.0;
         past_all = omega (arith, floor.1, c.requires.come_to.past_all);
         high = high_all
-            (used_in c.move_on-reach.new.sheet) reach.from reach.to c.lesser-from.result c.lesser-to.result old new a.redex.rule
+            (used_in c.move_on-reach.new.sheet) reach.from reach.to c.min-from.result c.min-to.result old new a.redex.rule
             c.raise_all-floor.result from.0 ends after.outside up.rises floor.2 floor.1;
-        within = omega (arith, from.1, to.1, counted (goal.at.returns c).After-wide16-used);
-        past = high_ahead reach.from c.lesser-from.result old new a.redex.rule c.raise_all-floor.result after.ahead from.0 up.rises floor.1;
+        within = omega (arith, from.1, to.1, counted (goal.at.returns c).After-from-used);
+        past = high_ahead reach.from c.min-from.result old new a.redex.rule c.raise_all-floor.result after.ahead from.0 up.rises floor.1;
       };
     }

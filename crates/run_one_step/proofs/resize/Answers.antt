@@ -2,7 +2,7 @@
 -- fall, and those of the zone are made anew.
 use mathlib.Core.Logic.{◌⊎◌, inl, inr, ⊎_elim}
 use mathlib.Core.Path.{◌≡◌, subst, ◌∙◌}
-use Prim.Native.Nat.{ℕ, ◌≤◌, ◌<◌}
+use Prim.Native.Nat.{ℕ, ◌+◌, ◌≤◌, ◌<◌}
 use native.Mathlib.Omega.{arith}
 use borrow.Author.Tests.{leb-true, leb-false}
 use lib.Dec.{leb}
@@ -12,6 +12,7 @@ use Rattle.common_lists.proofs.Lent.{lent_part}
 use Rattle.theory_reading.specs.Spans.{span}
 use Rattle.locality.specs.Locality.{Level}
 use Rattle.search_sizes.specs.SizeTables.{SizesFrom}
+use Rattle.run_one_step.proofs.MinMax.{lesser}
 use Rattle.run_one_step.proofs.Sizing.{sizes_both}
 use Rattle.run_one_step.proofs.resize.Goals as goal
 use Rattle.run_one_step.proofs.resize.Goals.{After-resize_by, In_default}
@@ -29,18 +30,18 @@ right : (c : goal.After-resize_by) → let a = c.args in
     (q : ℕ) → q < length (drop 2 a.sheet.now) → (q < a.zone.from) ⊎ (a.zone.new ≤ q) →
     get_or c.resize_by.new.sizes q 0 ≡ span 1 (drop q (drop 2 a.sheet.now))
 right c =
-    let to = c.lesser-to in
+    let to = c.min-to in
     let other : c.args.rule ≡ 14 → ⊥ = λ e. grind arith in
-    c.requires.moved other to.result c.resize_by.new.sizes to.ensures c.resize_by.ensures
+    c.requires.moved other to.result c.resize_by.new.sizes (lesser c.args.zone.from (c.args.place + 1) to.ensures) c.resize_by.ensures
 
 pub resize_by-requires : goal.resize_by-requires
 resize_by-requires c =
     let w = c.requires in
-    let to = c.lesser-to.ensures in
+    let to = lesser c.args.zone.from (c.args.place + 1) c.min-to.ensures in
     record {
       sizes_len = w.long;
       to_le = (omega (arith, to.0, w.order), w.new_old, w.old_within, w.place_within);
-      falls = w.falls (other (goal.at.resize_by-requires c).In_default) c.lesser-to.result to.0 to.1;
+      falls = w.falls (other (goal.at.resize_by-requires c).In_default) c.min-to.result to.0 to.1;
     }
 
 pub refill-requires-in_default : goal.refill-requires-in_default

@@ -1,16 +1,9 @@
 -- `run_steps::run_by` meets its contract. Invariant: the sheet is what so many steps of the strategy leave of the sheet that was lent,
 -- and the search by its tables has come to the floor and the cursor.
-use mathlib.Core.Path.{◌≡◌}
-use Prim.Native.Nat.{◌-◌, ◌≤◌}
-use lib.ListN.{length}
 use Rattle.theory_rewriting.specs.Reached.{Reached}
 use Rattle.run_bounds.specs.BoundTables.{ComeTo}
 use Rattle.run_steps.proofs.run_by.Given as goal
 
 abbrev pub invariant-loop-count : goal.invariant-loop-count
 invariant-loop-count l =
-    (l.count ≤ l.budget) × (length l.sheet ≡ length l.initial.sheet) × Reached l.initial.sheet l.count l.sheet ×
-    ComeTo l.floor l.cursor l.sheet l.sizes l.low
-
-abbrev pub decreases-loop-count : goal.decreases-loop-count
-decreases-loop-count l = l.budget - l.count
+    Reached l.initial.sheet l.count l.sheet × ComeTo l.ahead.floor l.ahead.cursor l.sheet l.sizes l.low
