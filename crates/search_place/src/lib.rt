@@ -147,11 +147,7 @@ fn only_child(part: &[u16], rule: usize) -> Option<usize>
     requires headed { Headed rule part.now }
     ensures { FirstChild rule (given result) part.now }
 {
-    if common_nodes::children_of(usize::from(part[0])) == 1 {
-        Some(0)
-    } else {
-        None
-    }
+    (common_nodes::children_of(usize::from(part[0])) == 1).then_some(0)
 }
 
 // The first child with which a rule of 1 to 10 or 15 applies, which looks at its children and into none of them.
@@ -180,11 +176,7 @@ fn least_ended(part: &[u16], rule: usize) -> Option<Spot>
     requires headed { Headed rule part.now }
     ensures { (p : ℕ) → spot_of rule p result ≡ least_i rule p (forest_in part.now) }
 {
-    if rule_least::ends(part, rule, 0, 0) {
-        Some(Spot { i: 0, j: 0 })
-    } else {
-        None
-    }
+    rule_least::ends(part, rule, 0, 0).then_some(Spot { i: 0, j: 0 })
 }
 
 // The least child and inner child for a rule at the first tree of a stretch.
