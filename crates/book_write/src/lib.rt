@@ -17,7 +17,7 @@ pub fn options_in(sheet: &[u16]) -> usize
     requires { Formed sheet.now }
     ensures { (result ≡ options_in sheet.now) × (result ≤ most_options) }
 {
-    common_nodes::wide16(sheet[0])
+    usize::from(sheet[0])
 }
 
 // Its nodes below the root.
@@ -25,7 +25,7 @@ fn nodes_below(sheet: &[u16]) -> usize
     requires { Formed sheet.now }
     ensures { (result ≡ used_in sheet.now - 1) × (result ≤ most_nodes) }
 {
-    common_nodes::wide16(sheet[1]) - 1
+    usize::from(sheet[1]) - 1
 }
 
 // Its rules: the children of its root.
@@ -33,7 +33,7 @@ fn rules_in(sheet: &[u16]) -> usize
     requires { Formed sheet.now }
     ensures { (result ≡ children (get_or sheet.now 2 0)) × (result ≤ most_nodes) }
 {
-    common_nodes::children_of(common_nodes::wide16(sheet[2]))
+    common_nodes::children_of(usize::from(sheet[2]))
 }
 
 // The length of what is written of a sheet.

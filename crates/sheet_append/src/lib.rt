@@ -17,9 +17,10 @@ pub fn number_of(option: u16, negative: bool) -> u16
     ensures { result ≡ number_of (leaf (literal option negative)) }
 {
     if negative {
-        return BARRED_KIND + option;
+        BARRED_KIND + option
+    } else {
+        PLAIN_KIND + option
     }
-    PLAIN_KIND + option
 }
 
 // A literal on a sheet that has room for it: one more child of the root, at the end.
@@ -28,9 +29,9 @@ pub fn append(sheet: &mut [u16], option: u16, negative: bool)
     requires option_bound { (option < options_in sheet.old) × (weight (nodes_in sheet.old) + literal_weight ≤ most_weight) }
     ensures { sheet.new ≡ appended sheet.old (literal option negative) }
 {
-    let used = common_nodes::wide16(sheet[1]);
+    let used = usize::from(sheet[1]);
     let end = 2 + used;
-    sheet[1] = sheet[1] + 1;
-    sheet[2] = sheet[2] + 1;
+    sheet[1] += 1;
+    sheet[2] += 1;
     sheet[end] = number_of(option, negative);
 }

@@ -9,4 +9,4 @@ bounds-sheet-0 c = omega (arith, sizes_of c.args.sheet.now c.requires)
 
 pub returns : goal.returns
 unfolding options_in
-returns c = (c.wide16.ensures.0, omega (arith, sizes_of c.args.sheet.now c.requires))
+returns c = (c.from.ensures, omega (arith, sizes_of c.args.sheet.now c.requires))

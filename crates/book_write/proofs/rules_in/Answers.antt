@@ -10,5 +10,5 @@ bounds-sheet-2 c = omega (arith, sizes_of c.args.sheet.now c.requires)
 
 pub returns : goal.returns
 returns c =
-    let e = c.children_of.ensures ∙ ap children c.wide16.ensures.0 in
+    let e = c.children_of.ensures ∙ ap children c.from.ensures in
     (e, omega (arith, sizes_of c.args.sheet.now c.requires))

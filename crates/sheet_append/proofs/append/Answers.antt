@@ -42,10 +42,10 @@ bounds-sheet-end c =
     let s = c.args.sheet.now in
     let r = has_room _ c.requires.formed c.requires.option_bound.1 in
     let once = set s 1 (get_or s 1 0 + 1) in
-    omega (arith, c.wide16-used.ensures.0, length-set s 1 (get_or s 1 0 + 1), length-set once 2 (get_or once 2 0 + 1))
+    omega (arith, c.from-used.ensures, length-set s 1 (get_or s 1 0 + 1), length-set once 2 (get_or once 2 0 + 1))
 
 pub returns : goal.returns
 returns c =
     let s = c.args.sheet.now in
-    rw (c.wide16-used.ensures.0, c.number_of.ensures, get_or-set_other s 1 2 (get_or s 1 0 + 1) 0 (omega arith))
+    rw (c.from-used.ensures, c.number_of.ensures, get_or-set_other s 1 2 (get_or s 1 0 + 1) 0 (omega arith))
     (append_sheet s c.requires.formed _ c.requires.option_bound.1)

@@ -9,6 +9,6 @@ pub returns-then-negative : goal.returns-then-negative
 unfolding number_of number literal pick
 returns-then-negative c = rw c.if-negative.true (omega arith)
 
-pub returns : goal.returns
+pub returns-else-negative : goal.returns-else-negative
 unfolding number_of number literal pick
-returns c = rw c.if-negative.false (omega arith)
+returns-else-negative c = rw c.if-negative.false (omega arith)
