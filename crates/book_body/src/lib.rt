@@ -15,10 +15,7 @@ pub fn are_in_line(s: &[u8], m: usize, total: usize) -> bool
     for i in 0..m {
         let first = common_nodes::word_at(s, 4 * i);
         let count = common_nodes::word_at(s, 4 * i + 2);
-        if first != sum {
-            return false;
-        }
-        if count < 1 {
+        if first != sum || count < 1 {
             return false;
         }
         sum += count;
@@ -44,8 +41,7 @@ pub fn are_bodies(contents: &[u8], m: usize, s: &[u8], total: usize, n: usize) -
     let mut sum = 0;
     for i in 0..m {
         let count = common_nodes::word_at(contents, 4 * i + 2);
-        let from = 2 * sum;
-        if !is_body(&s[from..], count, n) {
+        if !is_body(&s[2 * sum..], count, n) {
             return false;
         }
         sum += count;

@@ -85,9 +85,10 @@ fn is_member(x: usize, marks: &mut [usize; WORDS]) -> bool
     ensures marks { Marks (λ w. names w (node_of x ∷ []) || marked marks.old w) marks.new }
 {
     if common_nodes::is_literal(x) {
-        return mark(marks, common_nodes::value_of(x));
+        mark(marks, common_nodes::value_of(x))
+    } else {
+        x == 3 * KIND_FACTOR || x == 4 * KIND_FACTOR
     }
-    x == 3 * KIND_FACTOR || x == 4 * KIND_FACTOR
 }
 
 // Whether so many numbers from a place on, which are nodes of a body, are members: read from the last, as the definition has it.

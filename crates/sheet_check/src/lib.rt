@@ -46,21 +46,10 @@ pub fn is_sheet(s: &[u16]) -> bool
     }
     let n = usize::from(s[0]);
     let used = usize::from(s[1]);
-    if MOST_OPTIONS < n {
+    if MOST_OPTIONS < n || used < 1 || SHEET_ROOM < used {
         return false;
     }
-    if used < 1 {
-        return false;
-    }
-    if SHEET_ROOM < used {
-        return false;
-    }
-    if MOST_WEIGHT < common_weight::weigh_sheet(s) {
-        return false;
-    }
-    let end = 2 + used;
-    if !is_clear(&s[end..]) {
-        return false;
-    }
-    is_rooted_tree(&s[2..], used, n)
+    common_weight::weigh_sheet(s) <= MOST_WEIGHT
+        && is_clear(&s[2 + used..])
+        && is_rooted_tree(&s[2..], used, n)
 }

@@ -66,8 +66,8 @@ loop-i-init c =
     let a = c.args in
     (rw (sub-zero a.m) c.requires.contents_value, rw (sub-zero a.m, sub-zero a.total))
 
-pub overflow_mul-from : goal.overflow_mul-from
-overflow_mul-from c = omega (arith, fits (goal.at.overflow_mul-from c).After-word_at-count)
+pub overflow_mul-sum : goal.overflow_mul-sum
+overflow_mul-sum c = omega (arith, fits (goal.at.overflow_mul-sum c).After-word_at-count)
 
 pub slice_bounds-is_body-count : goal.slice_bounds-is_body-count
 slice_bounds-is_body-count c = omega (arith, fits (goal.at.slice_bounds-is_body-count c).After-word_at-count)

@@ -9,6 +9,7 @@ use Rattle.model.specs.Book.{entries, in_line}
 use Rattle.book_body.proofs.BookNumbers.{word_small, entries_from, in_line_at}
 use Rattle.book_body.proofs.are_in_line.Goals as goal
 use Rattle.book_body.proofs.are_in_line.Goals.{After-word_at-count, Else-first-sum}
+use Rattle.book_body.proofs.are_in_line.Goals.{then-first-sum-via-then-first-sum, then-first-sum-via-else-first-sum+then-count-lt1}
 
 -- One entry more.
 more :
@@ -42,11 +43,14 @@ loop-i-init c = (omega arith, rw (sub-zero c.args.m))
 
 pub returns-then-first-sum : goal.returns-then-first-sum
 returns-then-first-sum c =
-    let k = c in
-    sym (more (goal.at.returns-then-first-sum c).After-word_at-count ∙ rw (ne_eqb k.word_at-first.result k.loop-i.sum c.if-first-sum.true))
-
-pub returns-then-count-lt1 : goal.returns-then-count-lt1
-returns-then-count-lt1 c = sym (by_count (goal.at.returns-then-count-lt1 c).Else-first-sum ∙ rw (lt-leb 1 c.word_at-count.result c.if-count-lt1.true))
+    let k = more (goal.at.returns-then-first-sum c).After-word_at-count in
+    let first = c.word_at-first.result in
+    sym
+    (elim c.then-first-sum.branch [
+      | then-first-sum-via-then-first-sum w ↦ k ∙ rw (ne_eqb first c.loop-i.sum w.if-first-sum.true)
+      | then-first-sum-via-else-first-sum+then-count-lt1 w ↦
+          k ∙ rw (eq-eqb first c.loop-i.sum w.if-first-sum.false, lt-leb 1 c.word_at-count.result w.if-count-lt1.true)
+    ])
 
 pub overflow_add-sum : goal.overflow_add-sum
 overflow_add-sum c =

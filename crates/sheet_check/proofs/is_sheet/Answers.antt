@@ -2,7 +2,7 @@
 use mathlib.Core.Bool.{Bool, ◌&&◌, and-true, and-false, and_assoc}
 use mathlib.Core.List.{List, map}
 use mathlib.Core.Path.{◌≡◌, sym, ◌∙◌}
-use Prim.Native.Nat.{ℕ, ◌+◌, ◌-◌, ◌<◌}
+use Prim.Native.Nat.{ℕ, ◌+◌, ◌-◌, ◌≤◌, ◌<◌}
 use native.Mathlib.Omega.{arith}
 use borrow.Author.Tests.{eq-eqb, ne_eqb, le-leb, lt-leb}
 use borrow.Author.Rules.{part_to_end}
@@ -14,7 +14,10 @@ use Rattle.model.specs.Limits.{most_options, most_weight, sheet_room, sheet_leng
 use Rattle.model.specs.Forest.{all_seated}
 use Rattle.model.specs.Code.{weight, decode, node_of, one_tree}
 use Rattle.model.specs.Sheet.{options_in, used_in, numbers_in, nodes_in, rest_in, rooted, is_sheet}
+use Rattle.theory_forms.specs.Logic.{and_split}
 use Rattle.sheet_check.proofs.is_sheet.Goals as goal
+use Rattle.sheet_check.proofs.is_sheet.Goals.{Joined-weigh_sheet-le-MOST_WEIGHT, then-weigh_sheet-le-MOST_WEIGHT, else-weigh_sheet-le-MOST_WEIGHT}
+use Rattle.sheet_check.proofs.is_sheet.Goals.{then-n-gt-MOST_OPTIONS-via-then-n-gt-MOST_OPTIONS, then-n-gt-MOST_OPTIONS-via-else-n-gt-MOST_OPTIONS+then-used-lt1, then-n-gt-MOST_OPTIONS-via-else-n-gt-MOST_OPTIONS+else-used-lt1+then-used-gt-SHEET_ROOM}
 
 -- The nodes are one rooted tree, all members in their seats.
 abbrev tree_in : List ℕ → Bool
@@ -61,46 +64,58 @@ returns-then-s-ne-SHEET_LENGTH c =
     rw (sheet_is s, ne_eqb (length s) sheet_length c.if-s-ne-SHEET_LENGTH.true)
 
 pub returns-then-n-gt-MOST_OPTIONS : goal.returns-then-n-gt-MOST_OPTIONS
+unfolding options_in used_in numbers_in rooted
 returns-then-n-gt-MOST_OPTIONS c =
     let s = c.args.s.now in
-    rw (sheet_is s, lt-leb (get_or s 0 0) most_options (omega arith), and-false)
-
-pub returns-then-used-lt1 : goal.returns-then-used-lt1
-unfolding options_in used_in numbers_in rooted
-returns-then-used-lt1 c =
-    let s = c.args.s.now in
-    let none-used : get_or s 1 0 ≡ 0 = omega arith in
-    rw (sheet_is s, none-used, and-false)
-
-pub returns-then-used-gt-SHEET_ROOM : goal.returns-then-used-gt-SHEET_ROOM
-returns-then-used-gt-SHEET_ROOM c =
-    let s = c.args.s.now in
-    rw (sheet_is s, lt-leb (get_or s 1 0) sheet_room (omega arith), and-false)
+    elim c.then-n-gt-MOST_OPTIONS.branch [
+      | then-n-gt-MOST_OPTIONS-via-then-n-gt-MOST_OPTIONS w ↦ rw (sheet_is s, lt-leb (get_or s 0 0) most_options (omega arith), and-false)
+      | then-n-gt-MOST_OPTIONS-via-else-n-gt-MOST_OPTIONS+then-used-lt1 w ↦
+          let none-used : get_or s 1 0 ≡ 0 = omega arith in rw (sheet_is s, none-used, and-false)
+      | then-n-gt-MOST_OPTIONS-via-else-n-gt-MOST_OPTIONS+else-used-lt1+then-used-gt-SHEET_ROOM w ↦
+          rw (sheet_is s, lt-leb (get_or s 1 0) sheet_room (omega arith), and-false)
+    ]
 
 -- The used count is tested before anything is summed, so that the sum is at most 8,192.
 pub weigh_sheet-requires : goal.weigh_sheet-requires
 unfolding used_in
 weigh_sheet-requires c = (omega arith, omega arith)
 
-pub returns-then-weigh_sheet-gt-MOST_WEIGHT : goal.returns-then-weigh_sheet-gt-MOST_WEIGHT
-returns-then-weigh_sheet-gt-MOST_WEIGHT c =
+-- The weight is tested, and then the numbers behind those used.
+light_and_clear :
+    (c : goal.Joined-weigh_sheet-le-MOST_WEIGHT) →
     let s = c.args.s.now in
-    let heavy : most_weight < weight (nodes_in s) = omega (arith, c.if-weigh_sheet-gt-MOST_WEIGHT.true, c.weigh_sheet.ensures.0) in
-    rw (sheet_is s, lt-leb (weight (nodes_in s)) most_weight heavy, and-false)
+    c.if-weigh_sheet-le-MOST_WEIGHT.value ≡ (all (eqb 0) (rest_in s) && leb (weight (nodes_in s)) most_weight)
+light_and_clear c =
+    let s = c.args.s.now in
+    elim c.if-weigh_sheet-le-MOST_WEIGHT.branch [
+      | then-weigh_sheet-le-MOST_WEIGHT w ↦
+          let light : weight (nodes_in s) ≤ most_weight = omega (arith, w.if-weigh_sheet-le-MOST_WEIGHT.true, c.weigh_sheet.ensures.0) in
+          w.value-is ∙ sym (rw (clear_is s c.from-used.ensures w.is_clear.ensures, le-leb (weight (nodes_in s)) most_weight light) (and-true w.is_clear.result))
+      | else-weigh_sheet-le-MOST_WEIGHT w ↦
+          let heavy : most_weight < weight (nodes_in s) = omega (arith, w.if-weigh_sheet-le-MOST_WEIGHT.false, c.weigh_sheet.ensures.0) in
+          w.value-is
+          ∙ lt-leb c.weigh_sheet.result most_weight w.if-weigh_sheet-le-MOST_WEIGHT.false
+          ∙ sym (rw (lt-leb (weight (nodes_in s)) most_weight heavy) (and-false (all (eqb 0) (rest_in s))))
+    ]
 
-pub returns-then-not-is_clear : goal.returns-then-not-is_clear
-returns-then-not-is_clear c =
+pub returns-then-is_clear : goal.returns-then-is_clear
+returns-then-is_clear c =
     let s = c.args.s.now in
-    let clear = clear_is s c.from-used.ensures c.is_clear.ensures in
-    rw (sheet_is s, clear, c.if-not-is_clear.true, and-false)
-
-pub returns : goal.returns
-returns c =
-    let s = c.args.s.now in
+    let k = light_and_clear (goal.at.returns-then-is_clear c).Joined-weigh_sheet-le-MOST_WEIGHT in
+    let both = and_split (all (eqb 0) (rest_in s)) (leb (weight (nodes_in s)) most_weight) (sym k ∙ c.if-is_clear.true) in
     let whole = eq-eqb (length s) sheet_length (omega arith) in
     let few_options = le-leb (get_or s 0 0) most_options (omega arith) in
     let room = le-leb (get_or s 1 0) sheet_room (omega arith) in
-    let clear = clear_is s c.from-used.ensures c.is_clear.ensures ∙ c.if-not-is_clear.false in
-    let light = le-leb (weight (nodes_in s)) most_weight (omega (arith, c.if-weigh_sheet-gt-MOST_WEIGHT.false, c.weigh_sheet.ensures.0)) in
     let tree = tree_is s c.from-n.ensures c.from-used.ensures c.is_rooted_tree.ensures in
-    rw (sheet_is s, whole, few_options, room, tree, clear, and-true, light, and-true)
+    rw (sheet_is s, whole, few_options, room, tree, both.0, and-true, both.1, and-true)
+
+pub returns-else-is_clear : goal.returns-else-is_clear
+returns-else-is_clear c =
+    let s = c.args.s.now in
+    let k = light_and_clear (goal.at.returns-else-is_clear c).Joined-weigh_sheet-le-MOST_WEIGHT in
+    let first = eqb (length s) sheet_length && leb (get_or s 0 0) most_options && leb (get_or s 1 0) sheet_room && tree_in s in
+    c.if-is_clear.false
+    ∙ sym
+    (sheet_is s
+    ∙ and_assoc first (all (eqb 0) (rest_in s)) (leb (weight (nodes_in s)) most_weight)
+    ∙ rw (sym k ∙ c.if-is_clear.false) (and-false first))
