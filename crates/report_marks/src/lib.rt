@@ -13,6 +13,7 @@ ghost use Rattle.report_marks.specs.Noted.{is_noted};
 
 use common_limits::{MOST_LITERALS, MOST_OPTIONS, SHEET_LENGTH};
 use report_parts::LINKS_LENGTH;
+use report_propagation::Known;
 
 // The places of a table of options that are named: one for each option, and one more, which whoever fills the table may write and nobody
 // reads.
@@ -20,20 +21,20 @@ pub const NAMED_LENGTH: usize = MOST_OPTIONS + 1;
 
 // All that is forced becomes known: each part is looked at, and again where the trail of what became known touches it. Whether the
 // sheet is contradictory.
-fn propagate(sheet: &[u16], failed: &mut [u8; MOST_LITERALS]) -> bool
+fn propagate(sheet: &[u16], known: &mut Known) -> bool
     requires formed { Formed sheet.now }
-    requires failed_value { failed.old ≡ replicate most_literals 0 }
-    ensures has_report { HasReport sheet.now failed.new }
+    requires failed_value { known.old.failed ≡ replicate most_literals 0 }
+    requires trail_len { length known.old.trail ≡ most_literals }
+    ensures has_report { HasReport sheet.now known.new.failed }
     ensures value { result ≡ (report_in sheet.now).contradictory }
 {
     let mut ends = [0u16; SHEET_LENGTH];
     let mut homes = [0u16; SHEET_LENGTH];
     let mut links = [0u16; LINKS_LENGTH];
     let mut seen = [0u16; SHEET_LENGTH];
-    let mut trail = [0u16; MOST_LITERALS];
     report_parts::find(sheet, &mut ends, &mut homes);
     report_parts::link(sheet, &mut links);
-    report_propagation::follow(sheet, &ends, &homes, &links, &mut seen, failed, &mut trail)
+    report_propagation::follow(sheet, &ends, &homes, &links, &mut seen, known)
 }
 
 // The mark of an option.
@@ -82,9 +83,9 @@ pub fn put_report(sheet: &[u16], out: &mut [u8]) -> bool
     requires { Formed sheet.now × (length out.old ≡ options_in sheet.now) }
     ensures { (result ≡ (report_in sheet.now).contradictory) × (out.new ≡ (report_in sheet.now).marks) }
 {
-    let mut failed = [0u8; MOST_LITERALS];
-    let contradictory = propagate(sheet, &mut failed);
-    put_marks(&failed, contradictory, out);
+    let mut known = Known::nothing();
+    let contradictory = propagate(sheet, &mut known);
+    put_marks(&known.failed, contradictory, out);
     contradictory
 }
 
@@ -95,6 +96,6 @@ pub fn is_complete(sheet: &[u16], named: &[u8; NAMED_LENGTH]) -> bool
         ≡ complete_among (is_noted named.now) (options_in sheet.now)
         (report_in sheet.now) }
 {
-    let mut failed = [0u8; MOST_LITERALS];
-    !propagate(sheet, &mut failed) && all_marked(&failed, named, usize::from(sheet[0]))
+    let mut known = Known::nothing();
+    !propagate(sheet, &mut known) && all_marked(&known.failed, named, usize::from(sheet[0]))
 }

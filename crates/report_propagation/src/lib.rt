@@ -44,6 +44,14 @@ pub enum Forced {
     Untold,
 }
 
+// What is known: which literals failed, the trail of them in order, and how many it has.
+#[derive(Clone, Copy)]
+pub struct Known {
+    pub failed: [u8; MOST_LITERALS],
+    pub trail: [u16; MOST_LITERALS],
+    pub count: usize,
+}
+
 // What a pass over a part writes in; what it holds before does not matter.
 #[derive(Clone, Copy)]
 struct Scratch {
@@ -55,29 +63,35 @@ struct Scratch {
 #[derive(Clone, Copy)]
 pub struct Fallen;
 
-// The literal at a place is forced, so it becomes a fact: its complement fails, and joins the trail where it did not fail before.
-// The trail's new length.
-fn learn(
-    k: usize,
-    failed: &mut [u8; MOST_LITERALS],
-    trail: &mut [u16; MOST_LITERALS],
-    known: usize,
-) -> usize
-    requires k_lt_most_literals { k < most_literals }
-    requires failed_len { (length failed.old ≡ most_literals) × (known + unset failed.old ≡ most_literals) }
-    ensures value { result ≡ pick (fresh failed.old k) (known + 1) known }
-    ensures failed_after { failed.new ≡
-        pick (fresh failed.old k) (set failed.old (opposite k) 1) failed.old }
-    ensures trail_after { trail.new ≡
-        pick (fresh failed.old k) (set trail.old known (opposite k)) trail.old }
-{
-    let other = report_breaking::opposite_of(k);
-    if failed[other] == 1 {
-        known
-    } else {
-        failed[other] = 1;
-        trail[known] = other as u16;
-        known + 1
+impl Known {
+    // Nothing is known.
+    pub fn nothing() -> Known
+        ensures failed { result.failed ≡ replicate most_literals 0 }
+        ensures trail { length result.trail ≡ most_literals }
+    {
+        Known {
+            failed: [0; MOST_LITERALS],
+            trail: [0; MOST_LITERALS],
+            count: 0,
+        }
+    }
+
+    // The literal at a place is forced, so it becomes a fact: its complement fails, and joins the trail where it did not fail before.
+    fn learn(&mut self, k: usize)
+        requires k_lt_most_literals { k < most_literals }
+        requires failed_len { (length self.old.failed ≡ most_literals) × (self.old.count + unset self.old.failed ≡ most_literals) }
+        ensures value { self.new.count ≡ pick (fresh self.old.failed k) (self.old.count + 1) self.old.count }
+        ensures failed_after { self.new.failed ≡
+            pick (fresh self.old.failed k) (set self.old.failed (opposite k) 1) self.old.failed }
+        ensures trail_after { self.new.trail ≡
+            pick (fresh self.old.failed k) (set self.old.trail self.old.count (opposite k)) self.old.trail }
+    {
+        let other = report_breaking::opposite_of(k);
+        if self.failed[other] != 1 {
+            self.failed[other] = 1;
+            self.trail[self.count] = other as u16;
+            self.count += 1;
+        }
     }
 }
 
@@ -121,54 +135,47 @@ fn lone(sheet: &[u16], part: Extent, failed: &[u8; MOST_LITERALS]) -> Forced
 fn look_inside(
     sheet: &[u16],
     part: Extent,
-    failed: &mut [u8; MOST_LITERALS],
-    trail: &mut [u16; MOST_LITERALS],
-    known: usize,
+    known: &mut Known,
     scratch: &mut Scratch,
-) -> Result<usize, Fallen>
+) -> Result<(), Fallen>
     requires formed { Formed sheet.now }
     requires part { Part sheet.now part.from part.to }
-    requires facts { Facts sheet.now failed.old trail.old known }
+    requires facts { Facts sheet.now known.old.failed known.old.trail known.old.count }
     ensures { MatchResult result
-        (Looked sheet.now part.from part.to failed.old trail.old known failed.new trail.new)
-        (λ _. HasFallen sheet.now failed.new) }
+        (λ _. Looked sheet.now part.from part.to
+        known.old.failed known.old.trail known.old.count known.new.failed known.new.trail known.new.count)
+        (λ _. HasFallen sheet.now known.new.failed) }
 {
+    let Scratch { places, stack } = scratch;
     let n = report_breaking::breaking(
         &sheet[part.from..part.to],
-        failed,
-        &mut scratch.places,
-        &mut scratch.stack,
-    )
-    .ok_or(Fallen)?;
-    let mut grown = known;
-    for place in &scratch.places[..n] {
-        grown = learn(usize::from(*place), failed, trail, grown);
+        &known.failed,
+        places,
+        stack,
+    ).ok_or(Fallen)?;
+    for place in &places[..n] {
+        known.learn(usize::from(*place));
     }
-    Ok(grown)
+    Ok(())
 }
 
 // The same, without that pass where the part's literals tell enough.
-fn look(
-    sheet: &[u16],
-    part: Extent,
-    failed: &mut [u8; MOST_LITERALS],
-    trail: &mut [u16; MOST_LITERALS],
-    known: usize,
-    scratch: &mut Scratch,
-) -> Result<usize, Fallen>
+fn look(sheet: &[u16], part: Extent, known: &mut Known, scratch: &mut Scratch) -> Result<(), Fallen>
     requires formed { Formed sheet.now }
     requires part { Part sheet.now part.from part.to }
-    requires facts { Facts sheet.now failed.old trail.old known }
+    requires facts { Facts sheet.now known.old.failed known.old.trail known.old.count }
     ensures { MatchResult result
-        (Looked sheet.now part.from part.to failed.old trail.old known failed.new trail.new)
-        (λ _. HasFallen sheet.now failed.new) }
+        (λ _. Looked sheet.now part.from part.to
+        known.old.failed known.old.trail known.old.count known.new.failed known.new.trail known.new.count)
+        (λ _. HasFallen sheet.now known.new.failed) }
 {
-    match lone(sheet, part, failed) {
-        Forced::Only(place) => Ok(learn(place, failed, trail, known)),
-        Forced::Nothing => Ok(known),
-        Forced::Fails => Err(Fallen),
-        Forced::Untold => look_inside(sheet, part, failed, trail, known, scratch),
+    match lone(sheet, part, &known.failed) {
+        Forced::Only(place) => known.learn(place),
+        Forced::Nothing => {}
+        Forced::Fails => return Err(Fallen),
+        Forced::Untold => return look_inside(sheet, part, known, scratch),
     }
+    Ok(())
 }
 
 // Looks at each part once.
@@ -176,26 +183,24 @@ fn look_at_all(
     sheet: &[u16],
     ends: &[u16; SHEET_LENGTH],
     seen: &mut [u16; SHEET_LENGTH],
-    failed: &mut [u8; MOST_LITERALS],
-    trail: &mut [u16; MOST_LITERALS],
+    known: &mut Known,
     scratch: &mut Scratch,
-) -> Result<usize, Fallen>
+) -> Result<(), Fallen>
     requires formed { Formed sheet.now }
     requires part_ends { PartEnds sheet.now ends.now }
-    requires watching { Watching sheet.now ends.now 0 seen.old failed.old trail.old 0 }
+    requires watching { Watching sheet.now ends.now 0 seen.old known.old.failed known.old.trail known.old.count }
     ensures { MatchResult result
-        (Watching sheet.now ends.now sheet_length seen.new failed.new trail.new)
-        (λ _. HasFallen sheet.now failed.new) }
+        (λ _. Watching sheet.now ends.now sheet_length seen.new known.new.failed known.new.trail known.new.count)
+        (λ _. HasFallen sheet.now known.new.failed) }
 {
-    let mut known = 0;
     for (from, end) in ends.iter().enumerate() {
         let to = usize::from(*end);
         if 0 < to {
-            seen[from] = known as u16;
-            known = look(sheet, Extent { from, to }, failed, trail, known, scratch)?;
+            seen[from] = known.count as u16;
+            look(sheet, Extent { from, to }, known, scratch)?;
         }
     }
-    Ok(known)
+    Ok(())
 }
 
 // Whether a turn has a part looked at that was last looked at when the trail was so long: there is one, it is below the turn's
@@ -266,16 +271,15 @@ fn settle(
     homes: &[u16; SHEET_LENGTH],
     links: &[u16; LINKS_LENGTH],
     seen: &mut [u16; SHEET_LENGTH],
-    failed: &mut [u8; MOST_LITERALS],
-    trail: &mut [u16; MOST_LITERALS],
+    known: &mut Known,
 ) -> Result<(), Fallen>
     requires formed { Formed sheet.now }
     requires parted { Parted sheet.now ends.now homes.now }
     requires linked { Linked sheet.now links.now }
     requires seen_value { seen.old ≡ replicate sheet_length 0 }
-    requires failed_value { failed.old ≡ replicate most_literals 0 }
-    requires trail_len { length trail.old ≡ most_literals }
-    ensures has_report { HasReport sheet.now failed.new }
+    requires failed_value { known.old.failed ≡ replicate most_literals 0 }
+    requires trail_len { length known.old.trail ≡ most_literals }
+    ensures has_report { HasReport sheet.now known.new.failed }
     ensures value { MatchResult result
         (λ _. false ≡ (report_in sheet.now).contradictory)
         (λ _. true ≡ (report_in sheet.now).contradictory) }
@@ -284,7 +288,8 @@ fn settle(
         places: [0; SHEET_ROOM],
         stack: [0; SHEET_ROOM],
     };
-    let mut known = look_at_all(sheet, ends, seen, failed, trail, &mut scratch)?;
+    known.count = 0;
+    look_at_all(sheet, ends, seen, known, &mut scratch)?;
     let mut small = 0;
     let mut large = 0;
     // No part is below the first turn's limit, so that it ends at once.
@@ -296,14 +301,14 @@ fn settle(
     loop {
         if let Some(n) = next_due(ends, homes, links, seen, turn) {
             let part = part_at(ends, homes, n);
-            seen[part.from] = known as u16;
-            known = look(sheet, part, failed, trail, known, &mut scratch)?;
+            seen[part.from] = known.count as u16;
+            look(sheet, part, known, &mut scratch)?;
             turn.place = n;
-        } else if small < known {
-            turn = turn_of(trail, small, SMALL_PART);
+        } else if small < known.count {
+            turn = turn_of(&known.trail, small, SMALL_PART);
             small += 1;
-        } else if large < known {
-            turn = turn_of(trail, large, SHEET_LENGTH);
+        } else if large < known.count {
+            turn = turn_of(&known.trail, large, SHEET_LENGTH);
             large += 1;
         } else {
             return Ok(());
@@ -318,17 +323,16 @@ pub fn follow(
     homes: &[u16; SHEET_LENGTH],
     links: &[u16; LINKS_LENGTH],
     seen: &mut [u16; SHEET_LENGTH],
-    failed: &mut [u8; MOST_LITERALS],
-    trail: &mut [u16; MOST_LITERALS],
+    known: &mut Known,
 ) -> bool
     requires formed { Formed sheet.now }
     requires parted { Parted sheet.now ends.now homes.now }
     requires linked { Linked sheet.now links.now }
     requires seen_value { seen.old ≡ replicate sheet_length 0 }
-    requires failed_value { failed.old ≡ replicate most_literals 0 }
-    requires trail_len { length trail.old ≡ most_literals }
-    ensures has_report { HasReport sheet.now failed.new }
+    requires failed_value { known.old.failed ≡ replicate most_literals 0 }
+    requires trail_len { length known.old.trail ≡ most_literals }
+    ensures has_report { HasReport sheet.now known.new.failed }
     ensures value { result ≡ (report_in sheet.now).contradictory }
 {
-    settle(sheet, ends, homes, links, seen, failed, trail).is_err()
+    settle(sheet, ends, homes, links, seen, known).is_err()
 }

@@ -5,4 +5,4 @@ use Rattle.report_propagation.proofs.look_at_all.Given as goal
 
 abbrev pub invariant-loop-from : goal.invariant-loop-from
 invariant-loop-from l =
-    Formed l.sheet × PartEnds l.sheet l.ends × Watching l.sheet l.ends l.from l.seen l.failed l.trail l.known
+    Formed l.sheet × PartEnds l.sheet l.ends × Watching l.sheet l.ends l.from l.seen l.known.failed l.known.trail l.known.count

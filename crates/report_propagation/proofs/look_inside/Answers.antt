@@ -5,7 +5,7 @@ use Rattle.report_propagation.proofs.look_inside.Goals as goal
 
 pub loop-place-preserved : goal.loop-place-preserved
 loop-place-preserved c =
-    let e = c.learn-grown.ensures in
+    let e = c.learn.ensures in
     let size = length-take c.in_ok-n.n c.breaking.new.places in
     breaks_more c.loop-place.invariant (omega (arith, size, c.loop-place-test.true)) c.from.ensures e.value e.failed_after e.trail_after
 

@@ -5,4 +5,5 @@ use Rattle.report_propagation.proofs.look_inside.Given as goal
 abbrev pub invariant-loop-place : goal.invariant-loop-place
 invariant-loop-place l =
     let part = l.fn.part in
-    BreaksKnown l.sheet part.from part.to l.initial.failed l.initial.trail l.known l.place-items l.n l.failed l.trail l.grown l.place-index
+    BreaksKnown l.sheet part.from part.to l.initial.known.failed l.initial.known.trail l.initial.known.count l.place-items l.n
+    l.known.failed l.known.trail l.known.count l.place-index

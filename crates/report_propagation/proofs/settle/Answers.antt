@@ -11,16 +11,16 @@ look_at_all-requires c =
     let p = c.requires in
     record { formed = p.formed; part_ends = p.parted.part; watching = watching_none _ _ p.seen_value p.failed_value p.trail_len }
 
-pub returns-in_err-known : goal.returns-in_err-known
-returns-in_err-known c =
-    let h = fallen_report c.requires.formed c.in_err-known.ensures in
+pub returns-in_err-look_at_all : goal.returns-in_err-look_at_all
+returns-in_err-look_at_all c =
+    let h = fallen_report c.requires.formed c.in_err-look_at_all.ensures in
     let p = err_from_is_err_and c.from_residual.result c.from_residual.ensures.1 in
     record { has_report = h.0; value = rw p.1 h.1 }
 
-pub returns-in_err-known-2 : goal.returns-in_err-known-2
-returns-in_err-known-2 c =
-    let h = fallen_report c.loop-n.invariant.0 c.in_err-known-2.ensures in
-    let out = c.from_residual-in_err-known-2 in
+pub returns-in_err-look : goal.returns-in_err-look
+returns-in_err-look c =
+    let h = fallen_report c.loop-n.invariant.0 c.in_err-look.ensures in
+    let out = c.from_residual-in_err-look in
     let p = err_from_is_err_and out.result out.ensures.1 in
     record { has_report = h.0; value = rw p.1 h.1 }
 
@@ -28,7 +28,7 @@ pub loop-n-preserved-in-Some : goal.loop-n-preserved-in-Some
 loop-n-preserved-in-Some c =
     let w = c.loop-n.invariant in
     let part = c.part_at-part.ensures in
-    let look = rw part.1 at c.in_ok-known-2.ensures in
+    let look = rw part.1 at c.in_ok-look.ensures in
     let on = following_looked w.0 w.1 w.2 w.4 c.in-Some.ensures part.0 look in
     (w.0, w.1, w.2, omega (arith, look.grown.more), on refl refl refl)
 

@@ -9,8 +9,8 @@ use Rattle.report_propagation.proofs.settle.Given as goal
 
 abbrev pub invariant-loop-n : goal.invariant-loop-n
 invariant-loop-n l =
-    Formed l.sheet × Parted l.sheet l.ends l.homes × Linked l.sheet l.links × (l.small ≤ l.known)
-    × Following l.sheet l.ends l.seen l.failed l.trail l.known l.large l.turn
+    Formed l.sheet × Parted l.sheet l.ends l.homes × Linked l.sheet l.links × (l.small ≤ l.known.count)
+    × Following l.sheet l.ends l.seen l.known.failed l.known.trail l.known.count l.large l.turn
 
 abbrev pub decreases-loop-n : goal.decreases-loop-n
 decreases-loop-n l = 8192 * (2 * most_literals - (l.small + l.large)) + l.turn.place
