@@ -1,18 +1,32 @@
 -- What is asked of the first tree of a run of numbers, test by test.
+use Rattle.std.specs.Prelude as P
+use Rattle.std.specs.Option.{is_some}
 use mathlib.Core.Bool.{Bool, true, false}
 use mathlib.Core.List.{List}
 use mathlib.Core.Option.{none, some}
 use mathlib.Core.Path.{◌≡◌, refl, sym, ap, ◌∙◌}
 use Prim.Native.Nat.{ℕ, ◌≤◌, ◌<◌}
 use borrow.Author.Tests.{le-leb, lt-leb, lt-ltb, le-ltb, eqb-true, eq-eqb, ne_eqb}
-use lib.Dec.{eqb, leb, ltb}
+use lib.Dec.{eqb, leb}
 use lib.ListN.{get_or, drop}
-use Rattle.model.specs.Base.{pick, maybe}
+use Rattle.common_lists.specs.Given.{given}
+use Rattle.model.specs.Base.{pick, maybe, only_if}
 use Rattle.model.specs.Code.{kind, children}
-use Rattle.theory_forms.specs.Logic.{true_false, none_some, some_inj, and_split}
+use Rattle.theory_forms.specs.Logic.{true_false, none_some, some_inj, only_some, and_split}
 use Rattle.theory_forms.specs.Scan.{is_literal}
 use Rattle.theory_reading.specs.Spans.{span, child_at}
 use Rattle.rule_factor.specs.Walks.{unit_place, among, unit_at, unit_of, shares_here}
+
+-- What an answer tells of its test.
+pub tells : (o : P.Option ℕ) (b : Bool) (x : ℕ) → given o ≡ only_if b x → is_some o ≡ b
+unfolding only_if
+tells P.None true x e = none_some e
+tells P.None false x e = refl
+tells (P.Some y) true x e = refl
+tells (P.Some y) false x e = none_some (sym e)
+
+pub met : (b : Bool) {o : P.Option ℕ} {x y : ℕ} → o ≡ P.Some y → given o ≡ only_if b x → (b ≡ true) × (y ≡ x)
+met b {x = x} e f = let w = only_some b x (sym f ∙ ap given e) in (w.0, sym w.1)
 
 -- Whether it shares a number.
 module _ (a : ℕ) (l : List ℕ) where
@@ -27,8 +41,8 @@ module _ (a : ℕ) (l : List ℕ) where
   pub shares_among :
       is_literal (get_or l 0 0) ≡ false →
       kind (get_or l 0 0) ≡ 3 →
-      shares_here a l ≡ ltb (unit_place a (children (get_or l 0 0)) (drop 1 l)) (span (children (get_or l 0 0)) (drop 1 l))
-  unfolding shares_here among
+      shares_here a l ≡ among a (children (get_or l 0 0)) (drop 1 l)
+  unfolding shares_here
   shares_among h k = rw (h, eq-eqb (kind (get_or l 0 0)) 3 k)
 
 -- The literal that is child j of a group, for the first time.
@@ -51,21 +65,21 @@ module _ (j : ℕ) (l : List ℕ) where
     unit_inner e = rw (none_inner e)
 
     module _ (e : is_literal (get_or l (child_at j l) 0) ≡ true) where
-      pub none_again : unit_place (get_or l (child_at j l) 0) j (drop 1 l) < span j (drop 1 l) → unit_at j l ≡ none
-      unfolding unit_at pick among
-      none_again k = rw (lt-leb (children (get_or l 0 0)) j h, e, lt-ltb (unit_place (get_or l (child_at j l) 0) j (drop 1 l)) (span j (drop 1 l)) k)
+      pub none_again : among (get_or l (child_at j l) 0) j (drop 1 l) ≡ true → unit_at j l ≡ none
+      unfolding unit_at pick
+      none_again k = rw (lt-leb (children (get_or l 0 0)) j h, e, k)
 
       pub unit_again : unit_place (get_or l (child_at j l) 0) j (drop 1 l) < span j (drop 1 l) → unit_of j l ≡ 0
-      unfolding unit_of maybe
-      unit_again k = rw (none_again k)
+      unfolding unit_of maybe among
+      unit_again k = rw (none_again (lt-ltb (unit_place (get_or l (child_at j l) 0) j (drop 1 l)) (span j (drop 1 l)) k))
 
-      pub some_new : span j (drop 1 l) ≤ unit_place (get_or l (child_at j l) 0) j (drop 1 l) → unit_at j l ≡ some (get_or l (child_at j l) 0)
-      unfolding unit_at pick among
-      some_new k = rw (lt-leb (children (get_or l 0 0)) j h, e, le-ltb (unit_place (get_or l (child_at j l) 0) j (drop 1 l)) (span j (drop 1 l)) k)
+      pub some_new : among (get_or l (child_at j l) 0) j (drop 1 l) ≡ false → unit_at j l ≡ some (get_or l (child_at j l) 0)
+      unfolding unit_at pick
+      some_new k = rw (lt-leb (children (get_or l 0 0)) j h, e, k)
 
       pub unit_new : span j (drop 1 l) ≤ unit_place (get_or l (child_at j l) 0) j (drop 1 l) → unit_of j l ≡ get_or l (child_at j l) 0
-      unfolding unit_of maybe
-      unit_new k = rw (some_new k)
+      unfolding unit_of maybe among
+      unit_new k = rw (some_new (le-ltb (unit_place (get_or l (child_at j l) 0) j (drop 1 l)) (span j (drop 1 l)) k))
 
 -- What is found is a literal, and so not 0.
 picked :

@@ -5,15 +5,16 @@ use mathlib.Core.Option.{none, some}
 use mathlib.Core.Path.{◌≡◌, refl, sym, ap, ap₂, ◌∙◌}
 use Prim.Native.Nat.{ℕ, zero, suc, ◌+◌, ◌-◌, ◌≤◌, ◌<◌}
 use native.Mathlib.Omega.{arith}
-use borrow.Author.Tests.{eq-eqb, ne_eqb}
+use native.Mathlib.Nat.{zero-add, suc-add}
+use borrow.Author.Tests.{eq-eqb, ne_eqb, lt-ltb, le-ltb}
 use lib.Dec.{eqb}
 use lib.ListN.{length, get_or, drop, length-drop, drop_of_length-le}
 use lib.Seq.{drop-drop}
 use Rattle.model.specs.Base.{pick, maybe, only_if}
 use Rattle.theory_forms.specs.Logic.{pick_true, pick_false}
-use Rattle.theory_reading.specs.Spans.{span}
+use Rattle.theory_reading.specs.Spans.{arity, span, span_none, span_over, span_more, span_step}
 use Rattle.theory_rewriting.specs.Children.{first_left}
-use Rattle.rule_factor.specs.Walks.{next, walk, unit_place, shares_here, all_share, group_here, groups_in, sharing}
+use Rattle.rule_factor.specs.Walks.{next, walk, unit_place, among, shares_here, all_share, group_here, groups_in, sharing}
 
 module _ {A : Type 0} (f : List ℕ → A → A) (e : A) where
   walk_first : (n : ℕ) (s : List ℕ) → 1 ≤ length s → walk f e (suc n) s ≡ f s (walk f e n (next s))
@@ -71,6 +72,36 @@ module _ (a n i : ℕ) (l : List ℕ) where
       (get_or l i 0 ≡ a → ⊥) →
       unit_place a n (drop i l) ≡ span 1 (drop i l) + unit_place a (n - 1) (drop (i + span 1 (drop i l)) l)
   unit_further h k e = unit_step h k ∙ pick_false (eqb (get_or l i 0) a) 0 _ (ne_eqb (get_or l i 0) a e)
+
+-- Trees one after another take the sum of their numbers.
+span_add : (p q : ℕ) (l : List ℕ) → span (p + q) l ≡ span p l + span q (drop (span p l) l)
+span_add zero q [] = rw (zero-add q, span_none [], zero-add (span q []))
+span_add zero q (x ∷ l) = rw (zero-add q, span_none (x ∷ l), zero-add (span q (x ∷ l)))
+span_add (suc p) q [] = rw (span_over (suc p + q), span_over (suc p), span_over q)
+span_add (suc p) q (x ∷ l) =
+    let turned : p + q + arity x ≡ p + arity x + q = omega arith in
+    let n = span (p + arity x) l in
+    rw (suc-add p q, span_more (p + q) x l, span_more p x l, turned, suc-add n (span q (drop n l))) (ap suc (span_add (p + arity x) q l))
+
+module _ (n i : ℕ) (l : List ℕ) where
+  pub span_further : 0 < n → span n (drop i l) ≡ span 1 (drop i l) + span (n - 1) (drop (i + span 1 (drop i l)) l)
+  span_further h =
+      let one : n ≡ 1 + (n - 1) = omega arith in
+      ap (λ k. span k (drop i l)) one ∙ span_add 1 (n - 1) (drop i l)
+      ∙ ap (λ s. span 1 (drop i l) + span (n - 1) s) (drop-drop (span 1 (drop i l)) i l)
+
+  pub span_some : 0 < n → i < length l → 1 ≤ span n (drop i l)
+  span_some h k = omega (arith, span_step n i l h k)
+
+-- Whether one of so many trees is a number itself, by the place of the first.
+module _ (a n : ℕ) (l : List ℕ) where
+  pub place_some : unit_place a n l < span n l → some (unit_place a n l) ≡ only_if (among a n l) (unit_place a n l)
+  unfolding among only_if
+  place_some h = rw (lt-ltb (unit_place a n l) (span n l) h)
+
+  pub place_none : span n l ≤ unit_place a n l → none ≡ only_if (among a n l) (unit_place a n l)
+  unfolding among only_if
+  place_none h = rw (le-ltb (unit_place a n l) (span n l) h)
 
 -- Trees that all share a number.
 module _ (a n i : ℕ) (l : List ℕ) where

@@ -10,22 +10,25 @@ ghost use Rattle.model.specs.Rules.{rewrite};
 ghost use Rattle.theory_reading.specs.Spans.{child_at};
 ghost use Rattle.theory_reading.specs.Stretches.{Stretch, forest_in};
 ghost use Rattle.theory_rewriting.specs.Heads.{Headed};
-ghost use Rattle.rule_factor.specs.Walks.{all_share, group_here, groups_in, shares_here, unit_at, unit_place};
+ghost use Rattle.rule_factor.specs.Walks.{all_share, among, group_here, groups_in, shares_here, unit_at, unit_place};
 
-// The place of the first of so many trees that is the literal itself, or the place after them where none is. The place hops over a tree at a
-// time, whose size is read, so that it is counted beside the trees.
-pub fn unit_place(part: &[u16], trees: usize, literal: u16) -> usize
+// The place of the first of so many trees that is the literal itself. The place hops over a tree at a time, whose size is read, so it
+// goes beside the count of the trees.
+pub fn unit_place(part: &[u16], trees: usize, literal: u16) -> Option<usize>
     requires { length part.now ≤ sheet_room }
-    ensures { (result ≡ unit_place literal trees part.now) × (result ≤ length part.now) }
+    ensures { given result ≡ only_if (among literal trees part.now) (unit_place literal trees part.now) }
 {
     let mut at = 0;
     for passed in 0..trees {
-        if at == part.len() || part[at] == literal {
-            return at;
+        if at == part.len() {
+            return None;
+        }
+        if part[at] == literal {
+            return Some(at);
         }
         at += common_nodes::span_of(&part[at..], 1);
     }
-    at
+    None
 }
 
 // The literal that is child j of the group, where no earlier child is the same literal.
@@ -39,7 +42,7 @@ pub fn unit_of(part: &[u16], j: usize) -> Option<u16>
     }
     let before = common_nodes::span_of(&part[1..], j);
     let x = part[1 + before];
-    if common_nodes::is_literal(usize::from(x)) && before <= unit_place(&part[1..], j, x) {
+    if common_nodes::is_literal(usize::from(x)) && unit_place(&part[1..], j, x).is_none() {
         Some(x)
     } else {
         None
@@ -56,7 +59,7 @@ fn shares(part: &[u16], literal: u16) -> bool
         || common_nodes::kind_of(x) == 3
             && {
                 let m = common_nodes::children_of(x);
-                unit_place(&part[1..], m, literal) < common_nodes::span_of(&part[1..], m)
+                unit_place(&part[1..], m, literal).is_some()
             }
 }
 

@@ -36,7 +36,7 @@ fn copy_group(out: &mut [u16], at: usize, part: &[u16], literal: u16) -> usize
     ensures { Appended (less_unit literal part.now) at out.old out.new result }
 {
     let m = common_nodes::children_of(usize::from(part[0]));
-    let p = 1 + rule_factor::unit_place(&part[1..], m, literal);
+    let p = 1 + rule_factor::unit_place(&part[1..], m, literal).unwrap();
     let end = common_nodes::child_at(part, m);
     out[at] = part[0] - 1;
     let next = copy(out, at + 1, &part[1..p]);

@@ -1,14 +1,11 @@
 -- `rule_factor::shares` meets its contract, by the tests on the first number and the place of the literal among the children.
-use mathlib.Core.Path.{◌≡◌, sym, ap, ap₂, ◌∙◌}
-use native.Mathlib.Omega.{arith}
+use mathlib.Core.Path.{◌≡◌, sym, ap, ◌∙◌}
 use borrow.Author.Tests.{ne_eqb}
-use lib.Dec.{ltb}
-use lib.ListN.{length, get_or, length-drop}
+use lib.ListN.{get_or}
 use Rattle.common_lists.proofs.Lent.{lent_part}
 use Rattle.model.specs.Code.{kind, children}
-use Rattle.theory_forms.specs.Numbers.{children_small}
 use Rattle.theory_forms.specs.Scan.{is_literal}
-use Rattle.rule_factor.proofs.Here.{shares_literal, shares_not, shares_among}
+use Rattle.rule_factor.proofs.Here.{tells, shares_literal, shares_not, shares_among}
 use Rattle.rule_factor.proofs.shares.Goals as goal
 use Rattle.rule_factor.proofs.shares.Goals.{After-children_of-m, After-is_literal, After-kind_of, Start}
 
@@ -33,14 +30,10 @@ returns-else-kind_of-eq3 c =
     ∙ sym (shares_not _ _ (sym (literal (goal.at.returns-else-kind_of-eq3 c).After-is_literal) ∙ c.if-is_literal.false)
     (λ e. c.if-kind_of-eq3.false (kinded (goal.at.returns-else-kind_of-eq3 c).After-kind_of ∙ e)))
 
-pub span_of-requires : goal.span_of-requires
-span_of-requires c =
-    let l = c.args.part.now in
-    omega (arith, counted (goal.at.span_of-requires c).After-children_of-m, children_small (get_or l 0 0), ap length (lent_part 1 l), length-drop 1 l)
-
 pub returns-then-kind_of-eq3 : goal.returns-then-kind_of-eq3
 returns-then-kind_of-eq3 c =
     let l = c.args.part.now in
-    rw (counted (goal.at.returns-then-kind_of-eq3 c).After-children_of-m, lent_part 1 l) at (ap₂ ltb c.unit_place.ensures.0 c.span_of.ensures.0)
+    let kids = counted (goal.at.returns-then-kind_of-eq3 c).After-children_of-m in
+    c.is_some.ensures ∙ tells c.unit_place.result _ _ (rw (kids, lent_part 1 l) at c.unit_place.ensures)
     ∙ sym (shares_among _ l (sym (literal (goal.at.returns-then-kind_of-eq3 c).After-is_literal) ∙ c.if-is_literal.false)
     (sym (kinded (goal.at.returns-then-kind_of-eq3 c).After-kind_of) ∙ c.if-kind_of-eq3.true))

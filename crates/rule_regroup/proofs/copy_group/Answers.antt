@@ -4,17 +4,20 @@ use mathlib.Core.Path.{◌≡◌, sym, ap, ◌∙◌}
 use Prim.Native.Nat.{ℕ, ◌+◌, ◌-◌, ◌≤◌, ◌<◌}
 use native.Mathlib.Omega.{arith}
 use borrow.Author.Tests.{ltb-true}
-use lib.ListN.{length, get_or, take, drop, length-set, length-append}
+use lib.ListN.{length, get_or, take, drop, length-set, length-append, length-drop}
+use Rattle.common_lists.specs.Given.{given}
 use Rattle.common_lists.proofs.Lent.{lent_part}
+use Rattle.model.specs.Base.{only_if}
 use Rattle.model.specs.Code.{kind, children}
 use Rattle.theory_forms.specs.Numbers.{children_small}
-use Rattle.theory_reading.specs.Spans.{span, child_at}
+use Rattle.theory_reading.specs.Spans.{span, span_within, child_at}
 use Rattle.rule_factor.specs.Walks.{unit_place, among}
+use Rattle.rule_factor.proofs.Here.{tells, met}
 use Rattle.rule_regroup.specs.Regrouped.{less_unit}
 use Rattle.rule_regroup.proofs.Append.{appended_one, appended_both, appended_as}
 use Rattle.rule_regroup.proofs.KeptTrees.{less_unit_parts}
 use Rattle.rule_regroup.proofs.copy_group.Goals as goal
-use Rattle.rule_regroup.proofs.copy_group.Goals.{After-child_at-end, After-children_of-m, After-unit_place-p, Start}
+use Rattle.rule_regroup.proofs.copy_group.Goals.{After-child_at-end, After-children_of-m, After-unit_place, After-unwrap-p, Start}
 
 -- The number of children.
 counted : (c : goal.After-children_of-m) →
@@ -23,35 +26,55 @@ counted c = c.children_of-m.ensures ∙ ap children c.from.ensures
 
 -- The numbers before the literal, and after it.
 abbrev before_it : goal.After-child_at-end → List ℕ
-before_it c = take (1 + c.unit_place-p.result - 1) (drop 1 c.args.part.now)
+before_it c = take (1 + c.unwrap-p.result - 1) (drop 1 c.args.part.now)
 
 abbrev after_it : goal.After-child_at-end → List ℕ
 after_it c =
-    let p = 1 + c.unit_place-p.result + 1 in
+    let p = 1 + c.unwrap-p.result + 1 in
     take (c.child_at-end.result - p) (drop p c.args.part.now)
 
-found : (c : goal.After-unit_place-p) → let a = c.args in
-    c.unit_place-p.result ≡ unit_place a.literal c.children_of-m.result (drop 1 a.part.now)
-found c = rw (lent_part 1 c.args.part.now) at c.unit_place-p.ensures.0
+told : (c : goal.After-unit_place) → let a = c.args in let l = drop 1 a.part.now in
+    given c.unit_place.result ≡ only_if (among a.literal c.children_of-m.result l) (unit_place a.literal c.children_of-m.result l)
+told c = rw (lent_part 1 c.args.part.now) at c.unit_place.ensures
+
+found : (c : goal.After-unwrap-p) → let a = c.args in
+    c.unwrap-p.result ≡ unit_place a.literal c.children_of-m.result (drop 1 a.part.now)
+found c = (met _ c.unwrap-p.ensures (rw (lent_part 1 c.args.part.now) at c.unit_place.ensures)).1
+
+-- It stands within the part.
+near : (c : goal.After-unwrap-p) → 1 + c.unwrap-p.result ≤ length c.args.part.now
+unfolding among
+near c =
+    let l = drop 1 c.args.part.now in
+    let m = c.children_of-m.result in
+    let w = met _ c.unwrap-p.ensures (rw (lent_part 1 c.args.part.now) at c.unit_place.ensures) in
+    omega (
+      arith,
+      c.requires.in_bounds,
+      w.1,
+      ltb-true (unit_place c.args.literal m l) (span m l) w.0,
+      span_within m l,
+      length-drop 1 c.args.part.now,
+    )
 
 parts : (c : goal.After-child_at-end) → let a = c.args in
     less_unit a.literal a.part.now ≡ (get_or a.part.now 0 0 - 1) ∷ (before_it c ++ after_it c)
 parts c =
     let a = c.args in
     less_unit_parts a.literal a.part.now (c.children_of-m.ensures ∙ ap children c.from.ensures)
-    (rw (lent_part 1 c.args.part.now) at c.unit_place-p.ensures.0) c.child_at-end.ensures.0
+    (met _ c.unwrap-p.ensures (rw (lent_part 1 c.args.part.now) at c.unit_place.ensures)).1 c.child_at-end.ensures.0
 
 -- There is room for them, and the literal stands before the end.
 room : (c : goal.After-child_at-end) → let a = c.args in a.at + (1 + (length (before_it c) + length (after_it c))) ≤ length a.out.now
 room c = omega (arith, ap length (parts c), length-append (before_it c) (after_it c), c.requires.part_in_bounds)
 
-inside : (c : goal.After-child_at-end) → 1 + c.unit_place-p.result < c.child_at-end.result
+inside : (c : goal.After-child_at-end) → 1 + c.unwrap-p.result < c.child_at-end.result
 unfolding among
 inside c =
     let l = c.args.part.now in
     let m = children (get_or l 0 0) in
-    let u : c.unit_place-p.result ≡ unit_place c.args.literal m (drop 1 l) =
-    rw (c.children_of-m.ensures ∙ ap children c.from.ensures) at (rw (lent_part 1 c.args.part.now) at c.unit_place-p.ensures.0) in
+    let u : c.unwrap-p.result ≡ unit_place c.args.literal m (drop 1 l) =
+    rw (c.children_of-m.ensures ∙ ap children c.from.ensures) at (met _ c.unwrap-p.ensures (rw (lent_part 1 c.args.part.now) at c.unit_place.ensures)).1 in
     let e : c.child_at-end.result ≡ child_at m l = rw (c.children_of-m.ensures ∙ ap children c.from.ensures) at c.child_at-end.ensures.0 in
     omega (arith, ltb-true (unit_place c.args.literal m (drop 1 l)) (span m (drop 1 l)) c.requires.part_value_2)
 
@@ -61,6 +84,17 @@ child_at-end-requires c = (
   c.requires.in_bounds.1,
   omega (arith, counted (goal.at.child_at-end-requires c).After-children_of-m, children_small (get_or c.args.part.now 0 0)),
 )
+
+pub unwrap-p-requires : goal.unwrap-p-requires
+unwrap-p-requires c =
+    tells c.unit_place.result _ _ (told (goal.at.unwrap-p-requires c).After-unit_place)
+    ∙ rw (counted (goal.at.unwrap-p-requires c).After-children_of-m) c.requires.part_value_2
+
+pub overflow_add-p : goal.overflow_add-p
+overflow_add-p c = omega (arith, c.requires.in_bounds, near (goal.at.overflow_add-p c).After-unwrap-p)
+
+pub slice_bounds-copy-end : goal.slice_bounds-copy-end
+slice_bounds-copy-end c = omega (arith, near (goal.at.slice_bounds-copy-end c).After-unwrap-p)
 
 pub overflow_sub-out : goal.overflow_sub-out
 unfolding kind

@@ -1,7 +1,6 @@
 -- `rule_regroup::write_tree` meets its contract: the literal and the number of groups are found, and the tree is built of them.
 use Rattle.std.specs.Prelude as P
 use Rattle.std.specs.Option.{IsSome}
-use mathlib.Core.Bool.{true}
 use mathlib.Core.List.{List}
 use mathlib.Core.Path.{◌≡◌, refl, sym, ap, ◌∙◌}
 use Prim.Native.Nat.{ℕ}
@@ -11,11 +10,10 @@ use Rattle.common_lists.specs.Given.{given}
 use Rattle.common_lists.proofs.Lent.{lent_part, lent_at}
 use Rattle.model.specs.Base.{only_if}
 use Rattle.model.specs.Code.{children}
-use Rattle.theory_forms.specs.Logic.{none_some}
 use Rattle.theory_reading.specs.Spans.{child_at}
 use Rattle.theory_rewriting.specs.Children.{Child, applied_child}
 use Rattle.rule_factor.specs.Walks.{unit_at, unit_of, all_share, groups_in, sharing}
-use Rattle.rule_factor.proofs.Here.{unit_as_none, unit_as_some}
+use Rattle.rule_factor.proofs.Here.{tells, unit_as_none, unit_as_some}
 use Rattle.rule_factor.proofs.Walk.{sharing_some}
 use Rattle.rule_factor.proofs.Asking.{Applied, conjunction_room}
 use Rattle.rule_regroup.specs.Regrouped.{tree_after}
@@ -57,15 +55,10 @@ grouped : (c : goal.After-unwrap-groups) → let a = c.args in
 grouped c =
     sym (sharing_some _ _ _ (sym (ap given c.unwrap-groups.ensures) ∙ rw (lent_part 1 c.args.part.now) at c.sharing_groups.ensures))
 
--- Neither is missing, where the rule applies.
+-- The literal is there, where the rule applies.
 some_unit : (o : P.Option ℕ) (j : ℕ) (l : List ℕ) → given o ≡ unit_at j l → (unit_of j l ≡ 0 → ⊥) → IsSome o
 some_unit P.None j l e h = absurd (h (unit_as_none j l e))
 some_unit (P.Some x) j l e h = refl
-
-some_groups : (o : P.Option ℕ) (a n : ℕ) (l : List ℕ) → given o ≡ only_if (all_share a n l) (groups_in n l) → all_share a n l ≡ true → IsSome o
-unfolding only_if
-some_groups P.None a n l e h = none_some (rw h at e)
-some_groups (P.Some x) a n l e h = refl
 
 pub bounds-part-0 : goal.bounds-part-0
 bounds-part-0 c = let k = child (goal.at.bounds-part-0 c).Start in omega arith
@@ -92,9 +85,9 @@ unwrap-literal-requires c =
 pub unwrap-groups-requires : goal.unwrap-groups-requires
 unwrap-groups-requires c =
     let l = c.args.part.now in
-    some_groups c.sharing_groups.result _ _ _ (told (goal.at.unwrap-groups-requires c).After-sharing_groups)
-    (rw (found (goal.at.unwrap-groups-requires c).After-unwrap-literal, counted (goal.at.unwrap-groups-requires c).After-children_of-k)
-    (all_shared c.requires.stretch c.requires.headed (applies (goal.at.unwrap-groups-requires c).Start)))
+    tells c.sharing_groups.result _ _ (told (goal.at.unwrap-groups-requires c).After-sharing_groups)
+    ∙ rw (found (goal.at.unwrap-groups-requires c).After-unwrap-literal, counted (goal.at.unwrap-groups-requires c).After-children_of-k)
+    (all_shared c.requires.stretch c.requires.headed (applies (goal.at.unwrap-groups-requires c).Start))
 
 pub sharing_groups-requires : goal.sharing_groups-requires
 sharing_groups-requires c =
