@@ -170,12 +170,14 @@ fn look(sheet: &[u16], part: Extent, known: &mut Known, scratch: &mut Scratch) -
         (λ _. HasFallen sheet.now known.new.failed) }
 {
     match lone(sheet, part, &known.failed) {
-        Forced::Only(place) => known.learn(place),
-        Forced::Nothing => {}
-        Forced::Fails => return Err(Fallen),
-        Forced::Untold => return look_inside(sheet, part, known, scratch),
+        Forced::Only(place) => {
+            known.learn(place);
+            Ok(())
+        }
+        Forced::Nothing => Ok(()),
+        Forced::Fails => Err(Fallen),
+        Forced::Untold => look_inside(sheet, part, known, scratch),
     }
-    Ok(())
 }
 
 // Looks at each part once.
