@@ -57,10 +57,7 @@ fn shares(part: &[u16], literal: u16) -> bool
     let x = usize::from(part[0]);
     common_nodes::is_literal(x)
         || common_nodes::kind_of(x) == 3
-            && {
-                let m = common_nodes::children_of(x);
-                unit_place(&part[1..], m, literal).is_some()
-            }
+            && unit_place(&part[1..], common_nodes::children_of(x), literal).is_some()
 }
 
 // One for a group, nothing for a literal.
@@ -102,10 +99,7 @@ pub fn applies(part: &[u16], i: usize, j: usize, at: usize) -> bool
     requires i_bound { (i < children (get_or part.now 0 0)) × (at ≡ child_at i part.now) }
     ensures { result ≡ is_some (rewrite 14 i j (forest_in part.now)) }
 {
-    if at != 1 + i {
-        return false;
-    }
-    if common_nodes::kind_of(usize::from(part[at])) != 3 {
+    if at != 1 + i || common_nodes::kind_of(usize::from(part[at])) != 3 {
         return false;
     }
     let Some(literal) = unit_of(&part[at..], j) else {

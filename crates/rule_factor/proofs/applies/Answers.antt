@@ -13,13 +13,10 @@ use Rattle.rule_factor.proofs.Here.{unit_as_none, unit_as_some, unit_not_0}
 use Rattle.rule_factor.proofs.Walk.{sharing_none, sharing_some}
 use Rattle.rule_factor.proofs.Asking.{conjunction_room, conjunction_there, applies_late, applies_other, applies_nothing, applies_shared}
 use Rattle.rule_factor.proofs.applies.Goals as goal
-use Rattle.rule_factor.proofs.applies.Goals.{After-children_of-k, After-kind_of, After-unit_of, Else-kind_of-ne3, Start}
+use Rattle.rule_factor.proofs.applies.Goals.{then-at-i-via-then-at-i, then-at-i-via-else-at-i+then-kind_of-ne3}
+use Rattle.rule_factor.proofs.applies.Goals.{After-children_of-k, After-unit_of, Else-kind_of-ne3, Start}
 
 -- What is read there.
-kinded : (c : goal.After-kind_of) → let a = c.args in
-    c.kind_of.result ≡ kind (get_or a.part.now (child_at a.i a.part.now) 0)
-kinded c = c.kind_of.ensures ∙ ap kind (c.from.ensures ∙ ap (λ n. get_or c.args.part.now n 0) c.requires.i_bound.1)
-
 conjunction : (c : goal.Else-kind_of-ne3) → let a = c.args in kind (get_or a.part.now (child_at a.i a.part.now) 0) ≡ 3
 conjunction c =
     sym (c.kind_of.ensures ∙ ap kind (c.from.ensures ∙ ap (λ n. get_or c.args.part.now n 0) c.requires.i_bound.1)) ∙ c.if-kind_of-ne3.false
@@ -37,18 +34,20 @@ overflow_add-i c = let k = asked_child c.requires.stretch c.requires.headed c.re
 
 pub returns-then-at-i : goal.returns-then-at-i
 returns-then-at-i c =
-    applies_late c.requires.stretch c.requires.headed c.args.i c.args.j c.requires.i_bound.0 (λ e. c.if-at-i.true (c.requires.i_bound.1 ∙ e))
+    let a = c.args in
+    let q = c.requires in
+    elim c.then-at-i.branch [
+      | then-at-i-via-then-at-i w ↦ applies_late q.stretch q.headed a.i a.j q.i_bound.0 (λ e. w.if-at-i.true (q.i_bound.1 ∙ e))
+      | then-at-i-via-else-at-i+then-kind_of-ne3 w ↦
+          let read = w.kind_of.ensures ∙ ap kind (w.from.ensures ∙ ap (λ n. get_or a.part.now n 0) q.i_bound.1) in
+          applies_other q.stretch q.headed a.i a.j q.i_bound.0 (λ e. w.if-kind_of-ne3.true (read ∙ e))
+    ]
 
 pub offset_bounds-part-at : goal.offset_bounds-part-at
 offset_bounds-part-at c = let k = asked_child c.requires.stretch c.requires.headed c.requires.i_bound in omega arith
 
 pub bounds-part-at : goal.bounds-part-at
 bounds-part-at c = let k = asked_child c.requires.stretch c.requires.headed c.requires.i_bound in omega arith
-
-pub returns-then-kind_of-ne3 : goal.returns-then-kind_of-ne3
-returns-then-kind_of-ne3 c =
-    applies_other c.requires.stretch c.requires.headed c.args.i c.args.j c.requires.i_bound.0
-    (λ e. c.if-kind_of-ne3.true (kinded (goal.at.returns-then-kind_of-ne3 c).After-kind_of ∙ e))
 
 pub offset_bounds-part-at-2 : goal.offset_bounds-part-at-2
 offset_bounds-part-at-2 c = let k = asked_child c.requires.stretch c.requires.headed c.requires.i_bound in omega arith

@@ -7,7 +7,7 @@ use Rattle.model.specs.Code.{kind, children}
 use Rattle.theory_forms.specs.Scan.{is_literal}
 use Rattle.rule_factor.proofs.Here.{tells, shares_literal, shares_not, shares_among}
 use Rattle.rule_factor.proofs.shares.Goals as goal
-use Rattle.rule_factor.proofs.shares.Goals.{After-children_of-m, After-is_literal, After-kind_of, Start}
+use Rattle.rule_factor.proofs.shares.Goals.{After-children_of, After-is_literal, After-kind_of, Start}
 
 -- What is read of the first number.
 literal : (c : goal.After-is_literal) → c.is_literal.result ≡ is_literal (get_or c.args.part.now 0 0)
@@ -16,8 +16,8 @@ literal c = c.is_literal.ensures ∙ ap is_literal c.from-x.ensures
 kinded : (c : goal.After-kind_of) → c.kind_of.result ≡ kind (get_or c.args.part.now 0 0)
 kinded c = c.kind_of.ensures ∙ ap kind c.from-x.ensures
 
-counted : (c : goal.After-children_of-m) → c.children_of-m.result ≡ children (get_or c.args.part.now 0 0)
-counted c = c.children_of-m.ensures ∙ ap children c.from-x.ensures
+counted : (c : goal.After-children_of) → c.children_of.result ≡ children (get_or c.args.part.now 0 0)
+counted c = c.children_of.ensures ∙ ap children c.from-x.ensures
 
 pub returns-then-is_literal : goal.returns-then-is_literal
 returns-then-is_literal c =
@@ -33,7 +33,7 @@ returns-else-kind_of-eq3 c =
 pub returns-then-kind_of-eq3 : goal.returns-then-kind_of-eq3
 returns-then-kind_of-eq3 c =
     let l = c.args.part.now in
-    let kids = counted (goal.at.returns-then-kind_of-eq3 c).After-children_of-m in
+    let kids = counted (goal.at.returns-then-kind_of-eq3 c).After-children_of in
     c.is_some.ensures ∙ tells c.unit_place.result _ _ (rw (kids, lent_part 1 l) at c.unit_place.ensures)
     ∙ sym (shares_among _ l (sym (literal (goal.at.returns-then-kind_of-eq3 c).After-is_literal) ∙ c.if-is_literal.false)
     (sym (kinded (goal.at.returns-then-kind_of-eq3 c).After-kind_of) ∙ c.if-kind_of-eq3.true))
