@@ -23,14 +23,6 @@ words_from n i b = words (n - i) (drop (2 * i) b)
 abbrev pub entries_from : ℕ → ℕ → List ℕ → List Entry
 entries_from m i b = entries (m - i) (drop (4 * i) b)
 
-pub words_at : (n i : ℕ) (b : List ℕ) → i < n → words_from n i b ≡ word b (2 * i) ∷ words_from n (i + 1) b
-unfolding words
-words_at n i b h =
-    let left : n - i ≡ suc (n - (i + 1)) = omega arith in
-    let here : 2 * i + 0 ≡ 2 * i = omega arith in
-    let next : 2 * i + 2 ≡ 2 * (i + 1) = omega arith in
-    rw (left, word_drop (2 * i) 0 b, drop-drop 2 (2 * i) b, here, next)
-
 pub entries_at :
     (m i : ℕ) (b : List ℕ) →
     i < m →
