@@ -105,6 +105,7 @@ fn keep(list: &mut [u16], count: u16, held: &mut [u16]) -> usize
     ensures by_index { (x : ℕ) → get_or held.new x 0 ≡ 0 }
 {
     let mut kept = 0;
+    // By places, since the list is written while it is read.
     for i in 0..list.len() {
         let x = list[i];
         let place = usize::from(x);

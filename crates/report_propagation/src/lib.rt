@@ -45,23 +45,12 @@ pub enum Forced {
 }
 
 // What is known: which literals failed, the trail of them in order, and how many it has.
-#[derive(Clone, Copy)]
+#[derive(Drop)]
 pub struct Known {
     pub failed: [u8; MOST_LITERALS],
     pub trail: [u16; MOST_LITERALS],
     pub count: usize,
 }
-
-// What a pass over a part writes in; what it holds before does not matter.
-#[derive(Clone, Copy)]
-struct Scratch {
-    places: [u16; SHEET_ROOM],
-    stack: [u16; SHEET_ROOM],
-}
-
-// The sheet has fallen: a part fails under what is known.
-#[derive(Clone, Copy)]
-pub struct Fallen;
 
 impl Known {
     // Nothing is known.
@@ -94,6 +83,17 @@ impl Known {
         }
     }
 }
+
+// What a pass over a part writes in; what it holds before does not matter.
+#[derive(Drop)]
+struct Scratch {
+    places: [u16; SHEET_ROOM],
+    stack: [u16; SHEET_ROOM],
+}
+
+// The sheet has fallen: a part fails under what is known.
+#[derive(Clone, Copy)]
+pub struct Fallen;
 
 // What a part forces that is a literal, or a disjunction that begins with literals: nothing where two of them, unlike one another,
 // do not fail. Of literals alone: the only one that does not fail, which may stand there more than once, or that all fail. Of any
