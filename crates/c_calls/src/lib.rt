@@ -5,43 +5,50 @@
 ghost use Rattle.std.specs.Prelude.{◌≡◌};
 ghost use Rattle.calls.specs.Refusals.{refusal_number};
 ghost use Rattle.calls.specs.Calls.{check_of, lookup_of};
-ghost use Rattle.call_answers.specs.AnswerMeaning.{refusal_of, done_of, found_of};
-ghost use Rattle.c_calls.specs.Packed.{packed_done, packed_value, Fits};
+ghost use Rattle.call_answers.specs.AnswerMeaning.{refusal_of, answer_of, done_of, found_of};
+ghost use Rattle.c_calls.specs.Packed.{packed_done, packed_value, packed_bool, Fits};
 
-use call_answers::{Done, Found, Refusal};
+use call_answers::Refusal;
 
-// A number of 8 bits at 64.
-fn wide(x: u8) -> u64
-    ensures { result ≡ x }
-{
-    x as u64
-}
+// A value begins above the refusal's 8 bits.
+pub const VALUE: u64 = 256;
 
 // A refusal as one number.
 pub fn refused(r: Refusal) -> u64
     ensures { result ≡ refusal_number (refusal_of r) }
 {
-    wide(call_answers::number(r))
+    u64::from(call_answers::number(r))
 }
 
 // The answer of a call that has no value to give, as one number.
-pub fn done(answer: Done) -> u64
+pub fn done(answer: Result<(), Refusal>) -> u64
     ensures { result ≡ packed_done (done_of answer) }
 {
     match answer {
-        Done::Refused(r) => refused(r),
-        Done::Accepted => 0,
+        Ok(()) => 0,
+        Err(r) => refused(r),
     }
 }
 
 // The answer of a call that gives a number, as one number.
-pub fn found(answer: Found) -> u64
+pub fn found(answer: Result<usize, Refusal>) -> u64
     requires { Fits (found_of answer) }
     ensures { result ≡ packed_value (found_of answer) }
 {
     match answer {
-        Found::Refused(r) => refused(r),
-        Found::Value(v) => 256 * (v as u64),
+        Ok(v) => VALUE * (v as u64),
+        Err(r) => refused(r),
+    }
+}
+
+// The answer of a call that says yes or no, as one number.
+pub fn told(answer: Result<bool, Refusal>) -> u64
+    ensures { result ≡ packed_bool (answer_of answer) }
+{
+    match answer {
+        Ok(true) => VALUE,
+        Ok(false) => 0,
+        Err(r) => refused(r),
     }
 }
 

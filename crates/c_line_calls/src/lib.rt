@@ -8,11 +8,7 @@ ghost use Rattle.calls.specs.Calls.{key_with, withdraw_with, complete_of};
 ghost use Rattle.c_calls.specs.Packed.{packed_done, packed_bool};
 ghost use Rattle.order_lines.specs.LineMeaning.{lines_of, order};
 
-use call_complete::Completed;
 use order_lines::{Line, SLOTS};
-
-// The value 1 stands above the refusal's 8 bits.
-const YES: u64 = 256;
 
 // A keying, by a copy of the lines: its answer, and what it leaves of the sheet and the index.
 fn key_copied(
@@ -57,12 +53,7 @@ fn withdraw_copied(
 fn complete_copied(sheet: &[u16], book: &[u8], lines: [Line; SLOTS], count: u16) -> u64
     ensures { result ≡ packed_bool (complete_of (order sheet.now lines count) book.now) }
 {
-    let answer = call_complete::complete(sheet, book, lines, count);
-    match answer {
-        Completed::Complete => YES,
-        Completed::Incomplete => 0,
-        Completed::Refused(r) => c_calls::refused(r),
-    }
+    c_calls::told(call_complete::complete(sheet, book, lines, count))
 }
 
 // A keying: where it is accepted, the slot at the count gets the line, the count rises by one, and the mark is counted in the index.
@@ -105,7 +96,7 @@ pub extern "C" fn nd_key(
     if answer == 0 {
         lines[n as usize] = Line {
             option: option as u16,
-            negative: negative,
+            negative,
         };
         *count = n + 1;
     }

@@ -7,12 +7,9 @@ ghost use Rattle.calls.specs.Calls.{load_of, write_of, report_of, step_with, run
 ghost use Rattle.c_calls.specs.Packed.{packed_done, packed_value, packed_bool};
 ghost use Rattle.c_sheet_calls.specs.PackedValues.{packed_ran};
 
-use call_report::Reported;
-use call_run::Ran;
+use c_calls::VALUE;
 
-// A value begins above the refusal's 8 bits. Of a run's value the lowest bit says whether it is settled, and the count stands above it.
-const VALUE: u64 = 256;
-
+// Of a run's value the lowest bit says whether it is settled, and the count stands above it.
 const COUNT: u64 = 2 * VALUE;
 
 // The loader.
@@ -39,12 +36,7 @@ pub extern "C" fn nd_report(sheet: &[u16], out: &mut [u8]) -> u64
     ensures value { result ≡ packed_bool (report_of sheet.now out.old).answer }
     ensures out_after { out.new ≡ (report_of sheet.now out.old).lent }
 {
-    let answer = call_report::report(sheet, out);
-    match answer {
-        Reported::Consistent => 0,
-        Reported::Contradictory => VALUE,
-        Reported::Refused(r) => c_calls::refused(r),
-    }
+    c_calls::told(call_report::report(sheet, out))
 }
 
 // A single step, on a sheet with its index.
@@ -71,11 +63,10 @@ pub extern "C" fn nd_run(sheet: &mut [u16], index: &mut [u16], budget: u64) -> u
     ensures sheet_after { sheet.new ≡ (run_with sheet.old index.old budget).lent.own }
     ensures index_after { index.new ≡ (run_with sheet.old index.old budget).lent.index }
 {
-    let answer = call_run::run_with(sheet, index, budget);
-    match answer {
-        Ran::Settled(n) => COUNT * n + VALUE,
-        Ran::Stopped(n) => COUNT * n,
-        Ran::Refused(r) => c_calls::refused(r),
+    match call_run::run_with(sheet, index, budget) {
+        Ok(end) if end.settled => COUNT * end.count + VALUE,
+        Ok(end) => COUNT * end.count,
+        Err(r) => c_calls::refused(r),
     }
 }
 

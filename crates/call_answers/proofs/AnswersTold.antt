@@ -2,8 +2,11 @@
 use mathlib.Core.List.{List}
 use mathlib.Core.Path.{◌≡◌, ap, ◌∙◌}
 use Prim.Native.Nat.{ℕ}
+use Rattle.std.specs.Prelude.{Result, Ok, Err}
+use Rattle.std.specs.Result.{IsErrAnd}
 use Rattle.calls.specs.Outcomes.{Answer, Outcome}
 use Rattle.calls.specs.Index.{Indexed}
+use Rattle.call_answers.specs.declared.Refusal.{Refusal}
 use Rattle.call_answers.specs.AnswerMeaning.{after_call, beside_index}
 
 -- A buffer.
@@ -21,3 +24,8 @@ pub told_beside :
     after_call a (beside_index s index) ≡ o →
     (r ≡ pack o.answer) × ((s ≡ o.lent.own) × (index ≡ o.lent.index))
 told_beside pack p e = (p ∙ ap (λ x. pack x.answer) e, (ap (λ x. x.lent.own) e, ap (λ x. x.lent.index) e))
+
+-- What a call answers where a `?` in it hands a refusal on: the same refusal.
+pub handed_on : {A : Type 0} {r : Result A Refusal} {e : Refusal} → IsErrAnd r (λ x. x ≡ e) → r ≡ Err e
+handed_on {r = Err x} h = ap Err h
+handed_on {r = Ok a} h = absurd h

@@ -1,5 +1,5 @@
 -- What each case of an answer is in the definitions: its refusal, by document 01's number, and its values.
-use Rattle.std.specs.Prelude.{List, ℕ}
+use Rattle.std.specs.Prelude.{List, ℕ, Result, Ok, Err}
 use Rattle.std.proofs.Math.Option.{Option, none, some}
 use Rattle.calls.specs.Refusals as M
 use Rattle.calls.specs.Outcomes.{Answer, refused, accepted, Outcome}
@@ -7,10 +7,6 @@ use Rattle.calls.specs.Lines.{State}
 use Rattle.calls.specs.Index.{Indexed}
 use Rattle.call_answers.specs.declared.Refusal as R
 use Rattle.call_answers.specs.declared.Refusal.TheVariants as V₁
-use Rattle.call_answers.specs.declared.Done as D
-use Rattle.call_answers.specs.declared.Done.TheVariants as V₂
-use Rattle.call_answers.specs.declared.Found as F
-use Rattle.call_answers.specs.declared.Found.TheVariants as V₃
 
 abbrev pub refusal_of : R.Refusal → M.Refusal
 refusal_of V₁.Length = M.length_refused
@@ -30,18 +26,22 @@ refusal_of V₁.List = M.list_refused
 refusal_of V₁.Text = M.text_refused
 refusal_of V₁.Size = M.size_refused
 
+-- The answer that a result is.
+abbrev pub answer_of : {A : Type 0} → Result A R.Refusal → Answer A
+answer_of (Ok a) = accepted a
+answer_of (Err r) = refused (refusal_of r)
+
+-- That of a call that has no value to give, and of one that gives a number.
+abbrev pub done_of : Result (Unit {0}) R.Refusal → Answer (Unit {0})
+done_of = answer_of
+
+abbrev pub found_of : Result ℕ R.Refusal → Answer ℕ
+found_of = answer_of
+
 -- The refusal that is due, if any.
-abbrev pub due_of : D.Done → Option M.Refusal
-due_of V₂.Accepted = none
-due_of (V₂.Refused r) = some (refusal_of r)
-
-abbrev pub done_of : D.Done → Answer (Unit {0})
-done_of V₂.Accepted = accepted tt
-done_of (V₂.Refused r) = refused (refusal_of r)
-
-abbrev pub found_of : F.Found → Answer ℕ
-found_of (V₃.Value v) = accepted v
-found_of (V₃.Refused r) = refused (refusal_of r)
+abbrev pub due_of : {A : Type 0} → Result A R.Refusal → Option M.Refusal
+due_of (Ok a) = none
+due_of (Err r) = some (refusal_of r)
 
 -- An answer, with what the call leaves in all that it may write.
 abbrev pub after_call : {L A : Type 0} → Answer A → L → Outcome L A

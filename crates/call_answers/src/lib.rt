@@ -1,4 +1,4 @@
-// What calls answer: a result, or one refusal by its name.
+// Why calls are refused. A call answers `Result<T, Refusal>`: a value, or one refusal by its name.
 #![tactic(auto)]
 
 ghost use Rattle.std.specs.Prelude.{◌≡◌};
@@ -6,7 +6,7 @@ ghost use Rattle.calls.specs.Refusals.{refusal_number};
 ghost use Rattle.call_answers.specs.AnswerMeaning.{refusal_of};
 
 // Why a call is refused, in the order of the numbers 1 to 16.
-#[derive(Clone, Copy)]
+#[derive(Clone, Copy, PartialEq, Eq)]
 pub enum Refusal {
     Length,
     Head,
@@ -24,20 +24,6 @@ pub enum Refusal {
     List,
     Text,
     Size,
-}
-
-// The answer of a call that has no value to give.
-#[derive(Clone, Copy)]
-pub enum Done {
-    Accepted,
-    Refused(Refusal),
-}
-
-// The answer of a call that gives a number.
-#[derive(Clone, Copy)]
-pub enum Found {
-    Value(usize),
-    Refused(Refusal),
 }
 
 // The number of a refusal.
@@ -61,5 +47,13 @@ pub fn number(r: Refusal) -> u8
         Refusal::List => 14,
         Refusal::Text => 15,
         Refusal::Size => 16,
+    }
+}
+
+impl From<Refusal> for u8 {
+    ghost from_gives = { λ r n. n ≡ refusal_number (refusal_of r) };
+
+    fn from(r: Refusal) -> u8 {
+        number(r)
     }
 }

@@ -9,6 +9,7 @@ use borrow.Author.Tests.{leb-true, le-leb, lt-leb}
 use lib.Dec.{eqb, leb}
 use lib.ListN.{length, take, drop}
 use borrow.Author.Rules.{part_to_end}
+use Rattle.std.specs.Prelude.{Result, Ok, Err}
 use Rattle.model.specs.Base.{all, only_if, first_of, is_some, maybe}
 use Rattle.model.specs.Code.{weight}
 use Rattle.model.specs.Limits.{most_options, most_rules, most_nodes, most_weight}
@@ -21,11 +22,9 @@ use Rattle.calls.specs.Conditions.{has_good_codes, has_good_contents, has_good_b
 use Rattle.calls.specs.Chains.{part_refusal, book_refusal, lookup_refusal}
 use Rattle.calls.specs.Calls.{check_of, lookup_of}
 use Rattle.call_answers.specs.declared.Refusal.{Refusal as Why}
-use Rattle.call_answers.specs.declared.Done.{Done}
-use Rattle.call_answers.specs.declared.Done.TheVariants.{Accepted, Refused}
 use Rattle.call_answers.specs.AnswerMeaning.{refusal_of, due_of, done_of}
 use Rattle.theory_forms.specs.Logic.{and_split}
-use Rattle.call_laws.specs.Books.{GoodHead, accepted_book}
+use Rattle.call_laws.specs.Books.{GoodHead, accepted_book, check_some}
 use Rattle.common_weight.specs.Sums.{most_sum}
 
 -- The head: the first number over its limit makes it bad.
@@ -123,38 +122,31 @@ pub refused_by : (b : List ℕ) (r : Refusal) → book_refusal b ≡ some r → 
 unfolding check_of answer
 refused_by b r e = rw e
 
-pub done_by : (b : List ℕ) (d : Done) → due_of d ≡ book_refusal b → done_of d ≡ check_of b
+pub done_by : (b : List ℕ) (d : Result (Unit {0}) Why) → due_of d ≡ book_refusal b → done_of d ≡ check_of b
 unfolding check_of answer
-done_by b Accepted e = rw (← e)
-done_by b (Refused r) e = rw (← e)
+done_by b (Ok u) e = rw (← e)
+done_by b (Err r) e = rw (← e)
 
 -- And back: what the check's answer says of the refusal.
-pub due_of_check : (b : List ℕ) (d : Done) → done_of d ≡ check_of b → due_of d ≡ book_refusal b
+pub due_of_check : (b : List ℕ) (d : Result (Unit {0}) Why) → done_of d ≡ check_of b → due_of d ≡ book_refusal b
 unfolding check_of answer
 due_of_check b d e = go d (book_refusal b) e
   where
-    go : (d : Done) (o : Option Refusal) → done_of d ≡ answer o tt → due_of d ≡ o
-    go Accepted none e = refl
-    go Accepted (some r) e = let z : ◌≡◌ {A = ℕ} 0 1 = cc in absurd (omega arith)
-    go (Refused x) none e = let z : ◌≡◌ {A = ℕ} 0 1 = cc in absurd (omega arith)
-    go (Refused x) (some r) e = cc
+    go : (d : Result (Unit {0}) Why) (o : Option Refusal) → done_of d ≡ answer o tt → due_of d ≡ o
+    go (Ok u) none e = refl
+    go (Ok u) (some r) e = let z : ◌≡◌ {A = ℕ} 0 1 = cc in absurd (omega arith)
+    go (Err x) none e = let z : ◌≡◌ {A = ℕ} 0 1 = cc in absurd (omega arith)
+    go (Err x) (some r) e = cc
 
--- An accepted check, and the room that the codes have.
-pub only_accepted : (d : Done) → ((r : Why) → d ≡ Refused r → ⊥) → d ≡ Accepted
-only_accepted Accepted h = refl
-only_accepted (Refused r) h = absurd (h r refl)
-
-pub good_book : (b : List ℕ) (d : Done) → done_of d ≡ check_of b → d ≡ Accepted → book_refusal b ≡ none
-good_book b d e q = sym (due_of_check b d e) ∙ ap due_of q
-
+-- The room that the codes of an accepted book have.
 pub codes_room : (b : List ℕ) (n : ℕ) → book_refusal b ≡ none → n ≡ word b 0 → 8 + 13 * n ≤ length b
 unfolding length_due contents_end codes_end options_of
 codes_room b n e p = let a = accepted_book b e in rw p (omega (arith, a.long))
 
 -- The lookup's answer: the book's refusal, the option, or that there is none.
-pub lookup_refused : (b code : List ℕ) (d : Done) (r : Why) → done_of d ≡ check_of b → d ≡ Refused r → refused (refusal_of r) ≡ lookup_of b code
+pub lookup_refused : (b code : List ℕ) (r : Refusal) → refused r ≡ check_of b → refused r ≡ lookup_of b code
 unfolding lookup_of lookup_refusal answer first_of
-lookup_refused b code d r e q = rw (← due_of_check b d e, q)
+lookup_refused b code r e = rw (check_some b r e)
 
 module _ (b code : List ℕ) (good : book_refusal b ≡ none) where
   pub lookup_found : (v : ℕ) → option_of_code code 0 (codes_of b) ≡ some v → accepted v ≡ lookup_of b code

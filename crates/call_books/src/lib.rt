@@ -9,7 +9,7 @@ ghost use Rattle.calls.specs.Chains.{part_refusal};
 ghost use Rattle.call_laws.specs.Books.{GoodHead};
 ghost use Rattle.call_answers.specs.AnswerMeaning.{done_of, due_of, found_of};
 
-use call_answers::{Done, Found, Refusal};
+use call_answers::Refusal;
 use common_limits::{CODE_LENGTH, HEAD_LENGTH, MOST_NODES, MOST_OPTIONS, MOST_RULES};
 use common_weight::MOST_WEIGHT;
 
@@ -18,71 +18,63 @@ fn is_head(book: &[u8]) -> bool
     requires { head_length ≤ length book.now }
     ensures { result ≡ head_in_limits book.now }
 {
-    if MOST_OPTIONS < common_nodes::word_at(book, 0) {
-        return false;
-    }
-    if MOST_RULES < common_nodes::word_at(book, 2) {
-        return false;
-    }
-    if MOST_NODES < common_nodes::word_at(book, 4) {
-        return false;
-    }
-    common_nodes::word_at(book, 6) == 0
+    let options = common_nodes::word_at(book, 0);
+    let rules = common_nodes::word_at(book, 2);
+    let nodes = common_nodes::word_at(book, 4);
+    let zero = common_nodes::word_at(book, 6);
+    options <= MOST_OPTIONS && rules <= MOST_RULES && nodes <= MOST_NODES && zero == 0
 }
 
 // What a book with a good head and the length due is refused for: its codes, its contents, its bodies, its weight.
-fn check_parts(book: &[u8], n: usize, m: usize, t: usize) -> Done
+fn check_parts(book: &[u8], n: usize, m: usize, t: usize) -> Result<(), Refusal>
     requires { GoodHead book.now n m t }
     ensures { due_of result ≡ part_refusal book.now }
 {
     let contents = HEAD_LENGTH + CODE_LENGTH * n;
     let bodies = contents + 4 * m;
     if !book_distinct_codes::are_codes(&book[HEAD_LENGTH..], n) {
-        return Done::Refused(Refusal::Code);
+        return Err(Refusal::Code);
     }
     if !book_body::are_in_line(&book[contents..], m, t) {
-        return Done::Refused(Refusal::Contents);
+        return Err(Refusal::Contents);
     }
     if !book_body::are_bodies(&book[contents..], m, &book[bodies..], t, n) {
-        return Done::Refused(Refusal::Body);
+        return Err(Refusal::Body);
     }
     if MOST_WEIGHT < common_weight::weigh_book(book) {
-        return Done::Refused(Refusal::Weight);
+        return Err(Refusal::Weight);
     }
-    Done::Accepted
+    Ok(())
 }
 
 // The book check.
-pub fn check(book: &[u8]) -> Done
+pub fn check(book: &[u8]) -> Result<(), Refusal>
     ensures { done_of result ≡ check_of book.now }
 {
     if book.len() < HEAD_LENGTH {
-        return Done::Refused(Refusal::Length);
+        return Err(Refusal::Length);
     }
     if !is_head(book) {
-        return Done::Refused(Refusal::Head);
+        return Err(Refusal::Head);
     }
     let n = common_nodes::word_at(book, 0);
     let m = common_nodes::word_at(book, 2);
     let t = common_nodes::word_at(book, 4);
     if book.len() != HEAD_LENGTH + CODE_LENGTH * n + 4 * m + 2 * t {
-        return Done::Refused(Refusal::Length);
+        return Err(Refusal::Length);
     }
     check_parts(book, n, m, t)
 }
 
 // The code lookup: the option whose code has these characters.
-pub fn lookup(book: &[u8], code: &[u8]) -> Found
+pub fn lookup(book: &[u8], code: &[u8]) -> Result<usize, Refusal>
     ensures { found_of result ≡ lookup_of book.now code.now }
 {
-    let checked = check(book);
-    if let Done::Refused(r) = checked {
-        return Found::Refused(r);
-    }
+    check(book)?;
     let n = common_nodes::word_at(book, 0);
     let place = book_codes::find(&book[HEAD_LENGTH..], n, code);
     match place {
-        Some(v) => Found::Value(v),
-        None => Found::Refused(Refusal::Unknown),
+        Some(v) => Ok(v),
+        None => Err(Refusal::Unknown),
     }
 }

@@ -22,10 +22,6 @@ use Rattle.calls.specs.Index.{names}
 use Rattle.calls.specs.Named.{is_named, is_decided, complete_among}
 use Rattle.calls.specs.Chains.{order_refusal, complete_refusal}
 use Rattle.calls.specs.Calls.{complete_of}
-use Rattle.call_answers.specs.declared.Refusal.{Refusal as Why}
-use Rattle.call_answers.specs.declared.Done.{Done}
-use Rattle.call_answers.specs.declared.Done.TheVariants.{Accepted, Refused}
-use Rattle.call_answers.specs.AnswerMeaning.{due_of}
 use Rattle.theory_forms.specs.Lists.{all_weaken, all_counted, any_map, any_flatten}
 use Rattle.theory_forms.specs.Sheets.{Formed, sheet_formed}
 use Rattle.theory_formats.specs.Loading.{Accepted as AcceptedBook, bodies_flat}
@@ -64,11 +60,6 @@ same_names :
 unfolding complete_among
 same_names p q n r h =
     ap (λ b. not r.contradictory && b) (all_counted _ _ n (λ v l. ap (λ b. not b || is_decided r v) (h v l)))
-
--- What is not refused has no refusal.
-pub not_refused : (d : Done) → ((r : Why) → d ≡ Refused r → ⊥) → due_of d ≡ none
-not_refused Accepted h = refl
-not_refused (Refused r) h = absurd (h r refl)
 
 module _ (t : State) (b : List ℕ) where
   pub refused_so : {r : Refusal} → order_refusal t b ≡ some r → refused r ≡ complete_of t b

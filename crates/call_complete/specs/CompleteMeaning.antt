@@ -1,11 +1,9 @@
--- What each case of the answer to the "complete" question is in the definitions.
-use Rattle.std.specs.Prelude.{Bool, true, false}
-use Rattle.calls.specs.Outcomes.{Answer, refused, accepted}
-use Rattle.call_answers.specs.AnswerMeaning.{refusal_of}
-use Rattle.call_complete.specs.declared.Completed as C
-use Rattle.call_complete.specs.declared.Completed.TheVariants as V₁
+-- What the result of the "complete" question is in the definitions.
+use Rattle.std.specs.Prelude.{Bool, Result}
+use Rattle.calls.specs.Outcomes.{Answer}
+use Rattle.call_answers.specs.declared.Refusal.{Refusal}
+use Rattle.call_answers.specs.AnswerMeaning.{answer_of}
 
-abbrev pub completed_of : C.Completed → Answer Bool
-completed_of V₁.Complete = accepted true
-completed_of V₁.Incomplete = accepted false
-completed_of (V₁.Refused r) = refused (refusal_of r)
+-- It says whether the sheet is complete.
+abbrev pub completed_of : Result Bool Refusal → Answer Bool
+completed_of = answer_of

@@ -7,7 +7,7 @@ ghost use Rattle.calls.specs.Calls.{import_of};
 ghost use Rattle.call_answers.specs.AnswerMeaning.{found_of, after_call};
 ghost use Rattle.call_import.specs.Sizes.{over_limits, Small};
 
-use call_answers::{Found, Refusal};
+use call_answers::Refusal;
 use common_limits::{CODE_LENGTH, HEAD_LENGTH, MOST_NODES, MOST_OPTIONS, MOST_RULES};
 use common_weight::MOST_WEIGHT;
 use import_clauses::Shape;
@@ -37,7 +37,7 @@ fn is_too_large(options: &[u8], clauses: usize, marks: usize) -> bool
 }
 
 // The book of a file that is not too large, where the output has room for it.
-fn put_file(text: &[u8], options: usize, judged: Judged, out: &mut [u8]) -> Found
+fn put_file(text: &[u8], options: usize, judged: Judged, out: &mut [u8]) -> Result<usize, Refusal>
     requires { Small text.now options judged }
     ensures { after_call (found_of result) out.new ≡ import_of text.now out.old }
 {
@@ -45,7 +45,7 @@ fn put_file(text: &[u8], options: usize, judged: Judged, out: &mut [u8]) -> Foun
     let nodes = rules + judged.marks;
     let long = HEAD_LENGTH + CODE_LENGTH * options + 4 * rules + 2 * nodes;
     if out.len() < long {
-        return Found::Refused(Refusal::Output);
+        return Err(Refusal::Output);
     }
     let shape = Shape {
         body: judged.body,
@@ -54,19 +54,19 @@ fn put_file(text: &[u8], options: usize, judged: Judged, out: &mut [u8]) -> Foun
         nodes,
     };
     import_clauses::put_book(text, shape, out);
-    Found::Value(long)
+    Ok(long)
 }
 
 // The import: the length of the book, which stands at the start of the output; the output's rest stays.
-pub fn import(text: &[u8], out: &mut [u8]) -> Found
+pub fn import(text: &[u8], out: &mut [u8]) -> Result<usize, Refusal>
     ensures { after_call (found_of result) out.new ≡ import_of text.now out.old }
 {
     let Some(judged) = import_judge::judge(text) else {
-        return Found::Refused(Refusal::Text);
+        return Err(Refusal::Text);
     };
     let digits = &text[judged.options..judged.space];
     if is_too_large(digits, judged.clauses, judged.marks) {
-        return Found::Refused(Refusal::Size);
+        return Err(Refusal::Size);
     }
     let options = import_numbers::small_number(digits);
     put_file(text, options, judged, out)

@@ -9,7 +9,7 @@ ghost use Rattle.calls.specs.Chains.{is_early, early, index_refusal};
 ghost use Rattle.calls.specs.Calls.{fill_of};
 ghost use Rattle.call_answers.specs.AnswerMeaning.{refusal_of, due_of, done_of, after_call};
 
-use call_answers::{Done, Refusal};
+use call_answers::Refusal;
 
 // Whether a refusal comes before the 11 of an index: a book's, 1 to 6, and every other 11.
 fn is_early(r: Refusal) -> bool
@@ -20,17 +20,17 @@ fn is_early(r: Refusal) -> bool
 }
 
 // Whether such a refusal is due.
-fn refuses_early(own: Done) -> bool
+fn refuses_early(own: Result<(), Refusal>) -> bool
     ensures { result ≡ is_some (early (due_of own)) }
 {
     match own {
-        Done::Accepted => false,
-        Done::Refused(r) => is_early(r),
+        Ok(()) => false,
+        Err(r) => is_early(r),
     }
 }
 
 // What a call with an index is refused for, by what it is refused for without one. Nothing is read of a sheet that is none.
-pub fn refuse(sheet: &[u16], index: &[u16], own: Done) -> Done
+pub fn refuse(sheet: &[u16], index: &[u16], own: Result<(), Refusal>) -> Result<(), Refusal>
     requires { early (due_of own) ≡ none → is_sheet sheet.now ≡ true }
     ensures { due_of result ≡ index_refusal sheet.now index.now (due_of own) }
 {
@@ -38,28 +38,26 @@ pub fn refuse(sheet: &[u16], index: &[u16], own: Done) -> Done
         return own;
     }
     if sheet_index::is_stale(sheet, index) {
-        return Done::Refused(Refusal::Sheet);
+        return Err(Refusal::Sheet);
     }
-    let Done::Accepted = own else {
-        return own;
-    };
+    own?;
     if sheet_index::is_short(sheet, index) {
-        Done::Refused(Refusal::Output)
+        Err(Refusal::Output)
     } else {
-        Done::Accepted
+        Ok(())
     }
 }
 
 // The index of any sheet, whatever it held.
-pub fn fill(sheet: &[u16], index: &mut [u16]) -> Done
+pub fn fill(sheet: &[u16], index: &mut [u16]) -> Result<(), Refusal>
     ensures { after_call (done_of result) index.new ≡ fill_of sheet.now index.old }
 {
     if !sheet_check::is_sheet(sheet) {
-        return Done::Refused(Refusal::Sheet);
+        return Err(Refusal::Sheet);
     }
     if sheet_index::is_short(sheet, index) {
-        return Done::Refused(Refusal::Output);
+        return Err(Refusal::Output);
     }
     sheet_index::fill(sheet, index);
-    Done::Accepted
+    Ok(())
 }

@@ -9,52 +9,55 @@ ghost use Rattle.call_answers.specs.AnswerMeaning.{done_of, due_of, after_call, 
 ghost use Rattle.order_lines.specs.LineMeaning.{order};
 ghost use Rattle.call_keying.specs.Marks.{mark_refusal};
 
-use call_answers::{Done, Refusal};
+use call_answers::Refusal;
 use common_weight::{LITERAL_WEIGHT, MOST_WEIGHT};
 use order_lines::{Line, MOST_LINES, SLOTS};
 
 // Why no mark can be put, where the sheet and the lines are good.
-fn refuse_mark(sheet: &[u16], count: u16, option: u64) -> Done
+fn refuse_mark(sheet: &[u16], count: u16, option: u64) -> Result<(), Refusal>
     requires { is_sheet sheet.now ≡ true }
     ensures { due_of result ≡ mark_refusal sheet.now count option }
 {
     if count == MOST_LINES {
-        return Done::Refused(Refusal::List);
+        return Err(Refusal::List);
     }
-    if common_nodes::wide16(sheet[0]) as u64 <= option {
-        return Done::Refused(Refusal::Unknown);
+    if u64::from(sheet[0]) <= option {
+        return Err(Refusal::Unknown);
     }
     let weight = common_weight::weigh_sheet(sheet);
     if MOST_WEIGHT < common_weight::add_weights(weight, LITERAL_WEIGHT) {
-        return Done::Refused(Refusal::Full);
+        return Err(Refusal::Full);
     }
-    Done::Accepted
+    Ok(())
 }
 
 // Why a keying is refused, apart from its index. Nothing is written yet.
-fn refuse(sheet: &[u16], lines: [Line; SLOTS], count: u16, option: u64) -> Done
+fn refuse(sheet: &[u16], lines: [Line; SLOTS], count: u16, option: u64) -> Result<(), Refusal>
     ensures { due_of result ≡ key_refusal (order sheet.now lines count) option }
 {
     if !sheet_check::is_sheet(sheet) {
-        return Done::Refused(Refusal::Sheet);
+        return Err(Refusal::Sheet);
     }
     if !order_check::are_in_order(lines, count, sheet[0]) {
-        return Done::Refused(Refusal::Sheet);
+        return Err(Refusal::Sheet);
     }
     refuse_mark(sheet, count, option)
 }
 
 // A keying beside any lines, of which a copy is given: what it answers, and what it leaves of the sheet.
-pub fn key(sheet: &mut [u16], lines: [Line; SLOTS], count: u16, option: u64, negative: bool) -> Done
+pub fn key(
+    sheet: &mut [u16],
+    lines: [Line; SLOTS],
+    count: u16,
+    option: u64,
+    negative: bool,
+) -> Result<(), Refusal>
     ensures { after_call (done_of result) sheet.new
         ≡ on_sheet (key_of (order sheet.old lines count) option negative) }
 {
-    let refused = refuse(sheet, lines, count, option);
-    let Done::Accepted = refused else {
-        return refused;
-    };
+    refuse(sheet, lines, count, option)?;
     sheet_append::append(sheet, option as u16, negative);
-    Done::Accepted
+    Ok(())
 }
 
 // A keying with an index beside the sheet. The mark that it appends comes after all others, so of the index only its option's entry
@@ -66,16 +69,13 @@ pub fn key_with(
     index: &mut [u16],
     option: u64,
     negative: bool,
-) -> Done
+) -> Result<(), Refusal>
     ensures { after_call (done_of result) (beside_index sheet.new index.new)
         ≡ on_indexed_sheet (key_with (order sheet.old lines count) index.old option negative) }
 {
     let own = refuse(sheet, lines, count, option);
-    let refused = call_index::refuse(sheet, index, own);
-    let Done::Accepted = refused else {
-        return refused;
-    };
+    call_index::refuse(sheet, index, own)?;
     sheet_index::mention_last(index, option as usize, sheet[1]);
     sheet_append::append(sheet, option as u16, negative);
-    Done::Accepted
+    Ok(())
 }

@@ -13,9 +13,6 @@ use Rattle.calls.specs.Refusals.{Refusal, sheet_refused}
 use Rattle.calls.specs.Lines.{State}
 use Rattle.calls.specs.Conditions.{has_lines_in_order}
 use Rattle.calls.specs.Chains.{book_refusal, order_refusal}
-use Rattle.call_answers.specs.declared.Done.{Done}
-use Rattle.call_answers.specs.declared.Done.TheVariants.{Accepted, Refused}
-use Rattle.call_answers.specs.AnswerMeaning.{due_of}
 
 module _ (t : State) (b : List ℕ) where
   pub no_sheet : is_sheet t.sheet ≡ false → some sheet_refused ≡ order_refusal t b
@@ -23,13 +20,9 @@ module _ (t : State) (b : List ℕ) where
   no_sheet h = rw h
 
   module _ (sheet : is_sheet t.sheet ≡ true) where
-    no_book : {r : Refusal} → book_refusal b ≡ some r → some r ≡ order_refusal t b
+    pub not_accepted : {r : Refusal} → book_refusal b ≡ some r → some r ≡ order_refusal t b
     unfolding order_refusal first_of only_if
-    no_book e = rw (sheet, e)
-
-    pub not_accepted : (d : Done) → (d ≡ Accepted → ⊥) → due_of d ≡ book_refusal b → due_of d ≡ order_refusal t b
-    not_accepted Accepted h e = absurd (h refl)
-    not_accepted (Refused r) h e = no_book (sym e)
+    not_accepted e = rw (sheet, e)
 
     module _ (book : book_refusal b ≡ none) where
       pub other_options : (options_of b ≡ options_in t.sheet → ⊥) → some sheet_refused ≡ order_refusal t b

@@ -6,25 +6,22 @@ ghost use Rattle.calls.specs.Chains.{order_refusal};
 ghost use Rattle.call_answers.specs.AnswerMeaning.{due_of};
 ghost use Rattle.order_lines.specs.LineMeaning.{order};
 
-use call_answers::{Done, Refusal};
+use call_answers::Refusal;
 use order_lines::{Line, SLOTS};
 
 // The sheet is tested first, then the book, then that both have the same options, then the lines.
-pub fn refuse(sheet: &[u16], book: &[u8], lines: [Line; SLOTS], count: u16) -> Done
+pub fn refuse(sheet: &[u16], book: &[u8], lines: [Line; SLOTS], count: u16) -> Result<(), Refusal>
     ensures { due_of result ≡ order_refusal (order sheet.now lines count) book.now }
 {
     if !sheet_check::is_sheet(sheet) {
-        return Done::Refused(Refusal::Sheet);
+        return Err(Refusal::Sheet);
     }
-    let checked = call_books::check(book);
-    let Done::Accepted = checked else {
-        return checked;
-    };
-    if common_nodes::word_at(book, 0) != common_nodes::wide16(sheet[0]) {
-        return Done::Refused(Refusal::Sheet);
+    call_books::check(book)?;
+    if common_nodes::word_at(book, 0) != usize::from(sheet[0]) {
+        return Err(Refusal::Sheet);
     }
     if !order_check::are_in_order(lines, count, sheet[0]) {
-        return Done::Refused(Refusal::Sheet);
+        return Err(Refusal::Sheet);
     }
-    Done::Accepted
+    Ok(())
 }

@@ -10,33 +10,36 @@ ghost use Rattle.call_answers.specs.AnswerMeaning.{done_of, due_of, after_call, 
 ghost use Rattle.order_lines.specs.LineMeaning.{order};
 ghost use Rattle.call_withdrawal.specs.LastTests.{line_refusal};
 
-use call_answers::{Done, Refusal};
+use call_answers::Refusal;
 use common_weight::{LITERAL_WEIGHT, MOST_WEIGHT};
 use order_lines::{Line, SLOTS};
 
 // Why line k cannot be taken back, where the book is accepted and the lines are in order.
-fn refuse_line(book: &[u8], count: u16, k: u64) -> Done
+fn refuse_line(book: &[u8], count: u16, k: u64) -> Result<(), Refusal>
     requires { Accepted book.now × (count ≤ most_lines) }
     ensures { due_of result ≡ line_refusal book.now count k }
 {
-    if count as u64 <= k {
-        return Done::Refused(Refusal::Line);
+    if u64::from(count) <= k {
+        return Err(Refusal::Line);
     }
     let weight = common_weight::weigh_book(book);
     if MOST_WEIGHT < common_weight::add_weights(weight, LITERAL_WEIGHT * (count - 1)) {
-        return Done::Refused(Refusal::Full);
+        return Err(Refusal::Full);
     }
-    Done::Accepted
+    Ok(())
 }
 
 // Why a withdrawal is refused, apart from its index. Nothing is written yet.
-fn refuse(sheet: &[u16], book: &[u8], lines: [Line; SLOTS], count: u16, k: u64) -> Done
+fn refuse(
+    sheet: &[u16],
+    book: &[u8],
+    lines: [Line; SLOTS],
+    count: u16,
+    k: u64,
+) -> Result<(), Refusal>
     ensures { due_of result ≡ withdraw_refusal (order sheet.now lines count) book.now k }
 {
-    let lent = call_orders::refuse(sheet, book, lines, count);
-    let Done::Accepted = lent else {
-        return lent;
-    };
+    call_orders::refuse(sheet, book, lines, count)?;
     refuse_line(book, count, k)
 }
 
@@ -49,18 +52,15 @@ pub fn withdraw(
     count: u16,
     index: &mut [u16],
     k: u64,
-) -> Done
+) -> Result<(), Refusal>
     ensures { after_call (done_of result) (beside_index sheet.new index.new)
         ≡ on_indexed_sheet
         (withdraw_with (order sheet.old lines count) book.now index.old k) }
 {
     let own = refuse(sheet, book, lines, count, k);
-    let refused = call_index::refuse(sheet, index, own);
-    let Done::Accepted = refused else {
-        return refused;
-    };
+    call_index::refuse(sheet, index, own)?;
     book_load::fill_sheet(book, sheet);
-    order_marks::put_standing(sheet, lines, common_nodes::wide16(count), k as usize);
+    order_marks::put_standing(sheet, lines, usize::from(count), k as usize);
     sheet_index::fill(sheet, index);
-    Done::Accepted
+    Ok(())
 }

@@ -114,7 +114,7 @@ module _ (book l s : List ℕ) (ls : List Line) (c : ℕ) where
     unfolding line_keyed with_option key_found pick
     line_unknown e = rw (keyed_is, ne_eqb c most_lines free, e)
 
-    pub line_key :
+    line_key :
         {v : ℕ} {a : Answer (Unit {0})} {u : List ℕ} →
         asked book l ≡ accepted v →
         after_call a u ≡ on_sheet (key_of (order s ls c) v (negative_of l)) →
@@ -123,14 +123,21 @@ module _ (book l s : List ℕ) (ls : List Line) (c : ℕ) where
     line_key {v} e k =
         rw (keyed_is, ne_eqb c most_lines free, e) (ap (λ o. record { answer = with_option (accepted v) o.answer; lent = o.lent }) k)
 
-    pub key_taken :
-        {v : ℕ} {a : Answer (Unit {0})} {u : List ℕ} →
+    pub key_refused :
+        {v : ℕ} {r : Refusal} {u : List ℕ} →
         asked book l ≡ accepted v →
-        a ≡ accepted tt →
-        after_call a u ≡ on_sheet (key_of (order s ls c) v (negative_of l)) →
+        after_call (refused r) u ≡ on_sheet (key_of (order s ls c) v (negative_of l)) →
+        after_call (refused r) u ≡ line_keyed book l (order s ls c)
+    unfolding with_option
+    key_refused e k = line_key e k
+
+    pub key_taken :
+        {v : ℕ} {u : List ℕ} →
+        asked book l ≡ accepted v →
+        after_call (accepted tt) u ≡ on_sheet (key_of (order s ls c) v (negative_of l)) →
         after_call (accepted v) u ≡ line_keyed book l (order s ls c)
     unfolding with_option
-    key_taken e f k = line_key e (rw f at k)
+    key_taken e k = line_key e k
 
   -- What such an answer says of the whole state: a refusal leaves its sheet, an option that was keyed is the last line.
   pub line_stopped :

@@ -1,4 +1,4 @@
--- Where the first line of the input ends; the option that a line asks for; answers with a number and without it.
+-- Where the first line of the input ends; the option that a line asks for; the answer of a line that is keyed.
 use Rattle.std.specs.Prelude.{◌||◌, List, [], ◌∷◌, ℕ, suc, eqb}
 use Rattle.model.specs.Base.{pick}
 use Rattle.calls.specs.Refusals.{option_refused}
@@ -26,7 +26,3 @@ with_option a (accepted u) = a
 unfoldable pub line_keyed : List ℕ → List ℕ → State → Outcome (List ℕ) ℕ
 line_keyed book l t =
     record { answer = with_option (asked book l) (keyed book l t).answer; lent = (keyed book l t).lent.sheet }
-
-unfoldable pub dropped : Answer ℕ → Answer (Unit {0})
-dropped (refused r) = refused r
-dropped (accepted v) = accepted tt

@@ -11,20 +11,18 @@ ghost use Rattle.call_answers.specs.AnswerMeaning.{done_of};
 ghost use Rattle.common_decimal.specs.Placed.{after, filled};
 ghost use Rattle.desk_session.specs.Session.{told_lines, ran_lines, session_of};
 
-use call_answers::Done;
-use call_report::Reported;
-use call_run::Ran;
+use call_answers::Refusal;
 use common_limits::SHEET_LENGTH;
 
 // The bytes of the desk's screen, which a report is written to, whatever the number of options.
 const SCREEN_LENGTH: usize = 512;
 
 // The line of a refusal, of an answer that is one.
-fn put_refused(answer: Done, out: &mut [u8]) -> usize
+fn put_refused(answer: Result<(), Refusal>, out: &mut [u8]) -> usize
     requires { 16384 ≤ length out.old }
     ensures { after result out.new ≡ filled (printed (done_of answer) (λ u. [])) out.old }
 {
-    let Done::Refused(r) = answer else {
+    let Err(r) = answer else {
         return 0;
     };
     desk_printing::put_refusal(r, out)
@@ -59,11 +57,10 @@ fn put_told(book: &[u8], sheet: &[u16], settled: bool, count: u64, out: &mut [u8
         out.old }
 {
     let mut screen = [0u8; SCREEN_LENGTH];
-    let told = call_report::report(sheet, &mut screen);
-    match told {
-        Reported::Consistent => put_lines(book, &screen, settled, count, out),
-        Reported::Contradictory => desk_printing::put_first(true, settled, count, out),
-        Reported::Refused(r) => desk_printing::put_refusal(r, out),
+    match call_report::report(sheet, &mut screen) {
+        Ok(false) => put_lines(book, &screen, settled, count, out),
+        Ok(true) => desk_printing::put_first(true, settled, count, out),
+        Err(r) => desk_printing::put_refusal(r, out),
     }
 }
 
@@ -74,11 +71,9 @@ fn put_ran(book: &[u8], sheet: &mut [u16], out: &mut [u8]) -> usize
     ensures { after result out.new
         ≡ filled (ran_lines book.now (run_of sheet.old desk_budget)) out.old }
 {
-    let ran = call_run::run(sheet, 100000);
-    match ran {
-        Ran::Settled(count) => put_told(book, sheet, true, count, out),
-        Ran::Stopped(count) => put_told(book, sheet, false, count, out),
-        Ran::Refused(r) => desk_printing::put_refusal(r, out),
+    match call_run::run(sheet, 100000) {
+        Ok(end) => put_told(book, sheet, end.settled, end.count, out),
+        Err(r) => desk_printing::put_refusal(r, out),
     }
 }
 
@@ -91,11 +86,11 @@ pub fn session(book: &[u8], input: &[u8], out: &mut [u8]) -> usize
     }
     let mut sheet = [0u16; SHEET_LENGTH];
     let loaded = call_transfer::load(book, &mut sheet);
-    let Done::Accepted = loaded else {
+    let Ok(()) = loaded else {
         return put_refused(loaded, out);
     };
     let keyed = desk_keying::key_lines(book, input, &mut sheet);
-    let Done::Accepted = keyed else {
+    let Ok(()) = keyed else {
         return put_refused(keyed, out);
     };
     put_ran(book, &mut sheet, out)

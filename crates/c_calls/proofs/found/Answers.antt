@@ -6,10 +6,10 @@ use Rattle.c_calls.specs.Packed.{packed_value}
 use Rattle.c_calls.proofs.found.Goals as goal
 
 pub overflow_mul-result : goal.overflow_mul-result
-overflow_mul-result c = omega (arith, c.requires _ (ap found_of (sym c.in-Value.is)))
+overflow_mul-result c = omega (arith, c.requires _ (ap found_of (sym c.in-Ok.is)))
 
-pub returns-in-Refused : goal.returns-in-Refused
-returns-in-Refused c = c.refused.ensures ∙ ap (λ a. packed_value (found_of a)) (sym c.in-Refused.is)
+pub returns-in-Err : goal.returns-in-Err
+returns-in-Err c = c.refused.ensures ∙ ap (λ a. packed_value (found_of a)) (sym c.in-Err.is)
 
-pub returns-in-Value : goal.returns-in-Value
-returns-in-Value c = ap (λ a. packed_value (found_of a)) (sym c.in-Value.is)
+pub returns-in-Ok : goal.returns-in-Ok
+returns-in-Ok c = ap (λ a. packed_value (found_of a)) (sym c.in-Ok.is)

@@ -1,6 +1,7 @@
 -- `call_index::refuse` meets its contract: an early refusal, a stale index, any other refusal, a short index; and else none.
 use mathlib.Core.Path.{sym, ap, ◌∙◌}
 use Rattle.call_answers.specs.AnswerMeaning.{due_of}
+use Rattle.call_answers.proofs.AnswersTold.{handed_on}
 use Rattle.call_index.proofs.IndexAnswers.{not_early, refused_early, refused_stale, refused_late, refused_short, accepted_with}
 use Rattle.call_index.proofs.refuse.Goals as goal
 
@@ -15,10 +16,12 @@ returns-then-is_stale c =
     let late = not_early _ (sym c.refuses_early.ensures ∙ c.if-refuses_early.false) in
     refused_stale _ _ _ late (sym c.is_stale.ensures ∙ c.if-is_stale.true)
 
-pub returns-in_default : goal.returns-in_default
-returns-in_default c =
+pub returns-in_err-own : goal.returns-in_err-own
+returns-in_err-own c =
     let late = not_early _ (sym c.refuses_early.ensures ∙ c.if-refuses_early.false) in
-    refused_late _ _ _ late (sym c.is_stale.ensures ∙ c.if-is_stale.false) (ap due_of c.in_default.is)
+    let was = c.in_err-own.was in
+    ap due_of (handed_on c.from_residual.ensures.1 ∙ sym was)
+    ∙ refused_late _ _ _ late (sym c.is_stale.ensures ∙ c.if-is_stale.false) (ap due_of was)
 
 pub is_short-requires : goal.is_short-requires
 is_short-requires c = c.requires (not_early _ (sym c.refuses_early.ensures ∙ c.if-refuses_early.false))
@@ -27,10 +30,10 @@ pub returns-then-is_short : goal.returns-then-is_short
 returns-then-is_short c =
     let late = not_early _ (sym c.refuses_early.ensures ∙ c.if-refuses_early.false) in
     let fresh = sym c.is_stale.ensures ∙ c.if-is_stale.false in
-    refused_short _ _ _ late fresh (ap due_of c.in-Accepted.is) (sym c.is_short.ensures ∙ c.if-is_short.true)
+    refused_short _ _ _ late fresh (ap due_of c.in_ok-own.was) (sym c.is_short.ensures ∙ c.if-is_short.true)
 
 pub returns-else-is_short : goal.returns-else-is_short
 returns-else-is_short c =
     let late = not_early _ (sym c.refuses_early.ensures ∙ c.if-refuses_early.false) in
     let fresh = sym c.is_stale.ensures ∙ c.if-is_stale.false in
-    accepted_with _ _ _ late fresh (ap due_of c.in-Accepted.is) (sym c.is_short.ensures ∙ c.if-is_short.false)
+    accepted_with _ _ _ late fresh (ap due_of c.in_ok-own.was) (sym c.is_short.ensures ∙ c.if-is_short.false)

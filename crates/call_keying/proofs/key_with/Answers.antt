@@ -9,48 +9,49 @@ use Rattle.theory_forms.specs.Sheets.{sheet_formed, sheet_options}
 use Rattle.theory_index.specs.Entries.{mentioned_last}
 use Rattle.call_answers.specs.AnswerMeaning.{done_of, due_of, after_call, beside_index}
 use Rattle.order_lines.specs.LineMeaning.{order}
+use Rattle.call_answers.proofs.AnswersTold.{handed_on}
 use Rattle.call_keying.proofs.KeyingAnswers.{sheet_tested, sheet_first, place_read, refused_with_index, keyed_with_index, Countable, countable}
 use Rattle.call_keying.proofs.key_with.Goals as goal
-use Rattle.call_keying.proofs.key_with.Goals.{In-Accepted}
+use Rattle.call_keying.proofs.key_with.Goals.{In_ok-refuse}
 
 -- By both tests nothing is due with the index.
-module _ (c : goal.In-Accepted) where
+module _ (c : goal.In_ok-refuse) where
   none_due :
       let a = c.args in
       index_refusal a.sheet.now a.index.now (key_refusal (order a.sheet.now a.lines a.count) a.option) ≡ none
   none_due =
       let a = c.args in
-      sym (c.refuse-refused.ensures ∙ ap (index_refusal a.sheet.now a.index.now) c.refuse-own.ensures) ∙ ap due_of c.in-Accepted.is
+      sym (c.in_ok-refuse.ensures ∙ ap (index_refusal a.sheet.now a.index.now) c.refuse-own.ensures)
 
   may : let a = c.args in Countable (order a.sheet.now a.lines a.count) a.index.now a.option
   may = countable _ _ _ none_due
 
-pub refuse-refused-requires : goal.refuse-refused-requires
-refuse-refused-requires c =
+pub refuse-requires : goal.refuse-requires
+refuse-requires c =
     let a = c.args in
     λ e. sheet_tested (order a.sheet.now a.lines a.count) a.option (ap early (sym c.refuse-own.ensures) ∙ e)
 
-pub returns-in_default : goal.returns-in_default
-returns-in_default c =
+pub returns-in_err-refuse : goal.returns-in_err-refuse
+returns-in_err-refuse c =
     let a = c.args in
-    let tested = c.refuse-refused.ensures ∙ ap (index_refusal a.sheet.now a.index.now) c.refuse-own.ensures in
-    rw (ap done_of c.in_default.is)
-    (refused_with_index (order a.sheet.now a.lines a.count) a.index.now a.option a.negative (sym tested ∙ ap due_of c.in_default.is))
+    let tested = c.in_err-refuse.ensures ∙ ap (index_refusal a.sheet.now a.index.now) c.refuse-own.ensures in
+    rw (handed_on c.from_residual.ensures.1)
+    (refused_with_index (order a.sheet.now a.lines a.count) a.index.now a.option a.negative (sym tested))
 
 pub bounds-sheet-1 : goal.bounds-sheet-1
-bounds-sheet-1 c = let f = sheet_first _ (may (goal.at.bounds-sheet-1 c).In-Accepted).key.sheet in omega arith
+bounds-sheet-1 c = let f = sheet_first _ (may (goal.at.bounds-sheet-1 c).In_ok-refuse).key.sheet in omega arith
 
 pub mention_last-requires : goal.mention_last-requires
-mention_last-requires c = (may (goal.at.mention_last-requires c).In-Accepted).entry
+mention_last-requires c = (may (goal.at.mention_last-requires c).In_ok-refuse).entry
 
 pub overflow_cast-option : goal.overflow_cast-option
 overflow_cast-option c =
-    let w = (may (goal.at.overflow_cast-option c).In-Accepted).key in
+    let w = (may (goal.at.overflow_cast-option c).In_ok-refuse).key in
     record { fits = omega (arith, w.known, sheet_options _ w.sheet) }
 
 pub append-requires : goal.append-requires
 append-requires c =
-    let w = (may (goal.at.append-requires c).In-Accepted).key in
+    let w = (may (goal.at.append-requires c).In_ok-refuse).key in
     record { formed = sheet_formed _ w.sheet; option_bound = (w.known, w.room) }
 
 -- In the index the mark is counted with the place after the last node.
@@ -59,4 +60,4 @@ returns c =
     let a = c.args in
     let counted = c.mention_last.ensures ∙ ap (λ place. mentioned_last a.option place a.index.now) (place_read a.sheet.now) in
     ap₂ (λ s i. after_call (accepted tt) (beside_index s i)) c.append.ensures counted
-    ∙ keyed_with_index (order a.sheet.now a.lines a.count) a.index.now a.option a.negative (none_due (goal.at.returns c).In-Accepted)
+    ∙ keyed_with_index (order a.sheet.now a.lines a.count) a.index.now a.option a.negative (none_due (goal.at.returns c).In_ok-refuse)

@@ -16,7 +16,7 @@ use Rattle.calls.specs.Calls.{report_of}
 use Rattle.call_answers.specs.AnswerMeaning.{after_call}
 use Rattle.theory_forms.specs.Sheets.{sheet_formed}
 use Rattle.call_report.proofs.report.Goals as goal
-use Rattle.call_report.proofs.report.Goals.{After-put_report, Else-not-is_sheet}
+use Rattle.call_report.proofs.report.Goals.{Else-not-is_sheet}
 
 -- What is answered, by the tests.
 module _ (s out : List ℕ) where
@@ -48,40 +48,29 @@ options_read s e = e
 sheet : (c : goal.Else-not-is_sheet) → is_sheet c.args.sheet.now ≡ true
 sheet c = sym c.is_sheet.ensures ∙ c.if-not-is_sheet.false
 
--- After the report: its result, and its marks at the start of the output.
-done_here :
-    (c : goal.After-put_report) {b : Bool} →
-    let a = c.args in
-    c.put_report.result ≡ b →
-    after_call (accepted b) (c.put_report.new.out ++ drop c.wide16-n.result a.out.now) ≡ report_of a.sheet.now a.out.now
-done_here c e =
-    let a = c.args in
-    let is = sym c.is_sheet.ensures ∙ c.if-not-is_sheet.false in
-    let options = options_read a.sheet.now c.wide16-n.ensures.0 in
-    let call = c.put_report in
-    let long : length call.new.out ≡ c.wide16-n.result = call.auto.out ∙ length-take-le _ a.out.now c.if-room-n.false in
-    done _ _ is (omega arith) long (sym e ∙ call.ensures.0) call.ensures.1
-
 pub returns-then-not-is_sheet : goal.returns-then-not-is_sheet
 returns-then-not-is_sheet c = no_sheet _ _ (sym c.is_sheet.ensures ∙ c.if-not-is_sheet.true)
 
 pub bounds-sheet-0 : goal.bounds-sheet-0
 bounds-sheet-0 c = let k = sheet_formed _ (sheet (goal.at.bounds-sheet-0 c).Else-not-is_sheet) in omega arith
 
-pub returns-then-room-n : goal.returns-then-room-n
-returns-then-room-n c =
-    let k = sheet (goal.at.returns-then-room-n c).Else-not-is_sheet in
-    let options = options_read c.args.sheet.now c.wide16-n.ensures.0 in
+pub returns-then-out-n : goal.returns-then-out-n
+returns-then-out-n c =
+    let k = sheet (goal.at.returns-then-out-n c).Else-not-is_sheet in
+    let options = options_read c.args.sheet.now c.from-n.ensures in
     no_room _ _ k (omega arith)
 
 pub put_report-requires : goal.put_report-requires
 put_report-requires c =
     let k = sheet (goal.at.put_report-requires c).Else-not-is_sheet in
-    let options = options_read c.args.sheet.now c.wide16-n.ensures.0 in
-    (sheet_formed _ k, length-take-le _ c.args.out.now c.if-room-n.false ∙ options)
+    let options = options_read c.args.sheet.now c.from-n.ensures in
+    (sheet_formed _ k, length-take-le _ c.args.out.now c.if-out-n.false ∙ options)
 
-pub returns-then-put_report : goal.returns-then-put_report
-returns-then-put_report c = done_here (goal.at.returns-then-put_report c).After-put_report c.if-put_report.true
-
-pub returns-else-put_report : goal.returns-else-put_report
-returns-else-put_report c = done_here (goal.at.returns-else-put_report c).After-put_report c.if-put_report.false
+-- The report's result, and its marks at the start of the output.
+pub returns : goal.returns
+returns c =
+    let a = c.args in
+    let options = options_read a.sheet.now c.from-n.ensures in
+    let call = c.put_report in
+    let long : length call.new.out ≡ c.from-n.result = call.auto.out ∙ length-take-le _ a.out.now c.if-out-n.false in
+    done _ _ (sheet (goal.at.returns c).Else-not-is_sheet) (omega arith) long call.ensures.0 call.ensures.1

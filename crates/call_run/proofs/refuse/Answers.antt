@@ -3,8 +3,8 @@ use mathlib.Core.Path.{sym, ◌∙◌}
 use Rattle.call_run.proofs.RunAnswers.{no_sheet, none_refused}
 use Rattle.call_run.proofs.refuse.Goals as goal
 
-pub returns-then-not-is_sheet : goal.returns-then-not-is_sheet
-returns-then-not-is_sheet c = no_sheet _ (sym c.is_sheet.ensures ∙ c.if-not-is_sheet.true)
+pub returns-else-is_sheet : goal.returns-else-is_sheet
+returns-else-is_sheet c = no_sheet _ (sym c.is_sheet.ensures ∙ c.if-is_sheet.false)
 
-pub returns : goal.returns
-returns c = none_refused _ (sym c.is_sheet.ensures ∙ c.if-not-is_sheet.false)
+pub returns-then-is_sheet : goal.returns-then-is_sheet
+returns-then-is_sheet c = none_refused _ (sym c.is_sheet.ensures ∙ c.if-is_sheet.true)

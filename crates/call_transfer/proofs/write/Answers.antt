@@ -15,20 +15,20 @@ use Rattle.theory_forms.specs.Sheets.{sheet_formed}
 use Rattle.book_load.proofs.Loaded.{head_of}
 use Rattle.book_write.proofs.Written.{length_written}
 use Rattle.call_laws.specs.Books.{check_none, check_some}
+use Rattle.call_answers.proofs.AnswersTold.{handed_on}
 use Rattle.call_transfer.proofs.TransferAnswers.{write_none, write_refused, write_other, write_short, write_done}
 use Rattle.call_transfer.proofs.write.Goals as goal
-use Rattle.call_transfer.proofs.write.Goals.{Else-not-is_sheet, Else-word_at-options_in, In_default}
+use Rattle.call_transfer.proofs.write.Goals.{Else-not-is_sheet, Else-word_at-options_in, In_ok-check}
 
 -- What is known where a test was passed: the sheet is one, the book is accepted, and both have as many options.
 sheet_here : (c : goal.Else-not-is_sheet) → is_sheet c.args.sheet.now ≡ true
 sheet_here c = let call = c.is_sheet in sym call.ensures ∙ c.if-not-is_sheet.false
 
 accepted_here :
-    (c : goal.In_default) →
+    (c : goal.In_ok-check) →
     book_refusal c.args.book.now ≡ none
 accepted_here c =
-    check_none c.args.book.now
-    (sym (ap done_of c.in_default.is) ∙ c.check-checked.ensures)
+    check_none c.args.book.now c.in_ok-check.ensures
 
 same_here :
     (c : goal.Else-word_at-options_in) →
@@ -45,7 +45,7 @@ length_here :
 length_here c =
     let a = c.args in
     length_written a.sheet.now a.book.now (sheet_formed _ (sym c.is_sheet.ensures ∙ c.if-not-is_sheet.false))
-    (accepted_book _ (check_none a.book.now (sym (ap done_of c.in_default.is) ∙ c.check-checked.ensures)))
+    (accepted_book _ (check_none a.book.now c.in_ok-check.ensures))
     (same_here c)
 
 pub returns-then-not-is_sheet : goal.returns-then-not-is_sheet
@@ -54,15 +54,15 @@ returns-then-not-is_sheet c =
     let call = c.is_sheet in
     write_none a.sheet.now a.book.now a.out.now (sym call.ensures ∙ c.if-not-is_sheet.true)
 
-pub returns-in-Refused : goal.returns-in-Refused
-returns-in-Refused c =
+pub returns-in_err-check : goal.returns-in_err-check
+returns-in_err-check c =
     let a = c.args in
-    let told = ap done_of c.in-Refused.is in
-    write_refused a.sheet.now a.book.now a.out.now (sheet_here (goal.at.returns-in-Refused c).Else-not-is_sheet)
-    (check_some a.book.now _ (sym told ∙ c.check-checked.ensures))
+    rw (handed_on c.from_residual.ensures.1)
+    (write_refused a.sheet.now a.book.now a.out.now (sheet_here (goal.at.returns-in_err-check c).Else-not-is_sheet)
+    (check_some a.book.now _ c.in_err-check.ensures))
 
 pub word_at-requires : goal.word_at-requires
-word_at-requires c = let accepted = accepted_book _ (accepted_here (goal.at.word_at-requires c).In_default) in omega (arith, head_of _ accepted)
+word_at-requires c = let accepted = accepted_book _ (accepted_here (goal.at.word_at-requires c).In_ok-check) in omega (arith, head_of _ accepted)
 
 pub options_in-requires : goal.options_in-requires
 options_in-requires c = sheet_formed _ (sheet_here (goal.at.options_in-requires c).Else-not-is_sheet)
@@ -72,7 +72,7 @@ unfolding options_of
 returns-then-word_at-options_in c =
     let a = c.args in
     let at = goal.at.returns-then-word_at-options_in c in
-    write_other a.sheet.now a.book.now a.out.now (sheet_here at.Else-not-is_sheet) (accepted_here at.In_default)
+    write_other a.sheet.now a.book.now a.out.now (sheet_here at.Else-not-is_sheet) (accepted_here at.In_ok-check)
     (λ e. c.if-word_at-options_in.true (c.word_at.ensures ∙ e ∙ sym c.options_in.ensures.0))
 
 pub written_length-due-requires : goal.written_length-due-requires
@@ -83,7 +83,7 @@ returns-then-out-due c =
     let a = c.args in
     let at = goal.at.returns-then-out-due c in
     let long = length_here at.Else-word_at-options_in in
-    write_short a.sheet.now a.book.now a.out.now (sheet_here at.Else-not-is_sheet) (accepted_here at.In_default)
+    write_short a.sheet.now a.book.now a.out.now (sheet_here at.Else-not-is_sheet) (accepted_here at.In_ok-check)
     (same_here at.Else-word_at-options_in) (omega arith)
 
 pub put_book-requires : goal.put_book-requires
@@ -92,7 +92,7 @@ put_book-requires c =
     let long = length_here at.Else-word_at-options_in in
     record {
       formed = sheet_formed _ (sheet_here at.Else-not-is_sheet);
-      accepted = (accepted_book _ (accepted_here at.In_default), same_here at.Else-word_at-options_in);
+      accepted = (accepted_book _ (accepted_here at.In_ok-check), same_here at.Else-word_at-options_in);
       book_in_bounds = omega arith;
     }
 
@@ -102,5 +102,5 @@ returns c =
     let at = goal.at.returns c in
     let long = length_here at.Else-word_at-options_in in
     rw (c.put_book.ensures, c.written_length-due.ensures, ← long)
-    (write_done a.sheet.now a.book.now a.out.now (sheet_here at.Else-not-is_sheet) (accepted_here at.In_default)
+    (write_done a.sheet.now a.book.now a.out.now (sheet_here at.Else-not-is_sheet) (accepted_here at.In_ok-check)
     (same_here at.Else-word_at-options_in) (omega arith))

@@ -16,8 +16,8 @@ summed :
     c.add_weights.result ≡ weight (book_nodes a.book.now) + literal_weight * (a.count - 1)
 summed c = omega (arith, c.add_weights.ensures.0, c.weigh_book-weight.ensures.0)
 
-pub returns-then-count-k : goal.returns-then-count-k
-returns-then-count-k c = no_line _ _ _ (omega (arith, c.if-count-k.true))
+pub returns-then-from-k : goal.returns-then-from-k
+returns-then-from-k c = no_line _ _ _ (omega (arith, c.if-from-k.true))
 
 pub weigh_book-weight-requires : goal.weigh_book-weight-requires
 weigh_book-weight-requires c = let a = c.requires.0 in (omega (arith, a.nodes), omega (arith, a.long))
@@ -27,10 +27,10 @@ add_weights-requires c = omega (arith, c.weigh_book-weight.ensures.0, c.requires
 
 pub returns-then-add_weights-gt-MOST_WEIGHT : goal.returns-then-add_weights-gt-MOST_WEIGHT
 returns-then-add_weights-gt-MOST_WEIGHT c =
-    no_room _ _ _ (omega (arith, c.if-count-k.false))
+    no_room _ _ _ (omega (arith, c.if-from-k.false))
     (omega (arith, summed (goal.at.returns-then-add_weights-gt-MOST_WEIGHT c).After-add_weights, c.if-add_weights-gt-MOST_WEIGHT.true))
 
 pub returns : goal.returns
 returns c =
-    room _ _ _ (omega (arith, c.if-count-k.false))
+    room _ _ _ (omega (arith, c.if-from-k.false))
     (omega (arith, summed (goal.at.returns c).After-add_weights, c.if-add_weights-gt-MOST_WEIGHT.false))

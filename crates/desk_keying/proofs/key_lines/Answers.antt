@@ -11,16 +11,17 @@ use Rattle.model.specs.Limits.{most_options}
 use Rattle.calls.specs.Lines.{State}
 use Rattle.calls.specs.Desk.{lines, keyed, go_on, all_keyed, with_no_lines}
 use Rattle.call_answers.specs.AnswerMeaning.{found_of, on_sheet}
-use Rattle.call_answers.specs.declared.Found.TheVariants.{Value}
+use Rattle.std.specs.Prelude.{Ok}
 use Rattle.order_lines.specs.LineMeaning.{line, order}
-use Rattle.desk_keying.specs.Endings.{ending, dropped}
+use Rattle.desk_keying.specs.Endings.{ending}
+use Rattle.call_answers.proofs.AnswersTold.{handed_on}
 use Rattle.desk_keying.proofs.KeyedLines.{LastKeyed, line_stopped, line_accepted, asked_small, here_line, keyed_line, first_byte}
 use Rattle.desk_keying.proofs.KeyedLines.{past_end, stopped_by, gone_on}
 use Rattle.desk_keying.proofs.key_lines.Goals as goal
-use Rattle.desk_keying.proofs.key_lines.Goals.{After-key_line-found}
+use Rattle.desk_keying.proofs.key_lines.Goals.{After-key_line}
 
 -- A line that was looked at: where it ends, and what it and the lines after it give.
-module _ (c : goal.After-key_line-found) where
+module _ (c : goal.After-key_line) where
   abbrev book : List ℕ
   book = c.args.book.now
 
@@ -53,15 +54,15 @@ module _ (c : goal.After-key_line-found) where
       ap on_sheet (keyed_line book input c.loop-at-test.true ends so_far) ∙ c.loop-at.invariant.2
 
 -- A line that was keyed: the option that it names is the last line now.
-module _ (c : goal.After-key_line-found) (option : ℕ) (is : c.key_line-found.result ≡ Value option) where
+module _ (c : goal.After-key_line) (option : ℕ) (is : c.key_line.result ≡ Ok option) where
   abbrev left : List ℕ
-  left = c.key_line-found.new.sheet
+  left = c.key_line.new.sheet
 
   taken : let n = c.loop-at in LastKeyed (book c) (this c) n.sheet n.keyed n.count option left
   taken =
       let n = c.loop-at in
       let told = ap found_of is in
-      line_accepted (book c) (this c) n.sheet n.keyed n.count (rw told at c.key_line-found.ensures)
+      line_accepted (book c) (this c) n.sheet n.keyed n.count (rw told at c.key_line.ensures)
 
   small : (1 ≤ length (this c)) × (option ≤ most_options)
   small = asked_small (book c) (this c) option taken.asked_so
@@ -89,40 +90,38 @@ loop-at-init c = (omega arith, refl, refl)
 
 pub overflow_cast-keyed : goal.overflow_cast-keyed
 overflow_cast-keyed c =
-    record { fits = omega (arith, (small (goal.at.overflow_cast-keyed c).After-key_line-found c.in-Value.v c.in-Value.is).1) }
+    record { fits = omega (arith, (small (goal.at.overflow_cast-keyed c).After-key_line c.in_ok-v.v c.in_ok-v.was).1) }
 
-pub bounds-keyed-wide16 : goal.bounds-keyed-wide16
-bounds-keyed-wide16 c =
-    omega (arith, c.wide16.ensures.0, (taken (goal.at.bounds-keyed-wide16 c).After-key_line-found c.in-Value.v c.in-Value.is).free)
+pub bounds-keyed-from : goal.bounds-keyed-from
+bounds-keyed-from c =
+    omega (arith, c.from.ensures, (taken (goal.at.bounds-keyed-from c).After-key_line c.in_ok-v.v c.in_ok-v.was).free)
 
 pub overflow_add-count : goal.overflow_add-count
 overflow_add-count c =
-    record { fits = omega (arith, (taken (goal.at.overflow_add-count c).After-key_line-found c.in-Value.v c.in-Value.is).free) }
+    record { fits = omega (arith, (taken (goal.at.overflow_add-count c).After-key_line c.in_ok-v.v c.in_ok-v.was).free) }
 
-pub returns-in_default : goal.returns-in_default
-unfolding dropped
-returns-in_default c =
-    let looked = (goal.at.returns-in_default c).After-key_line-found in
+pub returns-in_err-v : goal.returns-in_err-v
+returns-in_err-v c =
+    let looked = (goal.at.returns-in_err-v c).After-key_line in
     let n = c.loop-at in
-    let told = ap found_of c.in_default.is in
-    let stopped = line_stopped (book looked) (this looked) n.sheet n.keyed n.count (rw told at c.key_line-found.ensures) in
-    rw (c.without_number.ensures, told)
+    let stopped = line_stopped (book looked) (this looked) n.sheet n.keyed n.count c.in_err-v.ensures in
+    rw (handed_on c.from_residual.ensures.1)
     (stopped_by (book looked) (rest looked) (keyed (book looked) (this looked) (so_far looked)) stopped ∙ all_from_here looked)
 
 pub loop-at-preserved-then-end-input : goal.loop-at-preserved-then-end-input
 loop-at-preserved-then-end-input c =
-    let looked = (goal.at.loop-at-preserved-then-end-input c).After-key_line-found in
-    (omega arith, omega arith, left_to_key looked c.in-Value.v c.in-Value.is c.wide16.result c.wide16.ensures.0)
+    let looked = (goal.at.loop-at-preserved-then-end-input c).After-key_line in
+    (omega arith, omega arith, left_to_key looked c.in_ok-v.v c.in_ok-v.was c.from.result c.from.ensures)
 
 pub loop-at-preserved : goal.loop-at-preserved
 loop-at-preserved c =
-    let looked = (goal.at.loop-at-preserved c).After-key_line-found in
+    let looked = (goal.at.loop-at-preserved c).After-key_line in
     let n = looked.loop-at in
-    let v = c.in-Value.v in
+    let v = c.in_ok-v.v in
     let same = past_end (book looked) (input looked)
-    (order (left looked v c.in-Value.is) (set n.keyed c.wide16.result (line v (eqb (get_or (input looked) (from looked) 0) 45))) (n.count + 1))
+    (order (left looked v c.in_ok-v.was) (set n.keyed c.from.result (line v (eqb (get_or (input looked) (from looked) 0) 45))) (n.count + 1))
     c.if-end-input.false in
-    (omega arith, omega arith, ap on_sheet same ∙ left_to_key looked v c.in-Value.is c.wide16.result c.wide16.ensures.0)
+    (omega arith, omega arith, ap on_sheet same ∙ left_to_key looked v c.in_ok-v.was c.from.result c.from.ensures)
 
 pub returns : goal.returns
 unfolding all_keyed lines

@@ -18,4 +18,4 @@ unfolding printed
 returns c =
     let out = c.args.out.now in
     c.put_refusal.ensures
-    ∙ sym (ap (λ d. filled (printed (done_of d) (λ u. [])) out) c.in-Refused.is)
+    ∙ sym (ap (λ d. filled (printed (done_of d) (λ u. [])) out) c.in-Err.is)

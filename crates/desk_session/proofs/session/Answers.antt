@@ -24,14 +24,14 @@ returns-in_default-keyed c =
     let a = c.args in
     c.put_refused-in_default-keyed.ensures
     ∙ session_printed a.book.now a.input.now a.out.now c.if-out-lt16384.false
-    (keys_refused a.book.now a.input.now _ _ c.load-loaded.ensures (ap done_of c.in-Accepted.is) _ _
+    (keys_refused a.book.now a.input.now _ _ c.load-loaded.ensures (ap done_of c.in-Ok.is) _ _
     c.key_lines-keyed.ensures _ (ap done_of c.in_default-keyed.is))
 
 pub put_ran-requires : goal.put_ran-requires
 put_ran-requires c =
     let book = c.args.book.now in
     let sheet = c.load-loaded.new.target in
-    let answer = ap (λ d. after_call (done_of d) sheet) (sym c.in-Accepted.is) ∙ c.load-loaded.ensures in
+    let answer = ap (λ d. after_call (done_of d) sheet) (sym c.in-Ok.is) ∙ c.load-loaded.ensures in
     (loaded_good book (replicate sheet_length 0) sheet (length-replicate {A = ℕ} sheet_length 0) answer, c.if-out-lt16384.false)
 
 pub returns : goal.returns
@@ -39,5 +39,5 @@ returns c =
     let a = c.args in
     c.put_ran.ensures
     ∙ session_printed a.book.now a.input.now a.out.now c.if-out-lt16384.false
-    (keys_accepted a.book.now a.input.now _ _ c.load-loaded.ensures (ap done_of c.in-Accepted.is) _ _
-    c.key_lines-keyed.ensures (ap done_of c.in-Accepted-keyed.is))
+    (keys_accepted a.book.now a.input.now _ _ c.load-loaded.ensures (ap done_of c.in-Ok.is) _ _
+    c.key_lines-keyed.ensures (ap done_of c.in-Ok-keyed.is))
