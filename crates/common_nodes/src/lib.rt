@@ -14,20 +14,6 @@ ghost use Rattle.theory_reading.specs.Leaves.{place_at};
 
 use common_limits::{KIND_FACTOR, LEAST_FACTOR};
 
-// A byte as a number of the machine's width.
-pub fn wide(x: u8) -> usize
-    ensures { (result ≡ x) × (result < 256) }
-{
-    x as usize
-}
-
-// A sixteen-bit number at the machine's width.
-pub fn wide16(x: u16) -> usize
-    ensures { (result ≡ x) × (result < 65536) }
-{
-    x as usize
-}
-
 // The number at a place of a slice, its low byte first.
 #[tactic(auto, unfolding(model::specs::Book::word))]
 pub fn number_at(s: &[u8], k: usize) -> u16
