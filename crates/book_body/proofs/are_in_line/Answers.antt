@@ -1,4 +1,5 @@
 use mathlib.Core.Bool.{◌&&◌}
+use mathlib.Core.Logic.{⊎_elim}
 use mathlib.Core.Path.{◌≡◌, sym, ◌∙◌}
 use Prim.Native.Nat.{◌+◌, ◌<◌}
 use native.Mathlib.Nat.{sub-zero, sub_self}
@@ -9,7 +10,6 @@ use Rattle.model.specs.Book.{entries, in_line}
 use Rattle.book_body.proofs.BookNumbers.{word_small, entries_from, in_line_at}
 use Rattle.book_body.proofs.are_in_line.Goals as goal
 use Rattle.book_body.proofs.are_in_line.Goals.{After-word_at-count, Else-first-sum}
-use Rattle.book_body.proofs.are_in_line.Goals.{then-first-sum-via-then-first-sum, then-first-sum-via-else-first-sum+then-count-lt1}
 
 -- One entry more.
 more :
@@ -46,11 +46,10 @@ returns-then-first-sum c =
     let k = more (goal.at.returns-then-first-sum c).After-word_at-count in
     let first = c.word_at-first.result in
     sym
-    (elim c.then-first-sum.branch [
-      | then-first-sum-via-then-first-sum w ↦ k ∙ rw (ne_eqb first c.loop-i.sum w.if-first-sum.true)
-      | then-first-sum-via-else-first-sum+then-count-lt1 w ↦
-          k ∙ rw (eq-eqb first c.loop-i.sum w.if-first-sum.false, lt-leb 1 c.word_at-count.result w.if-count-lt1.true)
-    ])
+    (⊎_elim
+    (λ n. k ∙ rw (ne_eqb first c.loop-i.sum n))
+    (λ p. k ∙ rw (eq-eqb first c.loop-i.sum p.0, lt-leb 1 c.word_at-count.result p.1))
+    c.then-first-sum.either)
 
 pub overflow_add-sum : goal.overflow_add-sum
 overflow_add-sum c =
