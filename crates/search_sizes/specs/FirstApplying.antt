@@ -19,6 +19,14 @@ abbrev pub FirstOf : (ℕ → Bool) → ℕ → Option ℕ → Type 0
 FirstOf test bound (some i) = (i < bound) × FirstAt test i
 FirstOf test bound none = (k : ℕ) → k < bound → test k ≡ false
 
+-- How it is told: a number that passes after others that do not, and all below the bound that do not.
+module _ {test : ℕ → Bool} {bound : ℕ} where
+  pub first_here : {i : ℕ} → i < bound → ((k : ℕ) → k < i → test k ≡ false) → test i ≡ true → FirstOf test bound (some i)
+  first_here few before here = (few, record { before = before; there = here })
+
+  pub first_past : ((k : ℕ) → k < bound → test k ≡ false) → FirstOf test bound none
+  first_past before = before
+
 -- A test that says the same below the bound.
 pub first_same :
     {test other : ℕ → Bool} {bound : ℕ} →
