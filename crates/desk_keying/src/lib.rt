@@ -54,14 +54,12 @@ fn line_end(s: &[u8]) -> usize
     ensures { (result ≡ ending s.now)
         × (result ≤ length s.now) }
 {
-    let mut i = 0;
-    while i < s.len() {
-        if s[i] == 10 {
+    for (i, byte) in s.iter().enumerate() {
+        if *byte == b'\n' {
             return i;
         }
-        i += 1;
     }
-    i
+    s.len()
 }
 
 // All lines, in order, until one is refused: the desk begins with no lines, and keeps those that it keyed.
@@ -75,6 +73,7 @@ pub fn key_lines(book: &[u8], input: &[u8], sheet: &mut [u16]) -> Result<(), Ref
     }; SLOTS];
     let mut count: u16 = 0;
     let mut at = 0;
+    // A while: each turn goes on by a line.
     while at < input.len() {
         let end = at + line_end(&input[at..]);
         let v = key_line(book, &input[at..end], sheet, keyed, count)?;

@@ -17,8 +17,8 @@ fn put_ends(out: &mut [u8], space: usize, end: usize)
         × (end < length out.old) }
     ensures { out.new ≡ set (set out.old space 32) end 10 }
 {
-    out[space] = 32;
-    out[end] = 10;
+    out[space] = b' ';
+    out[end] = b'\n';
 }
 
 // Two words with a space between, as a line.
@@ -61,12 +61,12 @@ pub fn put_first(contradictory: bool, settled: bool, count: u64, out: &mut [u8])
         ≡ filled (first_line contradictory (record { settled = settled; count = count })) out.old }
 {
     if contradictory {
-        return put_counted(b"contradiction", count, out);
+        put_counted(b"contradiction", count, out)
+    } else if settled {
+        put_counted(b"settled", count, out)
+    } else {
+        put_counted(b"stopped", count, out)
     }
-    if settled {
-        return put_counted(b"settled", count, out);
-    }
-    put_counted(b"stopped", count, out)
 }
 
 // How many characters a code has: those before its zeros.
@@ -75,14 +75,12 @@ fn count_characters(code: &[u8]) -> usize
     ensures { (result ≤ 13)
         × (take result code.now ≡ characters (take 13 code.now)) }
 {
-    let mut k = 0;
-    while k < 13 {
+    for k in 0..13 {
         if code[k] == 0 {
             return k;
         }
-        k += 1;
     }
-    k
+    13
 }
 
 // The line of an option, by its code and its mark.
@@ -113,11 +111,9 @@ pub fn put_options(codes: &[u8], marks: &[u8], out: &mut [u8]) -> usize
         out.old }
 {
     let mut at = 0;
-    let mut i = 0;
-    while i < marks.len() {
+    for (i, mark) in marks.iter().enumerate() {
         let code = 13 * i;
-        at += put_option(&codes[code..], marks[i], &mut out[at..]);
-        i += 1;
+        at += put_option(&codes[code..], *mark, &mut out[at..]);
     }
     at
 }

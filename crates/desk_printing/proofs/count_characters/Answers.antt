@@ -6,21 +6,21 @@ use Rattle.desk_printing.proofs.Options.{characters_stop, characters_more, chara
 use Rattle.desk_printing.proofs.count_characters.Goals as goal
 
 pub loop-k-init : goal.loop-k-init
-loop-k-init c = (omega arith, refl)
+loop-k-init c = refl
 
 pub returns-then-code-k-eq0 : goal.returns-then-code-k-eq0
 returns-then-code-k-eq0 c =
     let s = c.args.code.now in
     let k = c.loop-k.k in (
       omega arith,
-      sym (c.loop-k.invariant.1 ∙ rw (characters_stop s k c.requires (omega arith) c.if-code-k-eq0.true) (append-nil (take k s))),
+      sym (c.loop-k.invariant ∙ rw (characters_stop s k c.requires (omega arith) c.if-code-k-eq0.true) (append-nil (take k s))),
     )
 
 pub loop-k-preserved : goal.loop-k-preserved
 loop-k-preserved c =
     let s = c.args.code.now in
     let k = c.loop-k.k in
-    (omega arith, c.loop-k.invariant.1 ∙ characters_more s k c.requires (omega arith) c.if-code-k-eq0.false)
+    c.loop-k.invariant ∙ characters_more s k c.requires (omega arith) c.if-code-k-eq0.false
 
 pub returns : goal.returns
 returns c =
@@ -28,5 +28,5 @@ returns c =
     let k = c.loop-k.k in
     let e : k ≡ 13 = omega arith in (
       omega arith,
-      sym (c.loop-k.invariant.1 ∙ rw (e, characters_end s) (append-nil (take 13 s))),
+      sym (c.loop-k.invariant ∙ rw (e, characters_end s) (append-nil (take 13 s))),
     )

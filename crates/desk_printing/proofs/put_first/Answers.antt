@@ -12,7 +12,7 @@ unfolding first_line settled_word pick
 returns-then-settled c =
     rw (c.if-contradictory.false, c.if-settled.true) c.put_counted-then-settled.ensures
 
-pub returns : goal.returns
+pub returns-else-settled : goal.returns-else-settled
 unfolding first_line stopped_word pick
-returns c =
-    rw (c.if-contradictory.false, c.if-settled.false) c.put_counted-2.ensures
+returns-else-settled c =
+    rw (c.if-contradictory.false, c.if-settled.false) c.put_counted-else-settled.ensures

@@ -29,7 +29,7 @@ line_here c =
 
 pub loop-i-init : goal.loop-i-init
 unfolding pieces option_lines filled placed
-loop-i-init c = (omega arith, omega arith, refl, refl)
+loop-i-init c = (omega arith, refl, refl)
 
 pub put_option-at-requires : goal.put_option-at-requires
 put_option-at-requires c =
@@ -45,15 +45,14 @@ overflow_add-at c = omega (arith, line_here (goal.at.overflow_add-at c).After-pu
 pub loop-i-preserved : goal.loop-i-preserved
 loop-i-preserved c =
     let call = c.put_option-at in (
-      omega arith,
       omega (arith, line_here (goal.at.loop-i-preserved c).After-put_option-at),
       omega arith,
       options_more c.args.codes.now c.args.marks.now c.args.out.now c.loop-i.i (omega arith)
-          c.loop-i.invariant.3 (omega arith) call.ensures,
+          c.loop-i.invariant.2 (omega arith) call.ensures,
     )
 
 pub returns : goal.returns
 returns c =
     let marks = c.args.marks.now in
     let e : c.loop-i.i ≡ length marks = omega arith in
-    rw (e, take-length marks) at c.loop-i.invariant.3
+    rw (e, take-length marks) at c.loop-i.invariant.2

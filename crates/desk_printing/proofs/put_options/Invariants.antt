@@ -1,6 +1,6 @@
 -- `desk_printing::put_options` meets its contract. Invariant: the lines of the options passed stand at the start.
 use mathlib.Core.Path.{◌≡◌}
-use Prim.Native.Nat.{◌*◌, ◌-◌, ◌≤◌}
+use Prim.Native.Nat.{◌*◌, ◌≤◌}
 use lib.ListN.{length, take}
 use Rattle.model.specs.Book.{pieces}
 use Rattle.calls.specs.Desk.{option_lines}
@@ -9,10 +9,6 @@ use Rattle.desk_printing.proofs.put_options.Given as goal
 
 abbrev pub invariant-loop-i : goal.invariant-loop-i
 invariant-loop-i l =
-    (l.i ≤ length l.marks)
-    × (l.at ≤ 19 * l.i)
+    (l.at ≤ 19 * l.i)
     × (length l.out ≡ length l.initial.out)
     × (after l.at l.out ≡ filled (option_lines (pieces 13 l.i l.codes) (take l.i l.marks)) l.initial.out)
-
-abbrev pub decreases-loop-i : goal.decreases-loop-i
-decreases-loop-i l = length l.marks - l.i
