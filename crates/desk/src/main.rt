@@ -20,6 +20,7 @@ fn read_full<R: Read>(from: &mut R, buf: &mut [u8]) -> usize
     ensures { IsPrefixLen result buf.new }
 {
     let mut done = 0;
+    // Each turn goes on by as many bytes as were read.
     while done < buf.len() {
         let Ok(n) = from.read(&mut buf[done..]) else {
             return done;
@@ -44,7 +45,7 @@ fn read_book<F: Files>(files: &F, buf: &mut [u8]) -> usize
 
 // What to type, and how to end; and that there is no book, where nothing could be read of it.
 fn say_how<E: Eprint>(words: &E, book: &[u8]) -> io::Result<()> {
-    if book.len() == 0 {
+    if book.is_empty() {
         eprintln!(words; "book.bin cannot be read, or is empty.")?;
     }
     eprintln!(words;
@@ -58,14 +59,12 @@ fn line_end(input: &[u8], from: usize) -> usize
     ensures { (from ≤ result)
         × (result ≤ length input.now) }
 {
-    let mut at = from;
-    while at < input.len() {
-        if input[at] == 10 {
+    for at in from..input.len() {
+        if input[at] == b'\n' {
             return at;
         }
-        at += 1;
     }
-    at
+    input.len()
 }
 
 // What the program prints for this input is a refusal: no other output begins with an r.
@@ -91,24 +90,17 @@ fn refused_line(book: &[u8], input: &[u8]) -> Line
     let mut number = 1;
     let mut from = 0;
     let mut to = line_end(input, 0);
+    // Each turn goes on by a line.
     while to < input.len() {
         let next = to + 1;
         if is_refused(book, &input[..next]) {
-            return Line {
-                number: number,
-                from: from,
-                to: to,
-            };
+            return Line { number, from, to };
         }
         number += 1;
         from = next;
         to = line_end(input, from);
     }
-    Line {
-        number: number,
-        from: from,
-        to: to,
-    }
+    Line { number, from, to }
 }
 
 // A byte that was typed. One that a terminal would act on, or that is no text, is said by its number behind a backslash.
@@ -131,10 +123,7 @@ fn say_typed<E: Eprint>(words: &E, line: &[u8]) -> io::Result<()> {
 
 // The words for a refusal of a line by its last digit: 7, 8 or 14.
 fn say_line<E: Eprint>(words: &E, book: &[u8], input: &[u8], digit: u8) -> io::Result<()> {
-    let line = refused_line(book, input);
-    let number = line.number;
-    let from = line.from;
-    let to = line.to;
+    let Line { number, from, to } = refused_line(book, input);
     eprint!(words; "Line {number}, \"")?;
     say_typed(words, &input[from..to])?;
     if digit == b'7' {

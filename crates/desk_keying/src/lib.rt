@@ -45,8 +45,11 @@ pub fn key_line(
         return Err(Refusal::List);
     }
     let v = read_line(book, line)?;
-    call_keying::key(sheet, lines, count, v as u64, line[0] == b'-')?;
-    Ok(v)
+    let answer = call_keying::key(sheet, lines, count, v as u64, line[0] == b'-');
+    let Err(r) = answer else {
+        return Ok(v);
+    };
+    Err(r)
 }
 
 // Where the first line ends: the place of its line end, or the end of the input.
@@ -73,7 +76,7 @@ pub fn key_lines(book: &[u8], input: &[u8], sheet: &mut [u16]) -> Result<(), Ref
     }; SLOTS];
     let mut count: u16 = 0;
     let mut at = 0;
-    // A while: each turn goes on by a line.
+    // Each turn goes on by a line.
     while at < input.len() {
         let end = at + line_end(&input[at..]);
         let v = key_line(book, &input[at..end], sheet, keyed, count)?;

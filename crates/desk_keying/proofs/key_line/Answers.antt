@@ -30,15 +30,14 @@ bounds-line-0 c =
     let a = c.args in
     omega (arith, (asked_small a.book.now a.line.now _ (asks (goal.at.bounds-line-0 c).In_ok-v)).0)
 
-pub returns-in_err-key : goal.returns-in_err-key
-returns-in_err-key c =
+pub returns-in_default : goal.returns-in_default
+returns-in_default c =
     let a = c.args in
-    rw (handed_on c.from_residual-in_err-key.ensures.1)
-    (key_refused a.book.now a.line.now a.sheet.now a.lines a.count c.if-count-eq-MOST_LINES.false (asks (goal.at.returns-in_err-key c).In_ok-v)
-    c.in_err-key.ensures)
+    key_taken a.book.now a.line.now a.sheet.now a.lines a.count c.if-count-eq-MOST_LINES.false (asks (goal.at.returns-in_default c).In_ok-v)
+    c.in_default.ensures
 
 pub returns : goal.returns
 returns c =
     let a = c.args in
-    key_taken a.book.now a.line.now a.sheet.now a.lines a.count c.if-count-eq-MOST_LINES.false (asks (goal.at.returns c).In_ok-v)
-    c.in_ok-key.ensures
+    key_refused a.book.now a.line.now a.sheet.now a.lines a.count c.if-count-eq-MOST_LINES.false (asks (goal.at.returns c).In_ok-v)
+    c.in-Err.ensures
