@@ -57,6 +57,7 @@ impl Known {
     pub fn nothing() -> Known
         ensures failed { result.failed ≡ replicate most_literals 0 }
         ensures trail { length result.trail ≡ most_literals }
+        ensures count { result.count ≡ 0 }
     {
         Known {
             failed: [0; MOST_LITERALS],
