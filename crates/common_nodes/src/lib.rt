@@ -68,7 +68,7 @@ fn gather(t: usize, k: usize) -> Option<usize>
     requires { t ≤ 65535 }
     ensures { given result ≡ only_if (leb k t) (t - k + 1) }
 {
-    Some(t.checked_sub(k)? + 1)
+    if t < k { None } else { Some(t - k + 1) }
 }
 
 // How many trees there are with one node more, before so many trees, in a body of n options: none where it is no node, or lacks children.
@@ -78,11 +78,15 @@ pub fn join(x: usize, n: usize, t: usize) -> Option<usize>
     requires { t ≤ 65535 }
     ensures { given result ≡ joined_by n x t }
 {
-    match kind_of(x) {
-        1 | 2 => (value_of(x) < n).then_some(t + 1),
-        3 | 4 => gather(t, value_of(x)),
-        6 => gather(t, value_of(x) / LEAST_FACTOR),
-        _ => None,
+    let k = kind_of(x);
+    if k == 1 || k == 2 {
+        (value_of(x) < n).then_some(t + 1)
+    } else if k == 3 || k == 4 {
+        gather(t, value_of(x))
+    } else if k == 6 {
+        gather(t, value_of(x) / LEAST_FACTOR)
+    } else {
+        None
     }
 }
 
