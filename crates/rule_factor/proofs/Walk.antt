@@ -95,13 +95,13 @@ module _ (n i : ℕ) (l : List ℕ) where
 
 -- Whether one of so many trees is a number itself, by the place of the first.
 module _ (a n : ℕ) (l : List ℕ) where
-  pub place_some : unit_place a n l < span n l → some (unit_place a n l) ≡ only_if (among a n l) (unit_place a n l)
-  unfolding among only_if
-  place_some h = rw (lt-ltb (unit_place a n l) (span n l) h)
+  pub place_some : unit_place a n l < span n l → true ≡ among a n l
+  unfolding among
+  place_some h = sym (lt-ltb (unit_place a n l) (span n l) h)
 
-  pub place_none : span n l ≤ unit_place a n l → none ≡ only_if (among a n l) (unit_place a n l)
-  unfolding among only_if
-  place_none h = rw (le-ltb (unit_place a n l) (span n l) h)
+  pub place_none : span n l ≤ unit_place a n l → false ≡ among a n l
+  unfolding among
+  place_none h = sym (le-ltb (unit_place a n l) (span n l) h)
 
 -- Trees that all share a number.
 module _ (a n i : ℕ) (l : List ℕ) where

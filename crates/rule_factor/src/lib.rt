@@ -1,7 +1,7 @@
 // Rule 14, what it asks: conjunctions that share a literal, in one disjunction.
 #![tactic(auto)]
 
-ghost use Rattle.std.specs.Prelude.{◌≡◌, ◌≤◌, ◌<◌, length, get_or};
+ghost use Rattle.std.specs.Prelude.{◌≡◌, ◌≤◌, ◌<◌, length, get_or, is_ok, MatchResult};
 ghost use Rattle.common_lists.specs.Given.{given};
 ghost use Rattle.model.specs.Base.{is_some, only_if};
 ghost use Rattle.model.specs.Limits.{sheet_room};
@@ -12,23 +12,25 @@ ghost use Rattle.theory_reading.specs.Stretches.{Stretch, forest_in};
 ghost use Rattle.theory_rewriting.specs.Heads.{Headed};
 ghost use Rattle.rule_factor.specs.Walks.{all_share, among, group_here, groups_in, shares_here, unit_at, unit_place};
 
-// The place of the first of so many trees that is the literal itself. The place hops over a tree at a time, whose size is read, so it
-// goes beside the count of the trees.
-pub fn unit_place(part: &[u16], trees: usize, literal: u16) -> Option<usize>
+// The place of the first of so many trees that is the literal itself; else the place after them. It hops over a tree at a time, whose
+// size is read, so it goes beside the count of the trees.
+pub fn unit_place(part: &[u16], trees: usize, literal: u16) -> Result<usize, usize>
     requires { length part.now ≤ sheet_room }
-    ensures { given result ≡ only_if (among literal trees part.now) (unit_place literal trees part.now) }
+    ensures found { is_ok result ≡ among literal trees part.now }
+    ensures place { MatchResult result (λ at. at ≡ unit_place literal trees part.now) (λ end. end ≡ unit_place literal trees part.now) }
+    ensures near { unit_place literal trees part.now ≤ length part.now }
 {
     let mut at = 0;
     for passed in 0..trees {
         if at == part.len() {
-            return None;
+            return Err(at);
         }
         if part[at] == literal {
-            return Some(at);
+            return Ok(at);
         }
         at += common_nodes::span_of(&part[at..], 1);
     }
-    None
+    Err(at)
 }
 
 // The literal that is child j of the group, where no earlier child is the same literal.
@@ -42,7 +44,7 @@ pub fn unit_of(part: &[u16], j: usize) -> Option<u16>
     }
     let before = common_nodes::span_of(&part[1..], j);
     let x = part[1 + before];
-    if common_nodes::is_literal(usize::from(x)) && unit_place(&part[1..], j, x).is_none() {
+    if common_nodes::is_literal(usize::from(x)) && unit_place(&part[1..], j, x).is_err() {
         Some(x)
     } else {
         None
@@ -57,7 +59,7 @@ fn shares(part: &[u16], literal: u16) -> bool
     let x = usize::from(part[0]);
     common_nodes::is_literal(x)
         || common_nodes::kind_of(x) == 3
-            && unit_place(&part[1..], common_nodes::children_of(x), literal).is_some()
+            && unit_place(&part[1..], common_nodes::children_of(x), literal).is_ok()
 }
 
 // One for a group, nothing for a literal.

@@ -5,7 +5,7 @@ use lib.ListN.{get_or}
 use Rattle.common_lists.proofs.Lent.{lent_part}
 use Rattle.model.specs.Code.{kind, children}
 use Rattle.theory_forms.specs.Scan.{is_literal}
-use Rattle.rule_factor.proofs.Here.{tells, shares_literal, shares_not, shares_among}
+use Rattle.rule_factor.proofs.Here.{shares_literal, shares_not, shares_among}
 use Rattle.rule_factor.proofs.shares.Goals as goal
 use Rattle.rule_factor.proofs.shares.Goals.{After-children_of, After-is_literal, After-kind_of, Start}
 
@@ -34,6 +34,6 @@ pub returns-then-kind_of-eq3 : goal.returns-then-kind_of-eq3
 returns-then-kind_of-eq3 c =
     let l = c.args.part.now in
     let kids = counted (goal.at.returns-then-kind_of-eq3 c).After-children_of in
-    c.is_some.ensures ∙ tells c.unit_place.result _ _ (rw (kids, lent_part 1 l) at c.unit_place.ensures)
+    c.is_ok.ensures.value ∙ (rw (kids, lent_part 1 l) at c.unit_place.ensures.found)
     ∙ sym (shares_among _ l (sym (literal (goal.at.returns-then-kind_of-eq3 c).After-is_literal) ∙ c.if-is_literal.false)
     (sym (kinded (goal.at.returns-then-kind_of-eq3 c).After-kind_of) ∙ c.if-kind_of-eq3.true))

@@ -1,21 +1,20 @@
 -- `rule_factor::unit_of` meets its contract, by the tests on the child's number and the place of its first copy.
+use Rattle.std.specs.Prelude.{is_ok}
 use mathlib.Core.Bool.{not}
 use mathlib.Core.Option.{some}
 use mathlib.Core.Path.{◌≡◌, sym, ap, ◌∙◌}
 use Prim.Native.Nat.{◌+◌, ◌<◌}
 use native.Mathlib.Omega.{arith}
 use lib.ListN.{length, get_or, drop, length-drop}
-use Rattle.common_lists.specs.Given.{given}
-use Rattle.model.specs.Base.{only_if}
 use Rattle.common_lists.proofs.Lent.{lent_part}
 use Rattle.model.specs.Code.{children}
 use Rattle.theory_forms.specs.Numbers.{children_small}
 use Rattle.theory_forms.specs.Scan.{is_literal}
 use Rattle.theory_reading.specs.Spans.{span, child_at}
-use Rattle.rule_factor.specs.Walks.{unit_place, among}
-use Rattle.rule_factor.proofs.Here.{tells, none_past, none_inner, none_again, some_new}
+use Rattle.rule_factor.specs.Walks.{among}
+use Rattle.rule_factor.proofs.Here.{none_past, none_inner, none_again, some_new}
 use Rattle.rule_factor.proofs.unit_of.Goals as goal
-use Rattle.rule_factor.proofs.unit_of.Goals.{else-is_literal-via-then-is_literal+else-is_none, else-is_literal-via-else-is_literal}
+use Rattle.rule_factor.proofs.unit_of.Goals.{else-is_literal-via-then-is_literal+else-is_err, else-is_literal-via-else-is_literal}
 use Rattle.rule_factor.proofs.unit_of.Goals.{After-children_of, After-is_literal, After-span_of-before, After-unit_place}
 
 -- The number of children.
@@ -37,9 +36,8 @@ seen c =
     ∙ ap (λ n. get_or c.args.part.now (1 + n) 0) (rw (lent_part 1 c.args.part.now) at c.span_of-before.ensures.0))
 
 placed : (c : goal.After-unit_place) → let a = c.args in
-    let x = get_or a.part.now (child_at a.j a.part.now) 0 in
-    given c.unit_place.result ≡ only_if (among x a.j (drop 1 a.part.now)) (unit_place x a.j (drop 1 a.part.now))
-placed c = rw ((rw (lent_part 1 c.args.part.now) at c.span_of-before.ensures.0), lent_part 1 c.args.part.now) at c.unit_place.ensures
+    is_ok c.unit_place.result ≡ among (get_or a.part.now (child_at a.j a.part.now) 0) a.j (drop 1 a.part.now)
+placed c = rw ((rw (lent_part 1 c.args.part.now) at c.span_of-before.ensures.0), lent_part 1 c.args.part.now) at c.unit_place.ensures.found
 
 pub returns-then-children_of-j : goal.returns-then-children_of-j
 returns-then-children_of-j c = sym (none_past _ _ (omega (arith, counted (goal.at.returns-then-children_of-j c).After-children_of)))
@@ -70,17 +68,17 @@ returns-else-is_literal c =
     let inner = there (goal.at.returns-else-is_literal c).After-span_of-before in
     let read = seen (goal.at.returns-else-is_literal c).After-is_literal in
     elim c.else-is_literal.branch [
-      | else-is_literal-via-then-is_literal+else-is_none w ↦
-          let again = tells w.unit_place.result _ _ (rw (far, lent_part 1 l) at w.unit_place.ensures) in
-          sym (none_again _ l inner (sym read ∙ w.if-is_literal.true) (sym again ∙ w.is_none.ensures ∙ ap not w.if-is_none.false))
+      | else-is_literal-via-then-is_literal+else-is_err w ↦
+          let again = rw (far, lent_part 1 l) at w.unit_place.ensures.found in
+          sym (none_again _ l inner (sym read ∙ w.if-is_literal.true) (sym again ∙ w.is_err.ensures.negation ∙ ap not w.if-is_err.false))
       | else-is_literal-via-else-is_literal w ↦ sym (none_inner _ l inner (sym read ∙ w.if-is_literal.false))
     ]
 
-pub returns-then-is_none : goal.returns-then-is_none
-returns-then-is_none c =
+pub returns-then-is_err : goal.returns-then-is_err
+returns-then-is_err c =
     let l = c.args.part.now in
-    let read = seen (goal.at.returns-then-is_none c).After-is_literal in
-    let again = tells c.unit_place.result _ _ (placed (goal.at.returns-then-is_none c).After-unit_place) in
-    ap (λ n. some (get_or l (1 + n) 0)) (before (goal.at.returns-then-is_none c).After-span_of-before)
-    ∙ sym (some_new _ l (there (goal.at.returns-then-is_none c).After-span_of-before) (sym read ∙ c.if-is_literal.true)
-    (sym again ∙ c.is_none.ensures ∙ ap not c.if-is_none.true))
+    let read = seen (goal.at.returns-then-is_err c).After-is_literal in
+    let again = placed (goal.at.returns-then-is_err c).After-unit_place in
+    ap (λ n. some (get_or l (1 + n) 0)) (before (goal.at.returns-then-is_err c).After-span_of-before)
+    ∙ sym (some_new _ l (there (goal.at.returns-then-is_err c).After-span_of-before) (sym read ∙ c.if-is_literal.true)
+    (sym again ∙ c.is_err.ensures.negation ∙ ap not c.if-is_err.true))

@@ -1,5 +1,4 @@
-use mathlib.Core.Option.{some}
-use mathlib.Core.Path.{◌≡◌, ap, ◌∙◌}
+use mathlib.Core.Path.{◌≡◌, ap}
 use Prim.Native.Nat.{◌+◌, ◌-◌, ◌<◌}
 use native.Mathlib.Omega.{arith}
 use lib.ListN.{length, drop, length-drop}
@@ -33,7 +32,12 @@ returns-then-at-part c =
     let l = a.part.now in
     let at = c.loop-passed.at in
     let left = a.trees - c.loop-passed.passed in
-    place_none a.literal a.trees l (omega (arith, unit_end a.literal left at l (omega arith), span_end left at l (omega arith)))
+    let over : unit_place a.literal left (drop at l) ≡ 0 = unit_end a.literal left at l (omega arith) in
+    record {
+      found = place_none a.literal a.trees l (omega (arith, over, span_end left at l (omega arith)));
+      place = omega (arith, over);
+      near = omega (arith, over);
+    }
 
 pub returns-then-part-at : goal.returns-then-part-at
 returns-then-part-at c =
@@ -44,8 +48,11 @@ returns-then-part-at c =
     let inside : at < length l = omega arith in
     let some_left : 0 < left = omega arith in
     let here = unit_found a.literal left at l some_left inside c.if-part-at.true in
-    let place : at ≡ unit_place a.literal a.trees l = omega arith in
-    ap some place ∙ place_some a.literal a.trees l (omega (arith, span_some left at l some_left inside))
+    record {
+      found = place_some a.literal a.trees l (omega (arith, here, span_some left at l some_left inside));
+      place = omega (arith, here);
+      near = omega (arith, here);
+    }
 
 pub returns : goal.returns
 returns c =
@@ -54,5 +61,9 @@ returns c =
     let at = c.loop-passed.at in
     let left = a.trees - c.loop-passed.passed in
     let end : left ≡ 0 = omega arith in
-    place_none a.literal a.trees l
-    (omega (arith, unit_none a.literal left at l end, ap (λ n. span n (drop at l)) end, span_none (drop at l)))
+    let over : unit_place a.literal left (drop at l) ≡ 0 = unit_none a.literal left at l end in
+    record {
+      found = place_none a.literal a.trees l (omega (arith, over, ap (λ n. span n (drop at l)) end, span_none (drop at l)));
+      place = omega (arith, over);
+      near = omega (arith, over);
+    }

@@ -1,18 +1,16 @@
 -- `rule_regroup::copy_group` meets its contract: the head with one child fewer, and the numbers before the literal and after it.
+use Rattle.std.specs.Prelude.{is_ok}
 use mathlib.Core.List.{List, ◌∷◌, ◌++◌}
 use mathlib.Core.Path.{◌≡◌, sym, ap, ◌∙◌}
 use Prim.Native.Nat.{ℕ, ◌+◌, ◌-◌, ◌≤◌, ◌<◌}
 use native.Mathlib.Omega.{arith}
 use borrow.Author.Tests.{ltb-true}
 use lib.ListN.{length, get_or, take, drop, length-set, length-append, length-drop}
-use Rattle.common_lists.specs.Given.{given}
 use Rattle.common_lists.proofs.Lent.{lent_part}
-use Rattle.model.specs.Base.{only_if}
 use Rattle.model.specs.Code.{kind, children}
 use Rattle.theory_forms.specs.Numbers.{children_small}
 use Rattle.theory_reading.specs.Spans.{span, span_within, child_at}
 use Rattle.rule_factor.specs.Walks.{unit_place, among}
-use Rattle.rule_factor.proofs.Here.{tells, met}
 use Rattle.rule_regroup.specs.Regrouped.{less_unit}
 use Rattle.rule_regroup.proofs.Append.{appended_one, appended_both, appended_as}
 use Rattle.rule_regroup.proofs.KeptTrees.{less_unit_parts}
@@ -33,36 +31,27 @@ after_it c =
     let p = 1 + c.unwrap-p.result + 1 in
     take (c.child_at-end.result - p) (drop p c.args.part.now)
 
-told : (c : goal.After-unit_place) → let a = c.args in let l = drop 1 a.part.now in
-    given c.unit_place.result ≡ only_if (among a.literal c.children_of-m.result l) (unit_place a.literal c.children_of-m.result l)
-told c = rw (lent_part 1 c.args.part.now) at c.unit_place.ensures
+-- It is among the children, at the place that was found.
+told : (c : goal.After-unit_place) → let a = c.args in
+    is_ok c.unit_place.result ≡ among a.literal c.children_of-m.result (drop 1 a.part.now)
+told c = rw (lent_part 1 c.args.part.now) at c.unit_place.ensures.found
 
 found : (c : goal.After-unwrap-p) → let a = c.args in
     c.unwrap-p.result ≡ unit_place a.literal c.children_of-m.result (drop 1 a.part.now)
-found c = (met _ c.unwrap-p.ensures (rw (lent_part 1 c.args.part.now) at c.unit_place.ensures)).1
+found c = rw (c.unwrap-p.ensures, lent_part 1 c.args.part.now) at c.unit_place.ensures.place
 
 -- It stands within the part.
 near : (c : goal.After-unwrap-p) → 1 + c.unwrap-p.result ≤ length c.args.part.now
-unfolding among
 near c =
-    let l = drop 1 c.args.part.now in
-    let m = c.children_of-m.result in
-    let w = met _ c.unwrap-p.ensures (rw (lent_part 1 c.args.part.now) at c.unit_place.ensures) in
-    omega (
-      arith,
-      c.requires.in_bounds,
-      w.1,
-      ltb-true (unit_place c.args.literal m l) (span m l) w.0,
-      span_within m l,
-      length-drop 1 c.args.part.now,
-    )
+    let l = c.args.part.now in
+    omega (arith, c.requires.in_bounds, found c, (rw (lent_part 1 l) at c.unit_place.ensures.near), length-drop 1 l)
 
 parts : (c : goal.After-child_at-end) → let a = c.args in
     less_unit a.literal a.part.now ≡ (get_or a.part.now 0 0 - 1) ∷ (before_it c ++ after_it c)
 parts c =
     let a = c.args in
     less_unit_parts a.literal a.part.now (c.children_of-m.ensures ∙ ap children c.from.ensures)
-    (met _ c.unwrap-p.ensures (rw (lent_part 1 c.args.part.now) at c.unit_place.ensures)).1 c.child_at-end.ensures.0
+    (rw (c.unwrap-p.ensures, lent_part 1 c.args.part.now) at c.unit_place.ensures.place) c.child_at-end.ensures.0
 
 -- There is room for them, and the literal stands before the end.
 room : (c : goal.After-child_at-end) → let a = c.args in a.at + (1 + (length (before_it c) + length (after_it c))) ≤ length a.out.now
@@ -74,7 +63,7 @@ inside c =
     let l = c.args.part.now in
     let m = children (get_or l 0 0) in
     let u : c.unwrap-p.result ≡ unit_place c.args.literal m (drop 1 l) =
-    rw (c.children_of-m.ensures ∙ ap children c.from.ensures) at (met _ c.unwrap-p.ensures (rw (lent_part 1 c.args.part.now) at c.unit_place.ensures)).1 in
+    rw (c.children_of-m.ensures ∙ ap children c.from.ensures) at (rw (c.unwrap-p.ensures, lent_part 1 c.args.part.now) at c.unit_place.ensures.place) in
     let e : c.child_at-end.result ≡ child_at m l = rw (c.children_of-m.ensures ∙ ap children c.from.ensures) at c.child_at-end.ensures.0 in
     omega (arith, ltb-true (unit_place c.args.literal m (drop 1 l)) (span m (drop 1 l)) c.requires.part_value_2)
 
@@ -87,7 +76,7 @@ child_at-end-requires c = (
 
 pub unwrap-p-requires : goal.unwrap-p-requires
 unwrap-p-requires c =
-    tells c.unit_place.result _ _ (told (goal.at.unwrap-p-requires c).After-unit_place)
+    told (goal.at.unwrap-p-requires c).After-unit_place
     ∙ rw (counted (goal.at.unwrap-p-requires c).After-children_of-m) c.requires.part_value_2
 
 pub overflow_add-p : goal.overflow_add-p
