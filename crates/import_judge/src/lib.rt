@@ -64,8 +64,9 @@ fn count_words(text: &[u8], body: usize, options: &[u8]) -> Option<Tally>
     let mut at = import_bytes::past_blanks(text, body);
     // Each turn hops over a word, whose end is read.
     while at < text.len() {
-        let word = import_words::read_word(text, at, options)?;
-        so_far = counted(so_far, word.kind);
+        let word = import_words::read_word(text, at, options);
+        let kind = word.kind?;
+        so_far = counted(so_far, kind);
         at = import_bytes::past_blanks(text, word.end);
     }
     if so_far.pending { None } else { Some(so_far) }

@@ -7,7 +7,6 @@ use native.Mathlib.Omega.{arith}
 use borrow.Author.Tests.{eq-eqb, ne_eqb}
 use lib.Dec.{eqb, leb}
 use lib.ListN.{length, get_or, take, drop}
-use Rattle.std.specs.Prelude.{Option, Some, None}
 use Rattle.model.specs.Base.{pick}
 use Rattle.texts.specs.Decimals.{is_decimal, number_in}
 use Rattle.theory_forms.specs.Logic.{true_false, pick_true, pick_false}
@@ -16,8 +15,6 @@ use Rattle.theory_texts.specs.Figures.{run}
 use Rattle.theory_texts.specs.WordKinds.{kind_of_digits, kind_here, kind_at, word_length, past_digits}
 use Rattle.theory_texts.specs.FromPlaces.{digits_between, rest_after, after_minus, barred_end, plain_end}
 use Rattle.import_bytes.proofs.Places.{first_here}
-use Rattle.import_words.specs.Kinds.{IsWord}
-use Rattle.import_words.specs.declared.Word.{Word}
 
 module _ (z n : ℕ) (ds : List ℕ) where
   pub no_number : is_decimal ds ≡ false → 0 ≡ kind_of_digits z n ds
@@ -69,8 +66,3 @@ module _ (l : List ℕ) (at : ℕ) (n : ℕ) where
   without_minus e =
       let first : eqb (get_or (drop at l) 0 0) 45 ≡ false = ap (λ x. eqb x 45) (first_here l at) ∙ ne_eqb (get_or l at 0) 45 e in
       (sym (pick_false _ _ _ first), plain_end l at first)
-
--- The same word, by other names for its kind and its end.
-pub same_word : (kind other end far most : ℕ) → kind ≡ other → end ≡ far → (o : Option Word) → IsWord o kind end most → IsWord o other far most
-same_word kind other end far most e f None h = sym e ∙ h
-same_word kind other end far most e f (Some w) (k, g, m) = (k ∙ e, g ∙ f, m)

@@ -1,5 +1,5 @@
 -- What a word is, by the numbers that the definitions give it: 1 closes a clause, 2 is a mark, 0 is neither.
-use Rattle.std.specs.Prelude.{◌≡◌, ℕ, ◌≤◌, Option, Some, None, MatchOption}
+use Rattle.std.specs.Prelude.{◌≡◌, ℕ, ◌≤◌, Option, Some, None}
 use Rattle.import_words.specs.declared.Kind.{Kind}
 use Rattle.import_words.specs.declared.Kind.TheVariants.{Closing, Mark}
 use Rattle.import_words.specs.declared.Word.{Word}
@@ -12,6 +12,6 @@ abbrev pub kind_number : Option Kind → ℕ
 kind_number None = 0
 kind_number (Some k) = number_of k
 
--- The word of this kind that ends there, within a text so long; none, where it is neither.
-abbrev pub IsWord : Option Word → ℕ → ℕ → ℕ → Type 0
-IsWord o kind end most = MatchOption o (kind ≡ 0) (λ w. (number_of w.kind ≡ kind) × (w.end ≡ end) × (w.end ≤ most))
+-- A word of this kind, 0 where it is neither, that ends there, within a text so long.
+abbrev pub IsWord : Word → ℕ → ℕ → ℕ → Type 0
+IsWord w kind end most = (kind_number w.kind ≡ kind) × (w.end ≡ end) × (w.end ≤ most)

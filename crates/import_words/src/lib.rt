@@ -15,10 +15,10 @@ pub enum Kind {
     Mark,
 }
 
-// A word, and the place after it.
+// The place after a word, and what the word is, if it is either.
 #[derive(Clone, Copy)]
 pub struct Word {
-    pub kind: Kind,
+    pub kind: Option<Kind>,
     pub end: usize,
 }
 
@@ -39,21 +39,21 @@ fn kind_of(digits: &[u8], options: &[u8], zero: Option<Kind>) -> Option<Kind>
 }
 
 // What the digits from a place on are, up to a blank, a line end or the end.
-fn read_number(text: &[u8], from: usize, options: &[u8], zero: Option<Kind>) -> Option<Word>
+fn read_number(text: &[u8], from: usize, options: &[u8], zero: Option<Kind>) -> Word
     requires { (from ≤ length text.now) × (is_decimal options.now ≡ true) }
     ensures { let b = drop from text.now in
         IsWord result (kind_here (kind_number zero) (number_in options.now) b) (from + run b) (length text.now) }
 {
     let end = import_bytes::past_digits(text, from);
     if !import_bytes::breaks_at(text, end) {
-        return None;
+        return Word { kind: None, end };
     }
-    let kind = kind_of(&text[from..end], options, zero)?;
-    Some(Word { kind, end })
+    let kind = kind_of(&text[from..end], options, zero);
+    Word { kind, end }
 }
 
 // What the word at a place is: "-0" is none.
-pub fn read_word(text: &[u8], at: usize, options: &[u8]) -> Option<Word>
+pub fn read_word(text: &[u8], at: usize, options: &[u8]) -> Word
     requires { (at < length text.now) × (is_decimal options.now ≡ true) }
     ensures { let b = drop at text.now in
         IsWord result (kind_at (number_in options.now) b) (at + word_length b) (length text.now) }

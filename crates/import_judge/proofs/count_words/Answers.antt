@@ -1,3 +1,4 @@
+use mathlib.Core.Path.{sym}
 use native.Mathlib.Omega.{arith}
 use Rattle.texts.specs.Decimals.{number_in}
 use Rattle.import_judge.proofs.Counting.{begun, open_ended, closed_ended, no_count, goes_on, more_counted}
@@ -8,14 +9,15 @@ loop-at-init c =
     let a = c.args in
     begun (number_in a.options.now) a.text.now a.body c.past_blanks-at.result c.past_blanks-at.ensures.0 c.past_blanks-at.ensures.1
 
-pub read_word-requires : goal.read_word-requires
-read_word-requires c = (c.loop-at-test.true, c.requires.1)
+pub read_word-word-requires : goal.read_word-word-requires
+read_word-word-requires c = (c.loop-at-test.true, c.requires.1)
 
-pub returns-in_err-word-clause-told : goal.returns-in_err-word-clause-told
-returns-in_err-word-clause-told c =
+pub returns-in_err-kind-clause-told : goal.returns-in_err-kind-clause-told
+returns-in_err-kind-clause-told c =
     let a = c.args in
     let l = c.loop-at in
-    rw c.from_residual.ensures (no_count (number_in a.options.now) a.text.now a.body l.so_far l.at l.invariant c.loop-at-test.true c.in_err-word.ensures)
+    let neither = rw c.in_err-kind.was at c.read_word-word.ensures.0 in
+    rw c.from_residual.ensures (no_count (number_in a.options.now) a.text.now a.body l.so_far l.at l.invariant c.loop-at-test.true (sym neither))
 
 pub counted-so_far-requires : goal.counted-so_far-requires
 counted-so_far-requires c = omega (arith, c.loop-at.invariant.few, c.loop-at-test.true)
@@ -24,22 +26,26 @@ pub loop-at-smaller : goal.loop-at-smaller
 loop-at-smaller c =
     let a = c.args in
     let l = c.loop-at in
-    let word = c.in_ok-word in
+    let word = c.read_word-word in
+    let kind = c.in_ok-kind in
+    let told = rw kind.was at word.ensures.0 in
     let on = goes_on (number_in a.options.now) a.text.now a.body l.so_far l.at l.invariant c.loop-at-test.true
-    word.word.kind word.word.end c.past_blanks-at-in-loop-at.result word.ensures.0 word.ensures.1 in
+    kind.kind word.result.end c.past_blanks-at-in-loop-at.result told word.ensures.1 in
     omega (arith, on, c.loop-at-test.true, c.past_blanks-at-in-loop-at.ensures.0)
 
 pub loop-at-preserved : goal.loop-at-preserved
 loop-at-preserved c =
     let a = c.args in
     let l = c.loop-at in
-    let word = c.in_ok-word in
+    let word = c.read_word-word in
+    let kind = c.in_ok-kind in
+    let told = rw kind.was at word.ensures.0 in
     more_counted (number_in a.options.now) a.text.now a.body l.so_far l.at l.invariant c.loop-at-test.true
-    word.word.kind word.word.end c.past_blanks-at-in-loop-at.result word.ensures.0 word.ensures.1
+    kind.kind word.result.end c.past_blanks-at-in-loop-at.result told word.ensures.1
     c.counted-so_far.result c.counted-so_far.ensures c.past_blanks-at-in-loop-at.ensures.0 c.past_blanks-at-in-loop-at.ensures.1
 
 pub past_blanks-at-requires-in-loop-at : goal.past_blanks-at-requires-in-loop-at
-past_blanks-at-requires-in-loop-at c = c.in_ok-word.ensures.2
+past_blanks-at-requires-in-loop-at c = c.read_word-word.ensures.2
 
 pub returns-then-so_far-clause-told : goal.returns-then-so_far-clause-told
 returns-then-so_far-clause-told c =

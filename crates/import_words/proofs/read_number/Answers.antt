@@ -6,22 +6,23 @@ use Rattle.import_words.proofs.read_number.Goals as goal
 
 pub returns-then-not-breaks_at : goal.returns-then-not-breaks_at
 returns-then-not-breaks_at c =
-    let far = c.past_digits-end in
-    sym (not_ended c.args.text.now c.args.from far.result far.ensures.0 _ _ (sym c.breaks_at.ensures ∙ c.if-not-breaks_at.true))
+    let far = c.past_digits-end in (
+      not_ended c.args.text.now c.args.from far.result far.ensures.0 _ _ (sym c.breaks_at.ensures ∙ c.if-not-breaks_at.true),
+      far.ensures.0,
+      far.ensures.1,
+    )
 
-pub kind_of-requires : goal.kind_of-requires
-kind_of-requires c =
+pub kind_of-kind-requires : goal.kind_of-kind-requires
+kind_of-kind-requires c =
     let far = c.past_digits-end in
     (all_between c.args.text.now c.args.from far.result far.ensures.0, c.requires.1)
 
-pub returns-in_err-kind : goal.returns-in_err-kind
-returns-in_err-kind c =
-    let far = c.past_digits-end in
-    let ended = kind_ended c.args.text.now c.args.from far.result far.ensures.0 _ _ (sym c.breaks_at.ensures ∙ c.if-not-breaks_at.false) in
-    rw c.from_residual.ensures (sym (c.in_err-kind.ensures ∙ ended))
-
 pub returns : goal.returns
 returns c =
-    let far = c.past_digits-end in
-    let ended = kind_ended c.args.text.now c.args.from far.result far.ensures.0 _ _ (sym c.breaks_at.ensures ∙ c.if-not-breaks_at.false) in
-    (c.in_ok-kind.ensures ∙ ended, far.ensures.0, far.ensures.1)
+    let far = c.past_digits-end in (
+      c.kind_of-kind.ensures
+          ∙ kind_ended c.args.text.now c.args.from far.result far.ensures.0 _ _
+          (sym c.breaks_at.ensures ∙ c.if-not-breaks_at.false),
+      far.ensures.0,
+      far.ensures.1,
+    )
