@@ -145,7 +145,8 @@ fn first_tried(part: &[u16], i: usize) -> Option<usize>
     None
 }
 
-// The first inner child of child i with which the rule applies, where each child before child i is one number. A table costs more than it saves where the tree is small, or where child i has no children.
+// The first inner child of child i with which the rule applies, where each child before child i is one number. A table costs more than it
+// saves where the tree is small, or where child i has no children.
 pub fn first_common(part: &[u16], sizes: &[u16], i: usize) -> Option<usize>
     requires stretch { Stretch part.now }
     requires headed { Headed 14 part.now }

@@ -82,8 +82,9 @@ fn has_literal(part: &[u16], sizes: &[u16], end: usize) -> bool
     false
 }
 
-// The first child with which rule 9 or 10 applies to the first tree of a stretch, whose head is right for it. A look around each literal is short in a tree of few numbers; in one of many the literals
-// are counted, once, by their options, but for a tree that has no literal among its children.
+// The first child with which rule 9 or 10 applies to the first tree of a stretch, whose head is right for it. A look around each literal
+// is short in a tree of few numbers; in one of many the literals are counted, once, by their options, but for a tree that has no literal
+// among its children.
 pub fn first_recurring(part: &[u16], sizes: &[u16], rule: usize) -> Option<usize>
     requires le_rule { (9 ≤ rule) × (rule ≤ 10) }
     requires stretch { Stretch part.now }
